@@ -1,0 +1,4 @@
+pub mod Transactions
+pub mod Batches
+pub mod Blocks
+pub mod Receipts

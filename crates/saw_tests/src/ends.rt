@@ -1,0 +1,77 @@
+//! Sources, sinks and frames.
+
+use saw_faults::{rise_is_kept, rise_is_seen};
+use saw_io::{
+    FrameFault, MemorySink, MemorySource, Sink, SinkFault, Source, StdSink, StdSource,
+    cuts_do_not_show, fill, framed_is_read, read_frame, write_all,
+};
+use std::test::Fail;
+
+const BYTES: [u8; 9] = [0, 0, 0, 2, 104, 105, 0, 0, 0];
+
+#[test]
+fn frames_are_read_until_the_source_ends(rt: HostRuntime) -> Result<(), Fail> {
+    let alloc = rt.alloc();
+    let mut source = MemorySource::new(BYTES.to_vec(alloc)?, vec![in alloc; 2]?);
+    let content = read_frame(alloc, &mut source, 2)?.ok_or("a frame")?;
+    assert_eq!(rt; content.as_slice(), b"hi".as_slice());
+    assert_eq!(rt;
+        read_frame(alloc, &mut source, 2),
+        Err(FrameFault::ReadFailed)
+    );
+    assert_eq!(rt;
+        read_frame(alloc, &mut source, 2),
+        Err(FrameFault::Truncated { have: 3, want: 4 })
+    );
+    assert_eq!(rt; read_frame(alloc, &mut source, 2), Ok(None));
+    let mut long = MemorySource::new(BYTES.to_vec(alloc)?, Vec::new(alloc));
+    assert_eq!(rt;
+        read_frame(alloc, &mut long, 1),
+        Err(FrameFault::TooLong { length: 2 })
+    );
+    let mut cut = MemorySource::new(BYTES[..5].to_vec(alloc)?, Vec::new(alloc));
+    assert_eq!(rt;
+        read_frame(alloc, &mut cut, 2),
+        Err(FrameFault::Truncated { have: 1, want: 2 })
+    );
+    rise_is_kept();
+    rise_is_seen();
+    framed_is_read();
+    cuts_do_not_show();
+    Ok(())
+}
+
+#[test]
+fn a_failed_write_appends_nothing(rt: HostRuntime) -> Result<(), Fail> {
+    let alloc = rt.alloc();
+    let mut sink = MemorySink::new(alloc, vec![in alloc; 1]?);
+    write_all(&mut sink, b"hi")?;
+    assert_eq!(rt; write_all(&mut sink, b"ho"), Err(SinkFault::Failed));
+    write_all(&mut sink, b"!")?;
+    assert_eq!(rt; sink.bytes(), b"hi!".as_slice());
+    Ok(())
+}
+
+#[test]
+fn a_reader_of_std_is_a_source(rt: HostRuntime) -> Result<(), Fail> {
+    let mut source = StdSource::new(BYTES.as_slice());
+    let mut head = [0u8; 4];
+    assert_eq!(rt; source.read(&mut head), Ok(4));
+    assert_eq!(rt; head, [0, 0, 0, 2]);
+    let mut rest = [0u8; 8];
+    assert_eq!(rt; fill(&mut source, &mut rest), Ok(5));
+    assert_eq!(rt; &rest[..5], &BYTES[4..]);
+    Ok(())
+}
+
+#[test]
+fn a_writer_of_std_is_a_sink(rt: HostRuntime) -> Result<(), Fail> {
+    let mut room = [0u8; 3];
+    let mut sink = StdSink::new(room.as_mut_slice());
+    assert_eq!(rt; sink.write(b"ab"), Ok(2));
+    assert_eq!(rt; sink.write(b"cd"), Ok(1));
+    // A write that takes nothing is a fault.
+    assert_eq!(rt; sink.write(b"d"), Err(SinkFault::Failed));
+    assert_eq!(rt; sink.write(b""), Ok(0));
+    Ok(())
+}

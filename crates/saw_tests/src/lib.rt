@@ -1,0 +1,11 @@
+//! Tests of what no clause says: cases from outside over bytes, and each public call once.
+#![tactic(auto)]
+
+#[cfg(test)]
+mod cases;
+#[cfg(test)]
+mod ends;
+#[cfg(test)]
+mod messages;
+#[cfg(test)]
+mod runs;

@@ -1,0 +1,110 @@
+-- Whole frames at the front of a stream, and the lines that are written for them.
+use Rattle.std.proofs.Common.{◌≡◌, ℕ, suc, ◌+◌, ◌-◌, ◌<◌, ◌≤◌, ◌==◌, Bool, true, false, cond, List, [], ◌∷◌, ◌++◌, length, Option, Some, None, Ok, Err, refl, sym, ap, ◌∙◌, append_assoc, arith}
+use Rattle.std.proofs.lemmas.List.{append-nil}
+use Rattle.saw_io.specs.Frame.{frame_at}
+use Rattle.saw_io.specs.declared.fault.FrameFault.{FrameFault}
+use Rattle.saw_top.specs.Faults.{fault_of_frame}
+use Rattle.saw_top.specs.Lines.{verdict_line, report}
+use Rattle.saw_top.specs.Run.{report_of}
+use Rattle.saw_top.specs.Stream.{Stream, no_frames, before, by_reading, stream_from, Reads}
+use Rattle.saw_top.specs.Verdicts.{verdict_of, verdicts}
+use Rattle.saw_top.specs.declared.fault.RunFault.{RunFault}
+use Rattle.saw_top.specs.declared.fault.RunFault.TheVariants.{Frames}
+use Rattle.saw_top.specs.declared.stream.TheConstants.{MAX_LENGTH}
+use Rattle.saw_top.specs.declared.verdict.Verdict.{Verdict}
+
+-- ---- lines
+
+pub report-append : (place : ℕ) (front rest : List Verdict) → report place (front ++ rest) ≡ report place front ++ report (place + length front) rest
+report-append place [] rest = let none : place + 0 ≡ place = omega arith in rw none refl
+report-append place (first ∷ front) rest =
+    let more : place + length (first ∷ front) ≡ (place + 1) + length front = omega arith in
+    rw (more, report-append (place + 1) front rest) (sym (append_assoc (verdict_line place first) (report (place + 1) front) (report (place + 1 + length front) rest)))
+
+module _ (accepts : List ℕ → List ℕ → List ℕ → Bool) where
+  pub length-verdicts : (place : ℕ) (frames : List (List ℕ)) → length (verdicts accepts place frames) ≡ length frames
+  length-verdicts place [] = refl
+  length-verdicts place (content ∷ frames) = omega (arith, length-verdicts (place + 1) frames)
+
+  pub verdicts-append : (place : ℕ) (front rest : List (List ℕ)) → verdicts accepts place (front ++ rest) ≡ verdicts accepts place front ++ verdicts accepts (place + length front) rest
+  verdicts-append place [] rest = let none : place + 0 ≡ place = omega arith in rw none refl
+  verdicts-append place (content ∷ front) rest =
+      let more : place + length (content ∷ front) ≡ (place + 1) + length front = omega arith in
+      rw (more, verdicts-append (place + 1) front rest) refl
+
+  -- what is written for frames is a front of what is written for more of them
+  pub report_of-append : (front rest : List (List ℕ)) → report_of accepts (front ++ rest) ≡ report_of accepts front ++ report (length front) (verdicts accepts (length front) rest)
+  report_of-append front rest =
+      let begin : 0 + length front ≡ length front = omega arith in
+      let count : 0 + length (verdicts accepts 0 front) ≡ length front = omega (arith, length-verdicts 0 front) in
+      ap (report 0) (verdicts-append 0 front rest) ∙ report-append 0 (verdicts accepts 0 front) (verdicts accepts (0 + length front) rest)
+      ∙ ap (λ n. report_of accepts front ++ report n (verdicts accepts (0 + length front) rest)) count ∙ ap (λ n. report_of accepts front ++ report (length front) (verdicts accepts n rest)) begin
+
+  pub report_of-push : (front : List (List ℕ)) (content : List ℕ) → report_of accepts (front ++ content ∷ []) ≡ report_of accepts front ++ verdict_line (length front) (verdict_of accepts (length front) content)
+  report_of-push front content =
+      report_of-append front (content ∷ []) ∙ ap (λ line. report_of accepts front ++ line) (append-nil (verdict_line (length front) (verdict_of accepts (length front) content)))
+
+  pub verdicts-push : (front : List (List ℕ)) (content : List ℕ) → verdicts accepts 0 (front ++ content ∷ []) ≡ verdicts accepts 0 front ++ verdict_of accepts (length front) content ∷ []
+  verdicts-push front content =
+      let begin : 0 + length front ≡ length front = omega arith in
+      verdicts-append 0 front (content ∷ []) ∙ ap (λ n. verdicts accepts 0 front ++ verdict_of accepts n content ∷ []) begin
+
+-- ---- frames
+
+pub Reads-push : (frames : List (List ℕ)) (bytes rest behind content : List ℕ) → Reads frames bytes rest → frame_at MAX_LENGTH rest ≡ Ok (Some content, behind) → Reads (frames ++ content ∷ []) bytes behind
+Reads-push [] bytes rest behind content same is = (behind, ap (frame_at MAX_LENGTH) same ∙ is, refl)
+Reads-push (first ∷ frames) bytes rest behind content reads is = (reads.0, reads.1, Reads-push frames reads.0 rest behind content reads.2 is)
+
+-- frames before the others
+abbrev pub all_before : List (List ℕ) → Stream → Stream
+all_before frames others = record { frames = frames ++ others.frames; fault = others.fault }
+
+pub stream_behind : (frames : List (List ℕ)) (more : ℕ) (bytes rest : List ℕ) → Reads frames bytes rest → stream_from (length frames + more) bytes ≡ all_before frames (stream_from more rest)
+unfolding stream_from
+stream_behind [] more bytes rest same = let none : 0 + more ≡ more = omega arith in rw (none, same) refl
+stream_behind (content ∷ frames) more bytes rest reads =
+    let count : length (content ∷ frames) + more ≡ suc (length frames + more) = omega arith in
+    ap (λ n. stream_from n bytes) count ∙ ap (by_reading (stream_from (length frames + more))) reads.1 ∙ ap (before content) (stream_behind frames more reads.0 rest reads.2)
+
+-- what the stream is, by what stands behind so many frames
+module _ (max : ℕ) (frames : List (List ℕ)) (bytes rest : List ℕ) (reads : Reads frames bytes rest) where
+  stands_behind : (more : ℕ) → length frames + more ≡ max → stream_from max bytes ≡ all_before frames (stream_from more rest)
+  stands_behind more count = ap (λ n. stream_from n bytes) (sym count) ∙ stream_behind frames more bytes rest reads
+
+  module _ (below : length frames < max) where
+    one_more : length frames + suc (max - length frames - 1) ≡ max
+    one_more = omega arith
+
+    pub stream_ended : (behind : List ℕ) → frame_at MAX_LENGTH rest ≡ Ok (None, behind) → stream_from max bytes ≡ all_before frames (no_frames None)
+    unfolding stream_from
+    stream_ended behind is = stands_behind (suc (max - length frames - 1)) one_more ∙ ap (λ r. all_before frames (by_reading (stream_from (max - length frames - 1)) r)) is
+
+    pub stream_faulty : (e : FrameFault) → frame_at MAX_LENGTH rest ≡ Err e → stream_from max bytes ≡ all_before frames (no_frames (Some (fault_of_frame e)))
+    unfolding stream_from
+    stream_faulty e is = stands_behind (suc (max - length frames - 1)) one_more ∙ ap (λ r. all_before frames (by_reading (stream_from (max - length frames - 1)) r)) is
+
+    pub stream_goes_on : (content behind : List ℕ) → frame_at MAX_LENGTH rest ≡ Ok (Some content, behind)
+        → stream_from max bytes ≡ all_before frames (before content (stream_from (max - length frames - 1) behind))
+    unfolding stream_from
+    stream_goes_on content behind is = stands_behind (suc (max - length frames - 1)) one_more ∙ ap (λ r. all_before frames (by_reading (stream_from (max - length frames - 1)) r)) is
+
+  -- where no frame may begin any more
+  module _ (over : max ≤ length frames) (fits : length frames ≤ max) where
+    none_left : length frames + 0 ≡ max
+    none_left = omega arith
+
+    last : stream_from max bytes ≡ all_before frames (no_frames (cond (length rest == 0) None (Some Frames)))
+    unfolding stream_from
+    last = stands_behind 0 none_left
+
+    pub stream_full : (length rest == 0) ≡ true → stream_from max bytes ≡ all_before frames (no_frames None)
+    stream_full is = last ∙ ap (λ b. all_before frames (no_frames (cond b None (Some Frames)))) is
+
+    pub stream_too_many : (length rest == 0) ≡ false → stream_from max bytes ≡ all_before frames (no_frames (Some Frames))
+    stream_too_many is = last ∙ ap (λ b. all_before frames (no_frames (cond b None (Some Frames)))) is
+
+  -- some frames may begin still
+  pub stream_some : length frames ≤ max → (others : List (List ℕ)) × (fault : Option RunFault) × (stream_from max bytes ≡ all_before frames (record { frames = others; fault = fault }))
+  stream_some fits =
+      let more = stream_from (max - length frames) rest in
+      (more.frames, more.fault, stands_behind (max - length frames) (omega arith))

@@ -1,0 +1,8 @@
+pub mod Early
+pub mod Verdicts
+pub mod Progress
+pub mod Lines
+pub mod Command
+pub mod Faults
+pub mod Stream
+pub mod Run

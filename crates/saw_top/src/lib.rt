@@ -1,0 +1,17 @@
+//! The top call: what the program answers to its words and to a block stream.
+#![tactic(auto)]
+
+mod command;
+pub mod early;
+mod fault;
+mod judge;
+mod line;
+mod progress;
+mod status;
+mod stream;
+mod top;
+mod verdict;
+
+pub use status::Status;
+pub use stream::{MAX_FRAMES, MAX_LENGTH};
+pub use top::run;

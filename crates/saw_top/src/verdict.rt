@@ -1,0 +1,33 @@
+//! What is said of a block.
+
+use saw_wire::Text;
+
+/// A block that was accepted.
+#[derive(Drop)]
+pub(crate) struct BlockRecord {
+    /// Its signature's 128 hex digits.
+    pub(crate) id: Text,
+    pub(crate) number: u64,
+    /// The 64 hex digits of the state's root behind it.
+    pub(crate) root: Text,
+}
+
+/// Why a block is refused.
+#[derive(Drop)]
+pub(crate) enum BlockFault {
+    /// The block or its header cannot be read.
+    Undecodable,
+    /// The verifier does not accept the signature.
+    Signature,
+    /// The header states another root than the computed one.
+    Root { computed: [u8; 64] },
+    /// The block is of a form that is not judged yet.
+    NotBuilt,
+}
+
+/// What is said of a block.
+#[derive(Drop)]
+pub(crate) enum Verdict {
+    Committed { record: BlockRecord },
+    Refused { fault: BlockFault },
+}

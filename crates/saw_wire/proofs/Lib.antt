@@ -1,0 +1,12 @@
+pub mod Numbers
+pub mod Loop
+pub mod Varints
+pub mod Again
+pub mod Found
+pub mod Written
+pub mod First
+pub mod Begins
+pub mod FieldFaults
+pub mod Pushes
+pub mod Texts
+pub mod ReadBack

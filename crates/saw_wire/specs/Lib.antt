@@ -1,0 +1,9 @@
+pub mod Pieces
+pub mod Reading
+pub mod Spelling
+pub mod Writing
+pub mod Faults
+pub mod MessageFaults
+pub mod MessageReading
+pub mod Fields
+pub mod Written

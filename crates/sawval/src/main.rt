@@ -1,0 +1,33 @@
+//! The program: judges the block stream of its standard input.
+#![tactic(auto)]
+
+use saw_io::{StdSink, StdSource};
+use saw_top::early::DevVerifier;
+use saw_top::run;
+use std::alloc::Global;
+use std::io::ErrorKind;
+use std::process::ExitCode;
+use std::{env, io};
+
+/// The status of words that are of no form, as those are that are no text.
+const WORDS: u8 = 2;
+
+/// The status of want of memory.
+const MEMORY: u8 = 7;
+
+fn words(rt: &HostRuntime, alloc: Global) -> io::Result<Vec<String>> {
+    Ok(env::args(rt)?.skip(1).collect(alloc)?)
+}
+
+fn main(rt: HostRuntime) -> ExitCode {
+    let alloc = rt.alloc();
+    let words = match words(&rt, alloc) {
+        Ok(words) => words,
+        Err(e) if e.kind() == ErrorKind::OutOfMemory => return ExitCode::from(MEMORY),
+        Err(_) => return ExitCode::from(WORDS),
+    };
+    let mut input = StdSource::new(rt.reader());
+    let mut output = StdSink::new(io::writer(&rt));
+    let status = run(alloc, &words, &mut input, &mut output, &DevVerifier);
+    ExitCode::from(status.code())
+}
