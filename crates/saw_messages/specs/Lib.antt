@@ -2,3 +2,4 @@ pub mod Transactions
 pub mod Batches
 pub mod Blocks
 pub mod Receipts
+pub mod Shapes

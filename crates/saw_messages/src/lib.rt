@@ -5,8 +5,12 @@ mod batch;
 mod block;
 mod decoding;
 mod encoding;
+mod outcome;
+mod plain;
 mod receipt;
+mod talk;
 mod transaction;
+mod tx;
 
 pub use batch::{Batch, BatchHeader, BatchList};
 pub use block::{Block, BlockHeader};
@@ -20,6 +24,10 @@ pub use encoding::{
     encode_event, encode_receipt, encode_state_change, encode_transaction,
     encode_transaction_header,
 };
+pub use outcome::{Change, Outcome, Reason};
+pub use plain::PlainBase;
 pub use receipt::{Attribute, Event, Receipt, StateChange};
 pub use saw_wire::{MessageFault, WireFault};
+pub use talk::{Action, Entry, Place, Reply, Transcript, Turn};
 pub use transaction::{Transaction, TransactionHeader};
+pub use tx::{Tx, TxBatch};

@@ -1,0 +1,4 @@
+pub mod Texts
+pub mod Prefixes
+pub mod Maps
+pub mod Laws

@@ -1,0 +1,126 @@
+//! Addresses of the state.
+
+ghost use Rattle.std.specs.Prelude.{◌≡◌, ◌↔◌, true, length, IsSome, IfSome, IsTrue};
+ghost use Rattle.hex.specs.Hex.{IsBytes, encode_lower};
+ghost use Rattle.saw_address.specs.Maps.{is_address};
+ghost use Rattle.saw_address.specs.Texts.{is_address_text};
+
+use crate::text::{is_hex_text, read_digits};
+use std::cmp::Ordering;
+use std::marker::Model;
+
+/// An address: 35 bytes.
+#[derive(Clone, Copy, Debug)]
+pub struct Address {
+    bytes: [u8; 35],
+}
+
+impl Model for Address {
+    ghost use Rattle.std.specs.Prelude.{◌≡◌, List, ℕ, length};
+
+    ghost Value = { List ℕ };
+
+    ghost view = { λ a. a.bytes };
+
+    ghost inverse = { λ v. record { bytes = v } };
+
+    ghost invariant = { λ a. length a.bytes ≡ 35 };
+}
+
+impl Address {
+    /// The address of these bytes.
+    pub fn new(bytes: [u8; 35]) -> Self
+        ensures { result ≡ bytes }
+    {
+        Address { bytes }
+    }
+
+    /// Reads an address from its 70 hex digits, in lower case.
+    pub fn parse(text: &str) -> Option<Self>
+        ensures valid { IsSome result ↔ IsTrue (is_address_text text.now) }
+        ensures value { IfSome result (λ at. encode_lower at ≡ text.now) }
+    {
+        if !is_hex_text(70, text) {
+            return None;
+        }
+        let mut bytes = [0; 35];
+        read_digits(text.as_bytes(), &mut bytes);
+        Some(Address::new(bytes))
+    }
+
+    /// Lends the 35 bytes.
+    pub fn as_slice(&self) -> &[u8]
+        ensures bytes { result.now ≡ self.now }
+        ensures size { length self.now ≡ 35 }
+        ensures is { is_address self.now ≡ true }
+    {
+        show_bytes(&self.bytes);
+        &self.bytes
+    }
+
+    /// Its 70 hex digits.
+    pub fn to_hex(&self) -> [u8; 70]
+        ensures { result ≡ encode_lower self.now }
+    {
+        let mut text = [0; 70];
+        let _ = hex::encode_to_slice(self.as_slice(), &mut text);
+        text
+    }
+}
+
+// That each element is a byte, which a proof knows of a slice and not of an array.
+fn show_bytes(bytes: &[u8])
+    ensures { IsBytes bytes.now }
+{}
+
+impl PartialEq for Address {
+    ghost use Rattle.std.specs.Str.{bytes_eq};
+    ghost use Rattle.std.specs.Cmp.{partial_equiv_from_equiv};
+    ghost use Rattle.std.specs.Cmp.Lexicographic.{nat_list_eq_equiv};
+
+    ghost eq = { bytes_eq };
+
+    ghost laws = { partial_equiv_from_equiv nat_list_eq_equiv };
+
+    fn eq(&self, other: &Self) -> bool {
+        self.as_slice() == other.as_slice()
+    }
+}
+
+impl Eq for Address {
+    ghost use Rattle.std.specs.Cmp.Lexicographic.{nat_list_eq_equiv};
+
+    ghost laws = { nat_list_eq_equiv };
+}
+
+impl PartialOrd for Address {
+    ghost use Rattle.std.specs.Prelude.{Some};
+    ghost use Rattle.std.specs.Ordering.{nat_cmp};
+    ghost use Rattle.std.specs.Cmp.Lexicographic.{slice_cmp, texts_po};
+
+    ghost partial_cmp = { λ x y. Some (slice_cmp nat_cmp x y) };
+
+    ghost laws = { texts_po };
+
+    fn partial_cmp(&self, other: &Self) -> Option<Ordering> {
+        Some(self.cmp(other))
+    }
+}
+
+impl Ord for Address {
+    ghost use Rattle.std.specs.Prelude.{refl};
+    ghost use Rattle.std.specs.Ordering.{nat_cmp};
+    ghost use Rattle.std.specs.Cmp.Lexicographic.{slice_cmp, nat_list_cmp_total, texts_ties};
+
+    ghost cmp = { slice_cmp nat_cmp };
+
+    ghost total = { nat_list_cmp_total };
+
+    ghost matches_partial_cmp = { λ x y. refl };
+
+    ghost matches_eq = { texts_ties };
+
+    fn cmp(&self, other: &Self) -> Ordering {
+        self.as_slice().cmp(other.as_slice())
+    }
+}

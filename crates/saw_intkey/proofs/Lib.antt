@@ -1,0 +1,4 @@
+pub mod Distinct
+pub mod Entries
+pub mod Replaces
+pub mod Kept

@@ -1,0 +1,147 @@
+//! The next action of the family.
+
+ghost use Rattle.std.specs.Prelude.{◌≡◌, ◌&&◌, ◌∷◌, [], length, IfOk};
+ghost use Rattle.std.specs.Str.{bytes_eq};
+ghost use Rattle.saw_messages.specs.declared.talk.Action.TheVariants as actions;
+ghost use Rattle.saw_messages.specs.declared.talk.Place.TheVariants.{At};
+ghost use Rattle.saw_intkey.specs.Actions.{RepliesDecide, address_of, after_get, after_set, asked, changed_in, changing, family_name, family_version, invalid, next};
+ghost use Rattle.saw_intkey.specs.Payloads.{payload_of};
+ghost use Rattle.saw_intkey.specs.States.{names_of};
+
+use crate::payload::{Payload, read_payload};
+use crate::state::{change, kept_bytes, read_names};
+use saw_address::Address;
+use saw_messages::{Action, Entry, Place, Reason, Reply, Transcript, Tx};
+use saw_wire::{Bytes, Items};
+use sha2::{Digest, Sha512};
+use std::alloc::{AllocError, Global};
+
+/// The first bytes of each address of the family.
+const FAMILY_BYTES: [u8; 3] = [0x1c, 0xf1, 0x26];
+
+/// A request was refused, or its reply says something else than was asked.
+const REFUSED: u16 = 105;
+
+/// What is kept at the address are no names.
+const BAD_STATE: u16 = 106;
+
+/// Whether the family serves transactions of this family name and version.
+pub fn serves(family: &str, version: &str) -> bool
+    ensures { result ≡ (bytes_eq family.now family_name && bytes_eq version.now family_version) }
+{
+    family == "intkey" && version == "1.0"
+}
+
+/// Where a name is kept: three bytes of the family, then the last 32 bytes of SHA-512 of the name.
+pub fn address_of(name: &str) -> Address
+    ensures { result ≡ address_of name.now }
+{
+    family_address(&Sha512::digest(name.as_bytes())[32..])
+}
+
+fn family_address(tail: &[u8]) -> Address
+    requires { length tail.now ≡ 32 }
+    ensures { result ≡ 0x1c ∷ 0xf1 ∷ 0x26 ∷ tail.now }
+{
+    let mut bytes = [0; 35];
+    bytes[..3].copy_from_slice(&FAMILY_BYTES);
+    bytes[3..].copy_from_slice(tail);
+    Address::new(bytes)
+}
+
+/// The next action, by the payload and the replies so far.
+pub fn step(alloc: Global, tx: &Tx, talk: &Transcript) -> Result<Action, AllocError>
+    ensures { IfOk result (λ action. action ≡ next tx.now.payload talk.now.turns) }
+{
+    match talk.turns.as_slice() {
+        [] => ask(alloc, tx.payload.as_slice()),
+        [turn] => changing(alloc, tx.payload.as_slice(), &turn.reply),
+        [_, turn, ..] => Ok(after_set(&turn.reply)),
+    }
+}
+
+fn invalid(number: u16) -> Action
+    ensures { result ≡ invalid number }
+{
+    Action::Invalid {
+        reason: Reason::Family(number),
+    }
+}
+
+fn get(alloc: Global, address: Address) -> Result<Action, AllocError>
+    ensures { IfOk result (λ action. action ≡ actions.Get (At address ∷ [])) }
+{
+    let mut places = Items::new(alloc);
+    places.push(Place::At(address))?;
+    Ok(Action::Get(places))
+}
+
+fn set(alloc: Global, address: Address, body: Bytes) -> Result<Action, AllocError>
+    ensures { IfOk result (λ action. action ≡ actions.Set (record { place = At address; body = body } ∷ [])) }
+{
+    let mut entries = Items::new(alloc);
+    entries.push(Entry {
+        place: Place::At(address),
+        body,
+    })?;
+    Ok(Action::Set(entries))
+}
+
+fn ask(alloc: Global, payload: &[u8]) -> Result<Action, AllocError>
+    ensures { IfOk result (λ action. action ≡ asked (payload_of payload.now)) }
+{
+    match read_payload(alloc, payload)? {
+        Ok(payload) => get(alloc, address_of(payload.name.as_str())),
+        Err(number) => Ok(invalid(number)),
+    }
+}
+
+fn changing(alloc: Global, payload: &[u8], reply: &Reply) -> Result<Action, AllocError>
+    ensures { IfOk result (λ action. action ≡ changing (payload_of payload.now) reply.now) }
+{
+    match read_payload(alloc, payload)? {
+        Ok(payload) => after_get(alloc, payload, reply),
+        Err(number) => Ok(invalid(number)),
+    }
+}
+
+fn after_get(alloc: Global, payload: Payload, reply: &Reply) -> Result<Action, AllocError>
+    ensures { IfOk result (λ action. action ≡ after_get payload reply.now) }
+{
+    match reply {
+        Reply::Entries(bodies) => match bodies.as_slice() {
+            [body] => changed_in(alloc, payload, body.as_slice()),
+            _ => Ok(invalid(REFUSED)),
+        },
+        Reply::Done => Ok(invalid(REFUSED)),
+        Reply::Unauthorized { index: _ } => Ok(invalid(REFUSED)),
+    }
+}
+
+fn changed_in(alloc: Global, payload: Payload, body: &[u8]) -> Result<Action, AllocError>
+    ensures { IfOk result (λ action. action ≡ changed_in payload (names_of body.now)) }
+{
+    let Some(names) = read_names(alloc, body)? else {
+        return Ok(invalid(BAD_STATE));
+    };
+    let address = address_of(payload.name.as_str());
+    match change(payload, names)? {
+        Ok(names) => set(alloc, address, kept_bytes(alloc, names)?),
+        Err(number) => Ok(invalid(number)),
+    }
+}
+
+fn after_set(reply: &Reply) -> Action
+    ensures { result ≡ after_set reply.now }
+{
+    match reply {
+        Reply::Entries(_) => invalid(REFUSED),
+        Reply::Done => Action::Ok,
+        Reply::Unauthorized { index: _ } => invalid(REFUSED),
+    }
+}
+
+/// The action depends on the payload and the replies alone.
+pub fn replies_decide()
+    ensures { RepliesDecide }
+{}

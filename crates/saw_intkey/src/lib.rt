@@ -1,0 +1,9 @@
+//! The IntegerKey family, version 1.0: named counters, kept as CBOR maps.
+#![tactic(auto)]
+
+mod action;
+mod item;
+mod payload;
+mod state;
+
+pub use action::{address_of, replies_decide, serves, step};

@@ -1,0 +1,42 @@
+//! What a transaction does.
+
+use crate::receipt::Event;
+use saw_address::Address;
+use saw_wire::{Bytes, Items};
+
+/// Why a transaction is invalid.
+#[derive(Clone, Copy, Debug, PartialEq, Eq)]
+pub enum Reason {
+    /// A declared input or output is no prefix.
+    BadDeclared,
+    /// No processor serves the family and version.
+    NoProcessor,
+    /// A dependency stands in a failed batch.
+    DependencyFailed,
+    /// More requests than are answered.
+    TooManyRequests,
+    /// A processor elsewhere refused it.
+    Remote,
+    /// The family's own number, above 100.
+    Family(u16),
+}
+
+/// A changed address. `None` deletes the entry.
+#[derive(Drop)]
+pub struct Change {
+    pub address: Address,
+    pub value: Option<Bytes>,
+}
+
+/// What a transaction does.
+#[derive(Drop)]
+pub enum Outcome {
+    /// The changes in address order, each address once, and the events in order.
+    Ok {
+        changes: Items<Change>,
+        events: Items<Event>,
+    },
+    Invalid {
+        reason: Reason,
+    },
+}

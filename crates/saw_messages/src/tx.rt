@@ -1,0 +1,52 @@
+//! A transaction whose header has been read.
+
+ghost use Rattle.std.specs.Prelude.{◌≡◌, ◌⊎◌, Ok, Err, OnOk, IfOk, IfErr};
+ghost use Rattle.saw_messages.specs.Transactions.{transaction_header};
+
+use crate::decoding::decode_transaction_header;
+use crate::transaction::TransactionHeader;
+use saw_wire::{Bytes, Items, MessageFault, Text};
+use std::alloc::Global;
+use std::sync::Arc;
+
+/// A transaction whose header has been read from its bytes.
+#[derive(Drop)]
+pub struct Tx {
+    /// Its signature's text.
+    pub id: Text,
+    pub header: TransactionHeader,
+    pub header_bytes: Bytes,
+    pub payload: Bytes,
+    ghost read: { transaction_header header_bytes ≡ Ok header },
+}
+
+impl Tx {
+    /// Reads the header of a transaction, or tells the first fault of its bytes.
+    pub fn read(
+        alloc: Global,
+        id: Text,
+        header_bytes: Bytes,
+        payload: Bytes,
+    ) -> Result<Self, MessageFault>
+        ensures ok { IfOk result (λ tx. (tx.id ≡ id) × (tx.header_bytes ≡ header_bytes) × (tx.payload ≡ payload)) }
+        ensures err { IfErr result (λ e. (e ≡ MessageFault.OutOfMemory) ⊎ (transaction_header header_bytes ≡ Err e)) }
+    {
+        let header = decode_transaction_header(alloc, header_bytes.as_slice())?;
+        Ok(Tx {
+            id,
+            header,
+            header_bytes,
+            payload,
+        })
+    }
+}
+
+/// A batch whose transactions have been read.
+#[derive(Drop)]
+pub struct TxBatch {
+    /// Its signature's text.
+    pub id: Text,
+    /// The key of its signer.
+    pub signer: Text,
+    pub txs: Items<Arc<Tx>>,
+}

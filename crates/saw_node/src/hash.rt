@@ -1,0 +1,165 @@
+//! Hashes of nodes, and the functions that make them.
+
+ghost use Rattle.std.specs.Prelude.{◌≡◌, ℕ, List, take};
+ghost use Rattle.hex.specs.Hex.{IsBytes, encode_lower};
+ghost use Rattle.saw_node.specs.Hashes.{IsHash, first_half, one_byte, first_half_is, one_byte_is};
+
+use sha2::{Digest, Sha512};
+use std::cmp::Ordering;
+use std::marker::Model;
+
+/// The hash of a node: 32 bytes.
+#[derive(Clone, Copy, Debug)]
+pub struct NodeHash {
+    bytes: [u8; 32],
+}
+
+impl Model for NodeHash {
+    ghost use Rattle.std.specs.Prelude.{List, ℕ};
+    ghost use Rattle.saw_node.specs.Hashes.{IsHash};
+
+    ghost Value = { List ℕ };
+
+    ghost view = { λ hash. hash.bytes };
+
+    ghost inverse = { λ v. record { bytes = v } };
+
+    ghost invariant = { λ hash. IsHash hash.bytes };
+}
+
+impl NodeHash {
+    /// The hash of these bytes.
+    pub fn new(bytes: [u8; 32]) -> Self
+        ensures bytes { result ≡ bytes }
+        ensures is { IsHash result }
+    {
+        show_bytes(&bytes);
+        NodeHash { bytes }
+    }
+
+    /// Lends the 32 bytes.
+    pub fn as_slice(&self) -> &[u8]
+        ensures bytes { result.now ≡ self.now }
+        ensures is { IsHash self.now }
+    {
+        &self.bytes
+    }
+
+    /// Its 64 hex digits, in lower case.
+    pub fn to_hex(&self) -> [u8; 64]
+        ensures { result ≡ encode_lower self.now }
+    {
+        let mut text = [0; 64];
+        let _ = hex::encode_to_slice(self.as_slice(), &mut text);
+        text
+    }
+}
+
+// That each element is a byte, which a proof knows of a slice and not of an array.
+fn show_bytes(bytes: &[u8])
+    ensures { IsBytes bytes.now }
+{}
+
+/// A function from bytes to hashes of nodes.
+pub trait NodeHasher: Send + Sync {
+    /// The hash of some bytes.
+    ghost hash_of: { List ℕ → List ℕ };
+
+    /// Hashes some bytes.
+    fn hash(bytes: &[u8]) -> NodeHash
+        ensures { result ≡ hash_of bytes.now };
+
+    /// A hash has 32 bytes.
+    ghost is_hash: { (bytes : List ℕ) → IsHash (hash_of bytes) };
+}
+
+fn half_of(digest: &[u8; 64]) -> NodeHash
+    ensures { result ≡ take 32 digest.now }
+{
+    let mut half = [0; 32];
+    half.copy_from_slice(&digest[..32]);
+    NodeHash::new(half)
+}
+
+/// The first 32 bytes of SHA-512 (FIPS 180-4, section 6.4).
+#[derive(Clone, Copy)]
+pub struct Sha512Half;
+
+impl NodeHasher for Sha512Half {
+    ghost hash_of = { first_half };
+
+    fn hash(bytes: &[u8]) -> NodeHash {
+        half_of(&Sha512::digest(bytes))
+    }
+
+    ghost is_hash = { first_half_is };
+}
+
+/// The first byte of SHA-512 and 31 zeros, so that different nodes meet.
+#[derive(Clone, Copy)]
+pub struct OneByte;
+
+impl NodeHasher for OneByte {
+    ghost hash_of = { one_byte };
+
+    fn hash(bytes: &[u8]) -> NodeHash {
+        let digest = Sha512::digest(bytes);
+        let mut all = [0; 32];
+        all[0] = digest[0];
+        NodeHash::new(all)
+    }
+
+    ghost is_hash = { one_byte_is };
+}
+
+impl PartialEq for NodeHash {
+    ghost use Rattle.std.specs.Str.{bytes_eq};
+    ghost use Rattle.std.specs.Cmp.{partial_equiv_from_equiv};
+    ghost use Rattle.std.specs.Cmp.Lexicographic.{nat_list_eq_equiv};
+
+    ghost eq = { bytes_eq };
+
+    ghost laws = { partial_equiv_from_equiv nat_list_eq_equiv };
+
+    fn eq(&self, other: &Self) -> bool {
+        self.as_slice() == other.as_slice()
+    }
+}
+
+impl Eq for NodeHash {
+    ghost use Rattle.std.specs.Cmp.Lexicographic.{nat_list_eq_equiv};
+
+    ghost laws = { nat_list_eq_equiv };
+}
+
+impl PartialOrd for NodeHash {
+    ghost use Rattle.std.specs.Prelude.{Some};
+    ghost use Rattle.std.specs.Ordering.{nat_cmp};
+    ghost use Rattle.std.specs.Cmp.Lexicographic.{slice_cmp, texts_po};
+
+    ghost partial_cmp = { λ x y. Some (slice_cmp nat_cmp x y) };
+
+    ghost laws = { texts_po };
+
+    fn partial_cmp(&self, other: &Self) -> Option<Ordering> {
+        Some(self.cmp(other))
+    }
+}
+
+impl Ord for NodeHash {
+    ghost use Rattle.std.specs.Prelude.{refl};
+    ghost use Rattle.std.specs.Ordering.{nat_cmp};
+    ghost use Rattle.std.specs.Cmp.Lexicographic.{slice_cmp, nat_list_cmp_total, texts_ties};
+
+    ghost cmp = { slice_cmp nat_cmp };
+
+    ghost total = { nat_list_cmp_total };
+
+    ghost matches_partial_cmp = { λ x y. refl };
+
+    ghost matches_eq = { texts_ties };
+
+    fn cmp(&self, other: &Self) -> Ordering {
+        self.as_slice().cmp(other.as_slice())
+    }
+}
