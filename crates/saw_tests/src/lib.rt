@@ -2,10 +2,12 @@
 #![tactic(auto)]
 
 #[cfg(test)]
-mod cases;
+mod cbor;
 #[cfg(test)]
 mod ends;
 #[cfg(test)]
 mod messages;
 #[cfg(test)]
 mod runs;
+#[cfg(test)]
+mod state;

@@ -1,3 +1,5 @@
 pub mod Histories
 pub mod Streams
 pub mod Standings
+pub mod Checked
+pub mod Twice

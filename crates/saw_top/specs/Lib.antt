@@ -1,5 +1,5 @@
-pub mod Early
 pub mod Verdicts
+pub mod Parts
 pub mod Progress
 pub mod Lines
 pub mod Command

@@ -1,68 +1,127 @@
 -- What is said of each block of a stream.
-use Rattle.std.specs.Prelude.{ℕ, ◌+◌, Bool, ◌&&◌, ◌||◌, not, List, [], ◌∷◌, length, take, Result, Ok, Err, ◌==◌, nat_le, if◌then◌else◌, codes}
-use Rattle.std.specs.List.{list_all}
+use Rattle.std.specs.Prelude.{ℕ, ◌+◌, Bool, false, ◌&&◌, ◌||◌, not, List, [], ◌∷◌, ◌++◌, length, map, Option, Some, None, Result, Ok, Err, sum_by, ◌==◌, if◌then◌else◌, codes}
+use Rattle.std.specs.List.{list_all, list_any, flat_map}
 use Rattle.std.specs.Str.{bytes_eq}
 use Rattle.hex.specs.Hex.{encode_lower}
-use Rattle.sha2.specs.Sha512.{sha512}
+use Rattle.saw_address.specs.Maps.{no_entries}
+use Rattle.saw_address.specs.Texts.{is_address_text}
+use Rattle.saw_checks.specs.BlockFaults.{structure_fault}
+use Rattle.saw_checks.specs.declared.fault.StructureFault.{StructureFault}
+use Rattle.saw_checks.specs.declared.fault.StructureFault.TheVariants.{Undecodable}
+use Rattle.saw_context.specs.Serial.{serial, left_after}
 use Rattle.saw_messages.specs.Blocks.{block, block_header}
+use Rattle.saw_messages.specs.Shapes.{TxShape, shape_in}
 use Rattle.saw_messages.specs.declared.block.Block.{Block}
 use Rattle.saw_messages.specs.declared.block.BlockHeader.{BlockHeader}
+use Rattle.saw_messages.specs.declared.outcome.Reason.{Reason}
+use Rattle.saw_node.specs.Hashes.{first_half}
+use Rattle.saw_node.specs.Trees.{root_of_map}
+use Rattle.saw_station.specs.Failures.{first_failure}
+use Rattle.saw_station.specs.Builtin.{built_in}
 use Rattle.saw_wire.specs.declared.fault.MessageFault.{MessageFault}
 use Rattle.saw_top.specs.declared.verdict.Verdict.{Verdict}
 use Rattle.saw_top.specs.declared.verdict.Verdict.TheVariants.{Committed, Refused}
-use Rattle.saw_top.specs.declared.verdict.BlockFault.TheVariants.{Undecodable, Signature, Root, NotBuilt}
-
--- 0 to 9 and a to f
-abbrev pub is_hex_digit : ℕ → Bool
-is_hex_digit c = (nat_le 48 c && nat_le c 57) || (nat_le 97 c && nat_le c 102)
-
--- exactly so many hex digits
-abbrev pub is_hex_text : ℕ → List ℕ → Bool
-is_hex_text count text = length text == count && list_all is_hex_digit text
+use Rattle.saw_top.specs.declared.verdict.BlockFault.TheVariants.{Structure, BatchInvalid, Root, NotBuilt}
 
 -- the previous id of a first block
 abbrev pub no_block : List ℕ
 no_block = codes "0000000000000000"
 
--- the encoding of the empty map's node: no children and no value
-abbrev pub empty_node : List ℕ
-empty_node = 0xa2 ∷ 0x61 ∷ 0x63 ∷ 0xa0 ∷ 0x61 ∷ 0x76 ∷ 0xf6 ∷ []
+-- what is judged of a block: its id, its header, the ids of its batches and their transactions
+pub record Parts : Type 0 where
+  pub id : List ℕ
+  pub header : BlockHeader
+  pub batch_ids : List (List ℕ)
+  pub batches : List (List TxShape)
 
--- the state root of the empty map: the first 64 hex digits of the SHA-512 of its node
-unfoldable pub empty_root : List ℕ
-empty_root = take 64 (encode_lower (sha512 empty_node))
+abbrev pub parts_of : Block → BlockHeader → Parts
+parts_of b header = record {
+  id = b.header_signature;
+  header = header;
+  batch_ids = map (λ batch. batch.header_signature) b.batches;
+  batches = map (λ batch. map shape_in batch.transactions) b.batches;
+}
 
--- a block that is judged so far: the first of the stream, without batches, number 0 of a chain
-abbrev pub is_built : ℕ → Block → BlockHeader → Bool
-is_built place b header =
+-- whether an id stands among those before it
+abbrev pub repeats_after : List (List ℕ) → List (List ℕ) → Bool
+repeats_after earlier [] = false
+repeats_after earlier (id ∷ ids) = list_any (λ other. bytes_eq other id) earlier || repeats_after (earlier ++ id ∷ []) ids
+
+-- whether an id stands in the list twice
+abbrev pub has_repeats : List (List ℕ) → Bool
+has_repeats ids = repeats_after [] ids
+
+abbrev pub is_one_address : List (List ℕ) → Bool
+is_one_address [] = false
+is_one_address (text ∷ []) = is_address_text text
+is_one_address (text ∷ second ∷ texts) = false
+
+-- a transaction that is run so far: of a built-in family, without dependencies, with one address each way
+abbrev pub is_run : TxShape → Bool
+is_run tx =
+    built_in.serves tx.header.family_name tx.header.family_version
+    && length tx.header.dependencies == 0
+    && is_one_address tx.header.inputs
+    && is_one_address tx.header.outputs
+
+abbrev pub are_run : List TxShape → Bool
+are_run txs = list_all is_run txs
+
+abbrev pub ids_of : List TxShape → List (List ℕ)
+ids_of txs = map (λ tx. tx.id) txs
+
+abbrev pub tx_ids_of : List (List TxShape) → List (List ℕ)
+tx_ids_of batches = flat_map ids_of batches
+
+-- A block that is judged so far: the first of the stream, number 0 of a chain, no batch and no transaction twice,
+-- and of transactions that are run so far.
+abbrev pub is_judged : ℕ → Parts → Bool
+is_judged place parts =
     place == 0
-    && length b.batches == 0
-    && length header.batch_ids == 0
-    && is_hex_text 128 b.header_signature
-    && is_hex_text 66 header.signer_public_key
-    && header.block_num == 0
-    && bytes_eq header.previous_block_id no_block
+    && bytes_eq parts.header.previous_block_id no_block
+    && parts.header.block_num == 0
+    && not (has_repeats parts.batch_ids)
+    && not (has_repeats (tx_ids_of parts.batches))
+    && list_all are_run parts.batches
+
+-- the digits of the root of the map that the batches leave
+abbrev pub root_text : List (List TxShape) → List ℕ
+root_text batches = encode_lower (root_of_map first_half (left_after built_in no_entries batches))
+
+abbrev pub transactions_in : List (List TxShape) → ℕ
+transactions_in batches = sum_by (λ txs. length txs) batches
+
+abbrev pub verdict_by_root : Parts → List ℕ → Verdict
+verdict_by_root parts root =
+    if not (bytes_eq parts.header.state_root_hash root) then Refused (Root root)
+    else Committed (record { id = parts.id; number = parts.header.block_num; root = parts.header.state_root_hash; batches = length parts.batches; transactions = transactions_in parts.batches })
+
+abbrev pub verdict_by_failure : Parts → Option (ℕ × ℕ × Reason) → Verdict
+verdict_by_failure parts (Some failure) = Refused (BatchInvalid failure.0 failure.1 failure.2)
+verdict_by_failure parts None = verdict_by_root parts (root_text parts.batches)
+
+-- the tests of a block whose structure has no fault, in order
+abbrev pub verdict_of_parts : ℕ → Parts → Verdict
+verdict_of_parts place parts =
+    if not (is_judged place parts) then Refused NotBuilt
+    else verdict_by_failure parts (first_failure 0 (serial built_in no_entries parts.batches))
+
+abbrev pub verdict_of_header : ℕ → Block → Result BlockHeader MessageFault → Verdict
+verdict_of_header place b (Ok header) = verdict_of_parts place (parts_of b header)
+verdict_of_header place b (Err e) = Refused (Structure (Undecodable e))
+
+abbrev pub verdict_of_block : ℕ → Result Block MessageFault → Verdict
+verdict_of_block place (Ok b) = verdict_of_header place b (block_header b.header)
+verdict_of_block place (Err e) = Refused (Structure (Undecodable e))
+
+abbrev pub verdict_unless : ℕ → List ℕ → Option StructureFault → Verdict
+verdict_unless place content (Some fault) = Refused (Structure fault)
+verdict_unless place content None = verdict_of_block place (block content)
 
 module _ (accepts : List ℕ → List ℕ → List ℕ → Bool) where
-  -- the tests of a block whose header was read, in order
-  abbrev pub verdict_of_header : ℕ → Block → BlockHeader → Verdict
-  verdict_of_header place b header =
-      if not (is_built place b header) then Refused NotBuilt
-      else if not (accepts header.signer_public_key b.header b.header_signature) then Refused Signature
-      else if not (bytes_eq header.state_root_hash empty_root) then Refused (Root empty_root)
-      else Committed (record { id = b.header_signature; number = header.block_num; root = header.state_root_hash })
-
-  abbrev pub verdict_of_read : ℕ → Block → Result BlockHeader MessageFault → Verdict
-  verdict_of_read place b (Ok header) = verdict_of_header place b header
-  verdict_of_read place b (Err e) = Refused Undecodable
-
-  abbrev pub verdict_of_block : ℕ → Result Block MessageFault → Verdict
-  verdict_of_block place (Ok b) = verdict_of_read place b (block_header b.header)
-  verdict_of_block place (Err e) = Refused Undecodable
-
   -- what is said of the frame at this place, by its content
   unfoldable pub verdict_of : ℕ → List ℕ → Verdict
-  verdict_of place content = verdict_of_block place (block content)
+  verdict_of place content = verdict_unless place content (structure_fault accepts content)
 
   -- what is said of frames, of which the first has this place
   abbrev pub verdicts : ℕ → List (List ℕ) → List Verdict

@@ -1,85 +1,147 @@
 //! The judgement of a block.
 
-ghost use Rattle.std.specs.Prelude.{◌≡◌, IfOk};
+ghost use Rattle.std.specs.Prelude.{◌≡◌, ◌<◌, ◌^◌, length, sum_by, map, false, IfOk};
+ghost use Rattle.std.specs.Arc.{arc_value};
 ghost use Rattle.std.specs.List.{list_all};
-ghost use Rattle.saw_top.specs.Verdicts.{is_hex_digit, is_hex_text, is_built, empty_root, verdict_of, verdict_of_header};
+ghost use Rattle.hex.specs.Hex.{encode_lower};
+ghost use Rattle.saw_messages.specs.Shapes.{shape_of};
+ghost use Rattle.saw_station.specs.Failures.{shapes_of, batch_shapes};
+ghost use Rattle.saw_top.specs.Parts.{parts_in};
+ghost use Rattle.saw_top.specs.Verdicts.{is_one_address, is_run, are_run, is_judged, transactions_in, verdict_of, verdict_of_parts, verdict_by_root};
 
-use crate::early::{Verifier, sha512_hex64};
+use crate::repeats::are_distinct;
 use crate::verdict::{BlockFault, BlockRecord, Verdict};
-use saw_messages::{Block, BlockHeader, MessageFault, decode_block, decode_block_header};
+use saw_address::is_hex_text;
+use saw_checks::{CheckedBlock, StructureFault, check_block};
+use saw_messages::{PlainBase, Tx, TxBatch};
+use saw_node::root_of;
+use saw_station::{BatchFailure, BuiltIn, Processor, run_batches};
+use saw_verify::Verifier;
+use saw_wire::Text;
 use std::alloc::{AllocError, Global};
+use std::collections::BTreeMap;
+use std::sync::Arc;
 
 /// The previous id of a first block.
 const NO_BLOCK: &str = "0000000000000000";
 
-/// The encoding of the empty map's node.
-const EMPTY_NODE: &[u8] = &[0xa2, 0x61, 0x63, 0xa0, 0x61, 0x76, 0xf6];
-
-fn is_digit(byte: u8) -> bool
-    ensures { result ≡ is_hex_digit byte }
+fn is_one_address(texts: &[Text]) -> bool
+    ensures { result ≡ is_one_address texts.now }
 {
-    byte.is_ascii_digit() || (b'a'..=b'f').contains(&byte)
+    match texts {
+        [text] => is_hex_text(70, text.as_str()),
+        _ => false,
+    }
 }
 
-fn are_digits(bytes: &[u8]) -> bool
-    ensures { result ≡ list_all is_hex_digit bytes.now }
+fn is_run(tx: &Tx) -> bool
+    ensures { result ≡ is_run (shape_of tx.now) }
 {
-    bytes.iter().all(|byte| is_digit(*byte))
+    let header = &tx.header;
+    BuiltIn.serves(header.family_name.as_str(), header.family_version.as_str())
+        && header.dependencies.is_empty()
+        && is_one_address(header.inputs.as_slice())
+        && is_one_address(header.outputs.as_slice())
 }
 
-fn is_digits(count: usize, text: &str) -> bool
-    ensures { result ≡ is_hex_text count text.now }
+fn each_is_run(txs: &[Arc<Tx>]) -> bool
+    ensures { result ≡ list_all (λ tx. is_run (shape_of (arc_value tx))) txs.now }
 {
-    text.len() == count && are_digits(text.as_bytes())
+    txs.iter().all(|tx| is_run(tx))
 }
 
-fn is_first(place: u32, block: &Block, header: &BlockHeader) -> bool
-    ensures { result ≡ is_built place block.now header.now }
+fn are_run(txs: &[Arc<Tx>]) -> bool
+    ensures { result ≡ are_run (shapes_of txs.now) }
 {
-    place == 0
-        && block.batches.is_empty()
-        && header.batch_ids.is_empty()
-        && is_digits(128, block.header_signature.as_str())
-        && is_digits(66, header.signer_public_key.as_str())
-        && header.block_num == 0
+    each_is_run(txs)
+}
+
+fn each_batch_is_run(batches: &[TxBatch]) -> bool
+    ensures { result ≡ list_all (λ batch. are_run (shapes_of batch.txs)) batches.now }
+{
+    batches.iter().all(|batch| are_run(batch.txs.as_slice()))
+}
+
+fn are_all_run(batches: &[TxBatch]) -> bool
+    ensures { result ≡ list_all are_run (batch_shapes batches.now) }
+{
+    each_batch_is_run(batches)
+}
+
+// More transactions than 64 bits count would not fit any memory.
+fn count_transactions(batches: &[TxBatch]) -> Result<usize, AllocError>
+    ensures { IfOk result (λ count. count ≡ transactions_in (batch_shapes batches.now)) }
+{
+    let mut count: usize = 0;
+    for batch in batches {
+        match count.checked_add(batch.txs.len()) {
+            Some(more) => count = more,
+            None => return Err(AllocError),
+        }
+    }
+    Ok(count)
+}
+
+fn is_judged(alloc: Global, place: u32, checked: &CheckedBlock) -> Result<bool, AllocError>
+    ensures { IfOk result (λ judged. judged ≡ is_judged place (parts_in checked.now)) }
+{
+    let header = &checked.header;
+    let first = place == 0
         && header.previous_block_id.as_str() == NO_BLOCK
+        && header.block_num == 0;
+    if !first {
+        return Ok(false);
+    }
+    let batches = checked.batches.as_slice();
+    Ok(are_distinct(alloc, batches)? && are_all_run(batches))
 }
 
-#[tactic(auto, unfolding(crate::specs::Verdicts::empty_root))]
-fn root_of_nothing() -> [u8; 64]
-    ensures { result ≡ empty_root }
+/// Judges a block whose structure has no fault.
+fn judge_checked(alloc: Global, place: u32, checked: CheckedBlock) -> Result<Verdict, AllocError>
+    ensures { IfOk result (λ verdict. verdict ≡ verdict_of_parts place (parts_in checked)) }
 {
-    sha512_hex64(EMPTY_NODE)
-}
-
-fn judge_header<V: Verifier>(place: u32, block: Block, header: BlockHeader, verifier: &V) -> Verdict
-    ensures { result ≡ verdict_of_header (V.accepts verifier.now) place block header }
-{
-    if !is_first(place, &block, &header) {
-        return Verdict::Refused {
+    if !is_judged(alloc, place, &checked)? {
+        return Ok(Verdict::Refused {
             fault: BlockFault::NotBuilt,
-        };
+        });
     }
-    let key = header.signer_public_key.as_str();
-    let signature = block.header_signature.as_str();
-    if !verifier.verify(key, block.header.as_slice(), signature) {
-        return Verdict::Refused {
-            fault: BlockFault::Signature,
-        };
+    let mut base = PlainBase {
+        map: BTreeMap::new(alloc),
+    };
+    let failure = run_batches(alloc, &BuiltIn, &mut base, checked.batches.as_slice())?;
+    if let Some(BatchFailure { k, t, reason }) = failure {
+        return Ok(Verdict::Refused {
+            fault: BlockFault::BatchInvalid { k, t, reason },
+        });
     }
-    let computed = root_of_nothing();
+    let root = root_of(alloc, &base.map)?;
+    judge_root(checked, root.to_hex())
+}
+
+fn judge_root(checked: CheckedBlock, computed: [u8; 64]) -> Result<Verdict, AllocError>
+    ensures { IfOk result (λ verdict. verdict ≡ verdict_by_root (parts_in checked) computed) }
+{
+    let batches = checked.batches.len();
+    let transactions = count_transactions(checked.batches.as_slice())?;
+    let CheckedBlock {
+        id,
+        header,
+        batches: _,
+    } = checked;
     if header.state_root_hash.as_str().as_bytes() != computed.as_slice() {
-        return Verdict::Refused {
+        return Ok(Verdict::Refused {
             fault: BlockFault::Root { computed },
-        };
+        });
     }
-    Verdict::Committed {
+    Ok(Verdict::Committed {
         record: BlockRecord {
-            id: block.header_signature,
+            id,
             number: header.block_num,
             root: header.state_root_hash,
+            batches,
+            transactions,
         },
-    }
+    })
 }
 
 /// Judges the content of the frame at this place.
@@ -90,20 +152,14 @@ pub(crate) fn judge<V: Verifier>(
     content: &[u8],
     verifier: &V,
 ) -> Result<Verdict, AllocError>
+    requires { length content.now < 2 ^ 32 }
     ensures { IfOk result (λ verdict. verdict ≡ verdict_of (V.accepts verifier.now) place content.now) }
 {
-    let block = match decode_block(alloc, content) {
-        Ok(block) => block,
-        Err(MessageFault::OutOfMemory) => return Err(AllocError),
-        Err(_) => return Ok(Verdict::Refused {
-            fault: BlockFault::Undecodable,
-        }),
-    };
-    match decode_block_header(alloc, block.header.as_slice()) {
-        Ok(header) => Ok(judge_header(place, block, header, verifier)),
-        Err(MessageFault::OutOfMemory) => Err(AllocError),
-        Err(_) => Ok(Verdict::Refused {
-            fault: BlockFault::Undecodable,
+    match check_block(alloc, content, verifier, 1) {
+        Ok(checked) => judge_checked(alloc, place, checked),
+        Err(StructureFault::OutOfMemory) => Err(AllocError),
+        Err(fault) => Ok(Verdict::Refused {
+            fault: BlockFault::Structure(fault),
         }),
     }
 }

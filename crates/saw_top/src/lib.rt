@@ -2,11 +2,11 @@
 #![tactic(auto)]
 
 mod command;
-pub mod early;
 mod fault;
 mod judge;
 mod line;
 mod progress;
+mod repeats;
 mod status;
 mod stream;
 mod top;

@@ -1,6 +1,6 @@
 //! Reads a block stream to its end, and answers each block before it reads the next.
 
-ghost use Rattle.std.specs.Prelude.{◌≡◌, ◌≤◌, ◌<◌, ◌⊎◌, ◌==◌, ℕ, List, length, take, Ok, Err, if◌then◌else◌, IfOk, IfErr, IfSome, OnErr, IsErrOf};
+ghost use Rattle.std.specs.Prelude.{◌≡◌, ◌≤◌, ◌<◌, ◌^◌, ◌⊎◌, ◌==◌, ℕ, List, length, take, Ok, Err, if◌then◌else◌, IfOk, IfErr, IfSome, OnErr, IsErrOf};
 ghost use Rattle.std.specs.Io.KnownBytes.{Appends, Consumes};
 ghost use Rattle.saw_faults.specs.Counts.{Rose};
 ghost use Rattle.saw_io.specs.Frame.{IsPart};
@@ -9,13 +9,13 @@ ghost use Rattle.saw_top.specs.Run.{ending, Shows};
 ghost use Rattle.saw_top.specs.Verdicts.{verdict_of};
 
 use crate::Status;
-use crate::early::Verifier;
 use crate::fault::RunFault;
 use crate::judge::judge;
 use crate::line::{head_line, verdict_line};
 use crate::progress::Progress;
 use crate::verdict::Verdict;
 use saw_io::{Sink, Source, fill, read_frame, write_all};
+use saw_verify::Verifier;
 use std::alloc::Global;
 
 /// The most bytes of a frame's content.
@@ -48,6 +48,7 @@ fn answer_frame<O: Sink, V: Verifier>(
     place: u32,
     content: &[u8],
 ) -> Result<Verdict, RunFault>
+    requires { length content.now < 2 ^ 32 }
     ensures verdict { IfOk result (λ verdict. verdict ≡ verdict_of (V.accepts verifier.now) place content.now) }
     ensures ok { IfOk result (λ verdict. Appends (O.written output.old) (O.written output.new) (verdict_line place verdict)) }
     ensures err { OnErr result ((n : ℕ) × Appends (O.written output.old) (O.written output.new)

@@ -8,10 +8,10 @@ ghost use Rattle.saw_top.specs.Run.{answer_of, ShowsAll, ShowsFront, IsUpToDate,
 
 use crate::Status;
 use crate::command::{Command, read_command};
-use crate::early::Verifier;
 use crate::fault::RunFault;
 use crate::stream::apply;
 use saw_io::{Sink, Source};
+use saw_verify::Verifier;
 use std::alloc::Global;
 
 fn status_of(fault: RunFault) -> Status

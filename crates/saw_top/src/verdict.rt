@@ -1,5 +1,7 @@
 //! What is said of a block.
 
+use saw_checks::StructureFault;
+use saw_messages::Reason;
 use saw_wire::Text;
 
 /// A block that was accepted.
@@ -10,15 +12,19 @@ pub(crate) struct BlockRecord {
     pub(crate) number: u64,
     /// The 64 hex digits of the state's root behind it.
     pub(crate) root: Text,
+    /// How many batches it has.
+    pub(crate) batches: usize,
+    /// How many transactions they have in all.
+    pub(crate) transactions: usize,
 }
 
 /// Why a block is refused.
 #[derive(Drop)]
 pub(crate) enum BlockFault {
-    /// The block or its header cannot be read.
-    Undecodable,
-    /// The verifier does not accept the signature.
-    Signature,
+    /// Its structure has this fault.
+    Structure(StructureFault),
+    /// This transaction of this batch is invalid, by their indices, counted from 0.
+    BatchInvalid { k: usize, t: usize, reason: Reason },
     /// The header states another root than the computed one.
     Root { computed: [u8; 64] },
     /// The block is of a form that is not judged yet.

@@ -2,8 +2,8 @@
 #![tactic(auto)]
 
 use saw_io::{StdSink, StdSource};
-use saw_top::early::DevVerifier;
 use saw_top::run;
+use saw_verify::DevVerifier;
 use std::alloc::Global;
 use std::io::ErrorKind;
 use std::process::ExitCode;

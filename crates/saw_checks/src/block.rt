@@ -1,0 +1,85 @@
+//! A block, tested as a whole.
+
+ghost use Rattle.std.specs.Prelude.{◌≡◌, ◌<◌, ◌^◌, length};
+ghost use Rattle.saw_checks.specs.Tests.{first_of};
+ghost use Rattle.saw_checks.specs.BlockFaults.{transactions_count, block_tests};
+ghost use Rattle.saw_checks.specs.Readings.{BlockGives};
+ghost use Rattle.saw_checks.specs.Parts.{Tells};
+ghost use Rattle.saw_checks.specs.BlockParts.{batch_ids_fault, block_signature_fault};
+
+use crate::batches::{check_all, count_transactions};
+use crate::checked::CheckedBlock;
+use crate::fault::StructureFault;
+use crate::ids::first_difference;
+use saw_address::is_hex_text;
+use saw_messages::{Block, BlockHeader, decode_block, decode_block_header};
+use saw_verify::Verifier;
+use std::alloc::Global;
+
+const MAX_TRANSACTIONS: u32 = 20000;
+
+fn test_block(block: &Block, header: &BlockHeader, count: u32) -> Result<(), StructureFault>
+    requires { count ≡ transactions_count block.now.batches }
+    ensures { Tells result (first_of (block_tests block.now header.now)) }
+{
+    if !is_hex_text(128, block.header_signature.as_str()) {
+        return Err(StructureFault::IdText);
+    }
+    if !is_hex_text(66, header.signer_public_key.as_str()) {
+        return Err(StructureFault::KeyText);
+    }
+    if count > MAX_TRANSACTIONS {
+        return Err(StructureFault::TooManyTransactions { count });
+    }
+    Ok(())
+}
+
+fn test_ids(block: &Block, header: &BlockHeader) -> Result<(), StructureFault>
+    requires { length block.now.batches < 2 ^ 32 }
+    ensures { Tells result (batch_ids_fault block.now header.now) }
+{
+    let listed = header.batch_ids.as_slice();
+    match first_difference(listed, block.batches.as_slice()) {
+        Some(index) => Err(StructureFault::BatchIds { index }),
+        None => Ok(()),
+    }
+}
+
+fn test_signature<V: Verifier>(
+    block: &Block,
+    header: &BlockHeader,
+    verifier: &V,
+) -> Result<(), StructureFault>
+    ensures { Tells result (block_signature_fault (V.accepts verifier.now) block.now header.now) }
+{
+    let key = header.signer_public_key.as_str();
+    let id = block.header_signature.as_str();
+    if !verifier.verify(key, block.header.as_slice(), id) {
+        return Err(StructureFault::Signature);
+    }
+    Ok(())
+}
+
+/// Checks the structure of a block, and reads it where it has no fault. The faults stand in the order of `StructureFault`.
+pub fn check_block<V: Verifier>(
+    alloc: Global,
+    bytes: &[u8],
+    verifier: &V,
+    _workers: u32,
+) -> Result<CheckedBlock, StructureFault>
+    requires { length bytes.now < 2 ^ 32 }
+    ensures { BlockGives (V.accepts verifier.now) bytes.now result }
+{
+    let block = decode_block(alloc, bytes)?;
+    let header = decode_block_header(alloc, block.header.as_slice())?;
+    let count = count_transactions(block.batches.as_slice())?;
+    test_block(&block, &header, count)?;
+    test_ids(&block, &header)?;
+    let batches = check_all(alloc, block.batches.as_slice(), verifier)?;
+    test_signature(&block, &header, verifier)?;
+    Ok(CheckedBlock {
+        id: block.header_signature,
+        header,
+        batches,
+    })
+}

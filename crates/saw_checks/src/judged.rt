@@ -1,0 +1,47 @@
+//! Batches, judged one by one.
+
+ghost use Rattle.std.specs.Prelude.{◌≡◌, ◌<◌, ◌^◌, length, IfOk, All};
+ghost use Rattle.saw_checks.specs.Readings.{IsJudged, AreJudged};
+
+use crate::batch::check_batch;
+use crate::fault::BatchFault;
+use saw_messages::{Batch, TxBatch};
+use saw_verify::Verifier;
+use std::alloc::{AllocError, Global};
+
+/// What a check found of one batch.
+#[derive(Drop)]
+pub enum Judged {
+    /// It has no fault, and this was read.
+    Good(TxBatch),
+    /// Its first fault, which is never a want of memory.
+    Bad(BatchFault),
+}
+
+fn judge<V: Verifier>(alloc: Global, batch: &Batch, verifier: &V) -> Result<Judged, AllocError>
+    requires { length batch.now.transactions < 2 ^ 32 }
+    ensures { IfOk result (IsJudged (V.accepts verifier.now) batch.now) }
+{
+    match check_batch(alloc, batch, verifier) {
+        Ok(read) => Ok(Judged::Good(read)),
+        Err(BatchFault::OutOfMemory) => Err(AllocError),
+        Err(fault) => Ok(Judged::Bad(fault)),
+    }
+}
+
+/// Checks each batch by itself, whatever the others are. An `Err` says that memory ran out.
+pub fn check_batches<V: Verifier>(
+    alloc: Global,
+    batches: &[Batch],
+    verifier: &V,
+    _workers: u32,
+) -> Result<Vec<Judged>, AllocError>
+    requires { All (λ batch. length batch.transactions < 2 ^ 32) batches.now }
+    ensures { IfOk result (λ judged. AreJudged (V.accepts verifier.now) batches.now judged.items) }
+{
+    let mut judged = Vec::new(alloc);
+    for batch in batches {
+        judged.push(judge(alloc, batch, verifier)?)?;
+    }
+    Ok(judged)
+}

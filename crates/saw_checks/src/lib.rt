@@ -1,0 +1,19 @@
+//! The checks of batches and blocks: the first fault, in order.
+#![tactic(auto)]
+
+mod batch;
+mod batches;
+mod block;
+mod checked;
+mod fault;
+mod ids;
+mod judged;
+mod seen;
+mod transactions;
+
+pub use batch::check_batch;
+pub use block::check_block;
+pub use checked::CheckedBlock;
+pub use fault::{BatchFault, StructureFault};
+pub use judged::{Judged, check_batches};
+pub use seen::add_id;
