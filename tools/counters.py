@@ -5,6 +5,7 @@ Usage: python3 tools/counters.py crates/saw_cases/data
 """
 
 import hashlib
+import os
 import struct
 import sys
 
@@ -117,12 +118,12 @@ def block(batches, root_hash):
 
 def put(case, stream, output, status):
     print(case)
-    with open(f"{FOLDER}/{case}.stream", "wb") as file:
+    os.makedirs(f"{FOLDER}/{case}", exist_ok=True)
+    with open(f"{FOLDER}/{case}/stdin", "wb") as file:
         file.write(stream)
-    with open(f"{FOLDER}/{case}.output", "w") as file:
-        file.write(output)
-    with open(f"{FOLDER}/{case}.status", "w") as file:
-        file.write(f"{status}\n")
+    for name, text in [("words", "apply\n"), ("stdout", output), ("stderr", ""), ("status", f"{status}\n")]:
+        with open(f"{FOLDER}/{case}/{name}", "w") as file:
+            file.write(text)
 
 
 def committed(case, batches, values):
@@ -140,7 +141,7 @@ def refused(case, batches, values, fault):
 
 def main():
     # The program makes a case from outside as it is.
-    with open(f"{FOLDER}/intkey-set.stream", "rb") as file:
+    with open(f"{FOLDER}/intkey-set/stdin", "rb") as file:
         assert block([[("set", "a", 5)]], root({"a": 5}))[1] == file.read()
     committed("counters-inc-to-limit", [[("set", "a", LIMIT - 1), ("inc", "a", 1)]], {"a": LIMIT})
     refused("counters-inc-past-limit", [[("set", "a", LIMIT), ("inc", "a", 1)]], {"a": LIMIT}, "14 BatchInvalid 0 1 109")

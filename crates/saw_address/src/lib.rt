@@ -15,4 +15,4 @@ pub use laws::{
     address_is_text, covers_means, overlaps_means, read_after_change, same_everywhere, text_is_one,
 };
 pub use prefix::Prefix;
-pub use text::{is_hex_text, is_prefix_text};
+pub use text::{are_hex_digits, is_hex_text, is_prefix_text};

@@ -12,7 +12,7 @@ fn is_hex_digit(byte: u8) -> bool
 }
 
 /// Whether all bytes are hex digits in lower case.
-pub(crate) fn are_hex_digits(bytes: &[u8]) -> bool
+pub fn are_hex_digits(bytes: &[u8]) -> bool
     ensures { result ≡ list_all is_hex_digit bytes.now }
 {
     bytes.iter().all(|byte| is_hex_digit(*byte))

@@ -1,10 +1,13 @@
 //! Runs the cases from outside that lie in the folder `data`, and tells which differ.
 #![tactic(auto)]
 
-use saw_io::{MemorySink, MemorySource};
+use saw_io::{MemoryShelf, MemorySink, MemorySource};
 use saw_top::run;
 use saw_verify::DevVerifier;
+use saw_wire::Text;
 use std::alloc::{AllocError, Global};
+use std::collections::BTreeMap;
+use std::io::ErrorKind;
 use std::process::ExitCode;
 use std::{fs, io};
 
@@ -12,30 +15,91 @@ use std::{fs, io};
 #[derive(Drop)]
 struct Answer {
     output: MemorySink,
+    notes: MemorySink,
     status: u8,
 }
 
-fn apply(alloc: Global, input: Vec<u8>) -> Result<Answer, AllocError> {
-    let mut words = Vec::new(alloc);
-    words.push(String::from_str(alloc, "apply")?)?;
+fn answer_to(
+    alloc: Global,
+    words: &[String],
+    input: Vec<u8>,
+    files: BTreeMap<Text, Vec<u8>>,
+) -> Answer {
     let mut source = MemorySource::new(input, Vec::new(alloc));
     let mut output = MemorySink::new(alloc, Vec::new(alloc));
-    let status = run(alloc, &words, &mut source, &mut output, &DevVerifier).code();
-    Ok(Answer { output, status })
+    let mut notes = MemorySink::new(alloc, Vec::new(alloc));
+    let mut shelf = MemoryShelf::new(files, Vec::new(alloc));
+    let status = run(
+        alloc,
+        words,
+        &mut source,
+        &mut output,
+        &mut notes,
+        &mut shelf,
+        &DevVerifier,
+    )
+    .code();
+    Answer {
+        output,
+        notes,
+        status,
+    }
 }
 
-/// Whether the case with this name has its stored output and status.
-fn passes(rt: &HostRuntime, name: &str) -> io::Result<bool> {
+/// The words of a case, one a line.
+fn words_of(alloc: Global, lines: &str) -> Result<Vec<String>, AllocError> {
+    let mut words = Vec::new(alloc);
+    for line in lines.lines() {
+        words.push(String::from_str(alloc, line)?)?;
+    }
+    Ok(words)
+}
+
+/// The file that a word may name: all of it, or what is behind `=`.
+fn named(word: &str) -> &str {
+    match word.split_once('=') {
+        Some((_, name)) => name,
+        None => word,
+    }
+}
+
+/// The files of a case that its words name.
+fn files_of(rt: &HostRuntime, case: &str, words: &[String]) -> io::Result<BTreeMap<Text, Vec<u8>>> {
     let alloc = rt.alloc();
-    let input = fs::read(rt, format!(in alloc; "{name}.stream")?.as_str())?;
-    let output = fs::read(rt, format!(in alloc; "{name}.output")?.as_str())?;
-    let status = fs::read_to_string(rt, format!(in alloc; "{name}.status")?.as_str())?;
-    let answer = apply(alloc, input)?;
-    let same_status = status.trim() == answer.status.to_string(alloc)?.as_str();
-    Ok(same_status && answer.output.bytes() == output.as_slice())
+    let mut files = BTreeMap::new(alloc);
+    for word in words {
+        let name = named(word.as_str());
+        match fs::read(rt, format!(in alloc; "{case}/files/{name}")?.as_str()) {
+            Ok(bytes) => {
+                let _ = files.insert(Text::from_str(alloc, name)?, bytes)?;
+            }
+            Err(e) if e.kind() == ErrorKind::OutOfMemory => return Err(e),
+            Err(_) => {}
+        }
+    }
+    Ok(files)
 }
 
-/// Runs the listed cases; gives how many passed, or tells those that did not.
+/// Whether the case of this name has its stored output, notes and status.
+fn passes(rt: &HostRuntime, case: &str) -> io::Result<bool> {
+    let alloc = rt.alloc();
+    let lines = fs::read_to_string(rt, format!(in alloc; "{case}/words")?.as_str())?;
+    let words = words_of(alloc, lines.as_str())?;
+    let input = fs::read(rt, format!(in alloc; "{case}/stdin")?.as_str())?;
+    let output = fs::read(rt, format!(in alloc; "{case}/stdout")?.as_str())?;
+    let notes = fs::read(rt, format!(in alloc; "{case}/stderr")?.as_str())?;
+    let status = fs::read_to_string(rt, format!(in alloc; "{case}/status")?.as_str())?;
+    let files = files_of(rt, case, &words)?;
+    let answer = answer_to(alloc, &words, input, files);
+    let same_status = status.trim() == answer.status.to_string(alloc)?.as_str();
+    Ok(
+        same_status
+            && answer.output.bytes() == output.as_slice()
+            && answer.notes.bytes() == notes.as_slice(),
+    )
+}
+
+/// Runs the listed cases; gives whether all passed, and tells those that did not.
 fn run_all(rt: &HostRuntime) -> io::Result<bool> {
     let names = fs::read_to_string(rt, "cases.txt")?;
     let mut passed: u64 = 0;

@@ -1,2 +1,11 @@
 pub mod Places
+pub mod Each
+pub mod Keys
+pub mod Conversations
+pub mod Alike
+pub mod Covered
+pub mod Layers
+pub mod Sound
 pub mod Overlays
+pub mod Undos
+pub mod Origins

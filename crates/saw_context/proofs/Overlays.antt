@@ -10,18 +10,35 @@ use Rattle.saw_address.proofs.Finite.{get-map_of, map_inserted}
 use Rattle.saw_messages.specs.declared.outcome.Change.{Change}
 use Rattle.saw_messages.specs.declared.talk.Entry.{Entry}
 use Rattle.saw_messages.specs.declared.talk.Place.{Place}
+use Rattle.saw_context.specs.Views.{over, layered}
+use Rattle.saw_context.specs.declared.view.ViewEntry.{ViewEntry}
+use Rattle.saw_context.proofs.Layers.{value_at-over}
 use Rattle.saw_context.specs.Conversation.{Overlay, body_of, seen_at, seen_by, put_at, set_all, delete_all}
 
 abbrev pub Changes : Type 0
 Changes = List (List ℕ × Option (List ℕ))
 
+-- a change of the transaction's own is seen
 pub seen_own : (own : Overlay) (es : Changes) (m : StateMap) (at : List ℕ) (change : Option (List ℕ)) → finite.from_entries es ≡ own → Some change ≡ lookup (is_at (slice_cmp nat_cmp at)) es → seen_at m own at ≡ body_of change
 seen_own own es m at change is found =
     ap (λ o. seen_by o (value_at m at)) (ap (λ own. finite.get own at) (sym is) ∙ get-map_of es at ∙ sym found)
 
-pub seen_below : (own : Overlay) (es : Changes) (m : StateMap) (at : List ℕ) (below : Option (List ℕ)) → finite.from_entries es ≡ own → None ≡ lookup (is_at (slice_cmp nat_cmp at)) es → below ≡ value_at m at → seen_at m own at ≡ body_of below
-seen_below own es m at below is found has =
-    ap (λ o. seen_by o (value_at m at)) (ap (λ own. finite.get own at) (sym is) ∙ get-map_of es at ∙ sym found) ∙ ap body_of (sym has)
+-- else what the map has
+pub seen_below : (own : Overlay) (es : Changes) (m : StateMap) (at : List ℕ) → finite.from_entries es ≡ own → None ≡ lookup (is_at (slice_cmp nat_cmp at)) es → seen_at m own at ≡ body_of (value_at m at)
+seen_below own es m at is found =
+    ap (λ o. seen_by o (value_at m at)) (ap (λ own. finite.get own at) (sym is) ∙ get-map_of es at ∙ sym found)
+
+-- an entry of the view is what is there
+pub over_entry : (m : StateMap) (es : List (List ℕ × ViewEntry)) (at : List ℕ) (entry : ViewEntry) → Some entry ≡ lookup (is_at (slice_cmp nat_cmp at)) es
+    → value_at (over m (finite.from_entries es)) at ≡ entry.value
+over_entry m es at entry found =
+    value_at-over m (finite.from_entries es) at ∙ ap (λ o. layered o (value_at m at)) (get-map_of es at ∙ sym found)
+
+-- where the view has none, the map's value is
+pub over_none : (m : StateMap) (es : List (List ℕ × ViewEntry)) (at : List ℕ) → None ≡ lookup (is_at (slice_cmp nat_cmp at)) es
+    → value_at (over m (finite.from_entries es)) at ≡ value_at m at
+over_none m es at found =
+    value_at-over m (finite.from_entries es) at ∙ ap (λ o. layered o (value_at m at)) (get-map_of es at ∙ sym found)
 
 pub set_all-push : (own : Overlay) (entries : List Entry) (entry : Entry) → set_all own (entries ++ entry ∷ []) ≡ put_at (set_all own entries) entry.place (Some entry.body)
 set_all-push own [] entry = refl

@@ -1,5 +1,5 @@
 -- The conversation of a transaction's processor with a map, through the prefixes that the transaction declares.
-use Rattle.std.specs.Prelude.{ℕ, Bool, true, false, ◌&&◌, not, List, [], ◌∷◌, ◌++◌, map, Option, Some, None, position, nat_eq}
+use Rattle.std.specs.Prelude.{ℕ, Bool, true, false, ◌&&◌, not, List, [], ◌∷◌, ◌++◌, map, Option, Some, None, is_some, position, nat_eq}
 use Rattle.std.specs.Ordering.{nat_cmp}
 use Rattle.std.specs.Cmp.Lexicographic.{slice_cmp}
 use Rattle.std.specs.List.{list_any, starts_with}
@@ -107,3 +107,26 @@ events_after events (actions.Delete places) = events
 events_after events (actions.AddEvent event) = events ++ event ∷ []
 events_after events actions.Ok = events
 events_after events (actions.Invalid reason) = events
+
+-- ---- what was read
+
+-- an address that was read, and whether the transaction had changed it before
+pub record Asked : Type 0 where
+  pub address : List ℕ
+  pub own : Bool
+
+abbrev pub address_in : Place → List ℕ
+address_in (At address) = address
+address_in Bad = []
+
+abbrev pub asked_at : Overlay → Place → Asked
+asked_at own place = record { address = address_in place; own = is_some (finite.get own (address_in place)) }
+
+-- what a request reads: each place of a request that is answered with entries
+abbrev pub asked_by : TransactionHeader → Overlay → Action → List Asked
+asked_by header own (actions.Get places) = unless_refused (first_refused header.inputs places) (λ index. []) (map (asked_at own) places)
+asked_by header own (actions.Set entries) = []
+asked_by header own (actions.Delete places) = []
+asked_by header own (actions.AddEvent event) = []
+asked_by header own actions.Ok = []
+asked_by header own (actions.Invalid reason) = []

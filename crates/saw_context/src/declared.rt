@@ -2,10 +2,10 @@
 
 ghost use Rattle.std.specs.Prelude.{◌≡◌, not, position};
 ghost use Rattle.saw_context.specs.Conversation.{text_covers, are_covering, is_granted, first_refused, places_of};
-ghost use Rattle.saw_context.specs.Outcome.{are_prefixes};
+ghost use Rattle.saw_context.specs.Outcome.{are_prefixes, are_declared};
 
 use saw_address::{Address, is_prefix_text};
-use saw_messages::{Entry, Place};
+use saw_messages::{Entry, Place, TransactionHeader};
 use saw_wire::Text;
 
 fn text_covers(text: &Text, address: &Address) -> bool
@@ -34,7 +34,7 @@ fn is_granted(texts: &[Text], place: &Place) -> bool
 }
 
 /// The index of the first place that is no address or that no declared text covers, counted from 0.
-pub fn first_refused(texts: &[Text], places: &[Place]) -> Option<usize>
+pub(crate) fn first_refused(texts: &[Text], places: &[Place]) -> Option<usize>
     ensures { result ≡ first_refused texts.now places.now }
 {
     places.iter().position(|place| !is_granted(texts, place))
@@ -49,15 +49,21 @@ fn position_refused(texts: &[Text], entries: &[Entry]) -> Option<usize>
 }
 
 /// The same of the places of entries.
-pub fn first_refused_entry(texts: &[Text], entries: &[Entry]) -> Option<usize>
+pub(crate) fn first_refused_entry(texts: &[Text], entries: &[Entry]) -> Option<usize>
     ensures { result ≡ first_refused texts.now (places_of entries.now) }
 {
     position_refused(texts, entries)
 }
 
-/// Whether every declared text is a prefix.
-pub fn are_prefixes(texts: &[Text]) -> bool
+fn are_prefixes(texts: &[Text]) -> bool
     ensures { result ≡ are_prefixes texts.now }
 {
     texts.iter().all(|text| is_prefix_text(text.as_str()))
+}
+
+/// Whether all that a transaction declares are prefixes.
+pub(crate) fn are_declared(header: &TransactionHeader) -> bool
+    ensures { result ≡ are_declared header.now }
+{
+    are_prefixes(header.inputs.as_slice()) && are_prefixes(header.outputs.as_slice())
 }

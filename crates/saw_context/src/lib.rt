@@ -1,8 +1,22 @@
 //! What a transaction, a batch and a list of batches do to a map, and access by declaration.
 #![tactic(auto)]
 
+mod context;
 mod declared;
+mod fault;
+mod job;
+mod laws;
 mod overlay;
+mod reads;
+mod undo;
+mod view;
 
-pub use declared::{are_prefixes, first_refused, first_refused_entry};
-pub use overlay::Overlay;
+pub use context::Context;
+pub use fault::{AccessFault, ContextFault};
+pub use job::{Done, Job, Ticket};
+pub use laws::{
+    conversation_is_not_early, outcome_sees_inputs, over_shows, seen_is_over, sound_is_outcome,
+    writes_are_covered,
+};
+pub use reads::{Changes, Origin, Read};
+pub use view::{View, ViewEntry};

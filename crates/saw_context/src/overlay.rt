@@ -1,20 +1,25 @@
 //! What a transaction has changed so far.
 
-ghost use Rattle.std.specs.Prelude.{◌≡◌, map, Some, None, IfOk, OnOk, OnErr};
+ghost use Rattle.std.specs.Prelude.{◌≡◌, Some, None, IfOk, OnOk, OnErr, is_some};
 ghost use Rattle.std.specs.FinMap as finite;
-ghost use Rattle.saw_context.specs.Conversation.{seen_at, seen_place, put_at, set_all, delete_all};
+ghost use Rattle.saw_address.specs.Maps.{value_at};
+ghost use Rattle.saw_context.specs.Conversation.{Overlay as Owned, body_of, seen_at, put_at, set_all, delete_all};
 ghost use Rattle.saw_context.specs.Outcome.{changes_of};
+ghost use Rattle.saw_context.specs.Undo.{IsOneStep, CameBy};
+ghost use Rattle.saw_context.specs.Views.{over, layers_of};
 
+use crate::undo::Undo;
+use crate::view::View;
 use saw_address::{Address, Base};
 use saw_messages::{Change, Entry, Place};
 use saw_wire::{Bytes, Items};
-use std::alloc::{AllocError, Global};
+use std::alloc::{AllocError, AllocFailed, Global};
 use std::collections::BTreeMap;
 use std::marker::Model;
 
 /// The last change at each address, seen as a finite map: a value, or none for a deletion.
 #[derive(Drop)]
-pub struct Overlay {
+pub(crate) struct Overlay {
     changes: BTreeMap<Address, Option<Bytes>>,
 }
 
@@ -34,7 +39,7 @@ impl Model for Overlay {
 
 impl Overlay {
     /// No changes.
-    pub fn new(alloc: Global) -> Self
+    pub(crate) fn new(alloc: Global) -> Self
         ensures { result ≡ finite.empty }
     {
         Overlay {
@@ -42,94 +47,169 @@ impl Overlay {
         }
     }
 
-    /// What is read at an address: the own change where there is one, else what the base has; empty bytes for no
-    /// entry.
-    pub fn seen<B: Base>(&self, alloc: Global, base: &B, at: &Address) -> Result<Bytes, AllocError>
-        ensures { IfOk result (λ body. body ≡ seen_at (B.entry base.now) self.now at.now) }
+    /// Whether there is a change at the address.
+    pub(crate) fn has(&self, at: &Address) -> bool
+        ensures { result ≡ is_some (finite.get self.now at.now) }
+    {
+        self.changes.contains_key(at)
+    }
+
+    /// What is read at an address: the own change where there is one, else what the view has, else what the base has;
+    /// empty bytes for no entry.
+    pub(crate) fn seen<B: Base>(
+        &self,
+        alloc: Global,
+        view: &View,
+        base: &B,
+        at: &Address,
+    ) -> Result<Bytes, AllocError>
+        ensures { IfOk result (λ body. body ≡ seen_at (over (B.entry base.now) (layers_of view.now)) self.now at.now) }
     {
         match self.changes.get(at) {
             Some(Some(body)) => body.try_clone(alloc),
             Some(None) => Ok(Bytes::new(alloc)),
-            None => match base.get(at) {
-                Some(body) => Bytes::from_slice(alloc, body),
-                None => Ok(Bytes::new(alloc)),
-            },
+            None => below(alloc, view, base, at),
         }
     }
 
-    fn put(&mut self, at: Address, value: Option<Bytes>) -> Result<(), AllocError>
+    // Gives what stood there before.
+    fn put(
+        &mut self,
+        at: Address,
+        value: Option<Bytes>,
+    ) -> Result<Option<Option<Bytes>>, AllocError>
+        ensures before { IfOk result (λ before. before ≡ finite.get self.old at) }
         ensures ok { OnOk result (self.new ≡ finite.insert self.old at value) }
         ensures err { OnErr result (self.new ≡ self.old) }
     {
-        self.changes.insert(at, value)?;
-        Ok(())
+        Ok(self.changes.insert(at, value)?)
     }
 
-    fn put_at(&mut self, place: &Place, value: Option<Bytes>) -> Result<(), AllocError>
+    // A key that is there is never refused memory.
+    fn put_again(&mut self, at: Address, change: Option<Bytes>)
+        ensures { (finite.get self.old at ≡ None → ⊥) → self.new ≡ finite.insert self.old at change }
+    {
+        match self.changes.insert(at, change) {
+            Ok(_) => {}
+            Err(_) => {}
+        }
+    }
+
+    fn remove(&mut self, at: Address)
+        ensures { self.new ≡ finite.remove self.old at }
+    {
+        self.changes.remove(&at);
+    }
+
+    fn take_back(&mut self, undo: Undo)
+        ensures { (before : Owned) → IsOneStep before undo self.old → self.new ≡ before }
+    {
+        let Undo { at, before } = undo;
+        match before {
+            Some(change) => self.put_again(at, change),
+            None => self.remove(at),
+        }
+    }
+
+    fn take_all_back(&mut self, mut undos: Vec<Undo>)
+        ensures { (before : Owned) → CameBy before undos.items self.old → self.new ≡ before }
+    {
+        while let Some(undo) = undos.pop() {
+            self.take_back(undo);
+        }
+    }
+
+    fn note(&mut self, undos: &mut Vec<Undo>, undo: Undo) -> Result<(), AllocError>
+        ensures ok { OnOk result (self.new ≡ self.old) }
+        ensures err { OnErr result ((before : Owned) → IsOneStep before undo self.old → self.new ≡ before) }
+        ensures undos { (before : Owned) (earlier : Owned) → CameBy earlier undos.old.items before → IsOneStep before undo self.old
+            → CameBy earlier undos.new.items self.new }
+    {
+        match undos.push(undo) {
+            Ok(()) => Ok(()),
+            Err(AllocFailed { value: undo }) => {
+                self.take_back(undo);
+                Err(AllocError)
+            }
+        }
+    }
+
+    fn put_at(
+        &mut self,
+        place: &Place,
+        value: Option<Bytes>,
+        undos: &mut Vec<Undo>,
+    ) -> Result<(), AllocError>
         ensures ok { OnOk result (self.new ≡ put_at self.old place.now value) }
-        ensures err { OnErr result (self.new ≡ self.old) }
+        ensures undos { (earlier : Owned) → CameBy earlier undos.old.items self.old → CameBy earlier undos.new.items self.new }
     {
         match place {
-            Place::At(at) => self.put(*at, value),
+            Place::At(at) => {
+                let before = self.put(*at, value)?;
+                self.note(undos, Undo { at: *at, before })
+            }
             Place::Bad => Ok(()),
         }
     }
 
-    /// What is read at a place; empty bytes at one that is no address.
-    pub fn seen_place<B: Base>(
-        &self,
+    fn set_each(
+        &mut self,
         alloc: Global,
-        base: &B,
-        place: &Place,
-    ) -> Result<Bytes, AllocError>
-        ensures { IfOk result (λ body. body ≡ seen_place (B.entry base.now) self.now place.now) }
-    {
-        match place {
-            Place::At(at) => self.seen(alloc, base, at),
-            Place::Bad => Ok(Bytes::new(alloc)),
-        }
-    }
-
-    /// What is read at places, in order.
-    pub fn seen_places<B: Base>(
-        &self,
-        alloc: Global,
-        base: &B,
-        places: &[Place],
-    ) -> Result<Items<Bytes>, AllocError>
-        ensures { IfOk result (λ bodies. bodies ≡ map (seen_place (B.entry base.now) self.now) places.now) }
-    {
-        let mut bodies = Items::new(alloc);
-        for place in places {
-            let body = self.seen_place(alloc, base, place)?;
-            bodies.push(body)?;
-        }
-        Ok(bodies)
-    }
-
-    /// Sets entries one after another. After an `Err` some of them may be set.
-    pub fn set_all(&mut self, alloc: Global, entries: &[Entry]) -> Result<(), AllocError>
-        ensures { OnOk result (self.new ≡ set_all self.old entries.now) }
+        entries: &[Entry],
+        undos: &mut Vec<Undo>,
+    ) -> Result<(), AllocError>
+        ensures ok { OnOk result (self.new ≡ set_all self.old entries.now) }
+        ensures undos { (earlier : Owned) → CameBy earlier undos.old.items self.old → CameBy earlier undos.new.items self.new }
     {
         for entry in entries {
             let body = entry.body.try_clone(alloc)?;
-            self.put_at(&entry.place, Some(body))?;
+            self.put_at(&entry.place, Some(body), undos)?;
         }
         Ok(())
     }
 
-    /// Deletes places one after another. After an `Err` some of them may be deleted.
-    pub fn delete_all(&mut self, places: &[Place]) -> Result<(), AllocError>
-        ensures { OnOk result (self.new ≡ delete_all self.old places.now) }
+    fn delete_each(&mut self, places: &[Place], undos: &mut Vec<Undo>) -> Result<(), AllocError>
+        ensures ok { OnOk result (self.new ≡ delete_all self.old places.now) }
+        ensures undos { (earlier : Owned) → CameBy earlier undos.old.items self.old → CameBy earlier undos.new.items self.new }
     {
         for place in places {
-            self.put_at(place, None)?;
+            self.put_at(place, None, undos)?;
         }
         Ok(())
+    }
+
+    /// Sets entries one after another. An `Err` sets none.
+    pub(crate) fn set_all(&mut self, alloc: Global, entries: &[Entry]) -> Result<(), AllocError>
+        ensures ok { OnOk result (self.new ≡ set_all self.old entries.now) }
+        ensures err { OnErr result (self.new ≡ self.old) }
+    {
+        let mut undos = Vec::new(alloc);
+        match self.set_each(alloc, entries, &mut undos) {
+            Ok(()) => Ok(()),
+            Err(e) => {
+                self.take_all_back(undos);
+                Err(e)
+            }
+        }
+    }
+
+    /// Deletes places one after another. An `Err` deletes none.
+    pub(crate) fn delete_all(&mut self, alloc: Global, places: &[Place]) -> Result<(), AllocError>
+        ensures ok { OnOk result (self.new ≡ delete_all self.old places.now) }
+        ensures err { OnErr result (self.new ≡ self.old) }
+    {
+        let mut undos = Vec::new(alloc);
+        match self.delete_each(places, &mut undos) {
+            Ok(()) => Ok(()),
+            Err(e) => {
+                self.take_all_back(undos);
+                Err(e)
+            }
+        }
     }
 
     /// The changes in address order.
-    pub fn into_changes(self, alloc: Global) -> Result<Items<Change>, AllocError>
+    pub(crate) fn into_changes(self, alloc: Global) -> Result<Items<Change>, AllocError>
         ensures { IfOk result (λ changes. changes ≡ changes_of self) }
     {
         let mut changes = Items::new(alloc);
@@ -137,5 +217,27 @@ impl Overlay {
             changes.push(Change { address, value })?;
         }
         Ok(changes)
+    }
+}
+
+// What the base has with the view on top.
+fn below<B: Base>(alloc: Global, view: &View, base: &B, at: &Address) -> Result<Bytes, AllocError>
+    ensures { IfOk result (λ body. body ≡ body_of (value_at (over (B.entry base.now) (layers_of view.now)) at.now)) }
+{
+    match view.entries.get(at) {
+        Some(entry) => copy_of(alloc, &entry.value),
+        None => match base.get(at) {
+            Some(body) => Bytes::from_slice(alloc, body),
+            None => Ok(Bytes::new(alloc)),
+        },
+    }
+}
+
+fn copy_of(alloc: Global, value: &Option<Bytes>) -> Result<Bytes, AllocError>
+    ensures { IfOk result (λ body. body ≡ body_of value.now) }
+{
+    match value {
+        Some(body) => body.try_clone(alloc),
+        None => Ok(Bytes::new(alloc)),
     }
 }

@@ -2,3 +2,4 @@ pub mod Distinct
 pub mod Entries
 pub mod Replaces
 pub mod Kept
+pub mod Reasons

@@ -1,6 +1,7 @@
 -- The next action of the IntegerKey family, version 1.0, by the payload and the replies so far.
-use Rattle.std.specs.Prelude.{◌≡◌, ℕ, List, [], ◌∷◌, map, drop, Option, Some, None, Result, Ok, Err, codes}
+use Rattle.std.specs.Prelude.{◌≡◌, ℕ, true, List, [], ◌∷◌, map, drop, Option, Some, None, Result, Ok, Err, codes}
 use Rattle.sha2.specs.Sha512.{sha512}
+use Rattle.saw_messages.specs.Reasons.{has_own_reason}
 use Rattle.saw_messages.specs.declared.outcome.Reason.TheVariants.{Family}
 use Rattle.saw_messages.specs.declared.talk.Action.{Action}
 use Rattle.saw_messages.specs.declared.talk.Action.TheVariants as actions
@@ -69,3 +70,7 @@ next payload turns = next_after payload (map (λ turn. turn.reply) turns)
 -- the action depends on the payload and the replies alone
 abbrev pub RepliesDecide : Type 0
 RepliesDecide = (payload : List ℕ) (turns others : List Turn) → map (λ turn. turn.reply) turns ≡ map (λ turn. turn.reply) others → next payload turns ≡ next payload others
+
+-- a refusal is by a number of the family, above 100
+abbrev pub ReasonsAreOwn : Type 0
+ReasonsAreOwn = (payload : List ℕ) (turns : List Turn) → has_own_reason (next payload turns) ≡ true

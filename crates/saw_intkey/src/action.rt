@@ -4,7 +4,7 @@ ghost use Rattle.std.specs.Prelude.{◌≡◌, ◌&&◌, ◌∷◌, [], length, 
 ghost use Rattle.std.specs.Str.{bytes_eq};
 ghost use Rattle.saw_messages.specs.declared.talk.Action.TheVariants as actions;
 ghost use Rattle.saw_messages.specs.declared.talk.Place.TheVariants.{At};
-ghost use Rattle.saw_intkey.specs.Actions.{RepliesDecide, address_of, after_get, after_set, asked, changed_in, changing, family_name, family_version, invalid, next};
+ghost use Rattle.saw_intkey.specs.Actions.{RepliesDecide, ReasonsAreOwn, address_of, after_get, after_set, asked, changed_in, changing, family_name, family_version, invalid, next};
 ghost use Rattle.saw_intkey.specs.Payloads.{payload_of};
 ghost use Rattle.saw_intkey.specs.States.{names_of};
 
@@ -144,4 +144,9 @@ fn after_set(reply: &Reply) -> Action
 /// The action depends on the payload and the replies alone.
 pub fn replies_decide()
     ensures { RepliesDecide }
+{}
+
+/// A refusal is by a number of the family.
+pub fn reasons_are_own()
+    ensures { ReasonsAreOwn }
 {}

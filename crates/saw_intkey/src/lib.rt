@@ -6,4 +6,4 @@ mod item;
 mod payload;
 mod state;
 
-pub use action::{address_of, replies_decide, serves, step};
+pub use action::{address_of, reasons_are_own, replies_decide, serves, step};

@@ -1,0 +1,4 @@
+pub mod TransactionsBack
+pub mod BatchesBack
+pub mod BlocksBack
+pub mod ReceiptsBack

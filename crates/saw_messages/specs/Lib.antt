@@ -3,3 +3,6 @@ pub mod Batches
 pub mod Blocks
 pub mod Receipts
 pub mod Shapes
+pub mod ReadBack
+pub mod Distinct
+pub mod Reasons

@@ -5,6 +5,7 @@ mod batch;
 mod block;
 mod decoding;
 mod encoding;
+mod laws;
 mod outcome;
 mod plain;
 mod receipt;
@@ -23,6 +24,9 @@ pub use encoding::{
     encode_batch, encode_batch_header, encode_batch_list, encode_block, encode_block_header,
     encode_event, encode_receipt, encode_state_change, encode_transaction,
     encode_transaction_header,
+};
+pub use laws::{
+    batches_are_read_back, blocks_are_read_back, receipts_are_read_back, transactions_are_read_back,
 };
 pub use outcome::{Change, Outcome, Reason};
 pub use plain::PlainBase;

@@ -1,6 +1,6 @@
 //! What a transaction did: its changes of the state and its events.
 
-ghost use Rattle.std.specs.Prelude.{◌≡◌};
+ghost use Rattle.std.specs.Prelude.{◌≡◌, IfOk};
 
 use saw_wire::{
     Bytes, Items, Message, MessageFault, Record, Text, keep_all_bytes, keep_bytes, keep_items,
@@ -135,11 +135,46 @@ impl Message for Event {
     }
 }
 
+impl Event {
+    /// A copy of the whole.
+    pub fn try_clone(&self, alloc: Global) -> Result<Self, AllocError>
+        ensures { IfOk result (λ made. made ≡ self.now) }
+    {
+        Ok(Event {
+            event_type: self.event_type.try_clone(alloc)?,
+            attributes: copy_attributes(alloc, self.attributes.as_slice())?,
+            body: self.body.try_clone(alloc)?,
+        })
+    }
+}
+
+fn copy_attributes(alloc: Global, attributes: &[Attribute]) -> Result<Items<Attribute>, AllocError>
+    ensures { IfOk result (λ made. made ≡ attributes.now) }
+{
+    let mut made = Items::new(alloc);
+    for attribute in attributes {
+        made.push(attribute.try_clone(alloc)?)?;
+    }
+    Ok(made)
+}
+
 /// A key and a value of an event.
 #[derive(Drop)]
 pub struct Attribute {
     pub key: Text,
     pub value: Text,
+}
+
+impl Attribute {
+    /// A copy of the whole.
+    pub fn try_clone(&self, alloc: Global) -> Result<Self, AllocError>
+        ensures { IfOk result (λ made. made ≡ self.now) }
+    {
+        Ok(Attribute {
+            key: self.key.try_clone(alloc)?,
+            value: self.value.try_clone(alloc)?,
+        })
+    }
 }
 
 impl Message for Attribute {

@@ -1,2 +1,8 @@
+pub mod Giving
+pub mod Recorded
 pub mod Talks
+pub mod Replays
+pub mod Conversed
+pub mod Finished
 pub mod Members
+pub mod Plain

@@ -1,67 +1,165 @@
--- How a conversation goes on and ends.
-use Rattle.std.proofs.Common.{◌≡◌, ℕ, zero, suc, ◌+◌, ◌-◌, ◌<◌, ◌≤◌, true, false, List, [], ◌∷◌, ◌++◌, refl, sym, ap, ◌∙◌, arith}
-use Rattle.std.specs.List.{filter_map}
-use Rattle.std.proofs.lemmas.List.{append-nil}
-use Rattle.std.proofs.lemmas.List.Elements.{filter_map-append}
+-- How a conversation with a station goes on and ends.
+use Rattle.std.proofs.Common.{◌≡◌, ◌⊎◌, inl, inr, ℕ, zero, suc, Bool, true, false, List, [], ◌∷◌, ◌++◌, map, Option, Some, None, refl, sym, ap, ◌∙◌}
+use Rattle.std.proofs.lemmas.Bool.{eq-eqb}
+use Rattle.std.proofs.lemmas.List.{length-map, map-append}
+use Rattle.std.specs.List.{AllByRecursion}
 use Rattle.saw_address.specs.Maps.{StateMap}
-use Rattle.saw_context.specs.Conversation.{Overlay, reply_to, own_after, events_after}
-use Rattle.saw_context.specs.Outcome.{Processors, Talk, after_request, decided, outcome_from, max_requests}
-use Rattle.saw_messages.specs.declared.outcome.Outcome.{Outcome}
-use Rattle.saw_messages.specs.declared.outcome.Outcome.TheVariants as outcomes
-use Rattle.saw_messages.specs.declared.outcome.Reason.TheVariants.{TooManyRequests}
+use Rattle.saw_messages.specs.Reasons.{has_own_reason}
+use Rattle.saw_messages.specs.Shapes.{TxShape}
+use Rattle.saw_messages.specs.declared.outcome.Change.{Change}
 use Rattle.saw_messages.specs.declared.receipt.Event.{Event}
 use Rattle.saw_messages.specs.declared.talk.Action.{Action}
 use Rattle.saw_messages.specs.declared.talk.Action.TheVariants as actions
+use Rattle.saw_messages.specs.declared.talk.Place.{Place}
 use Rattle.saw_messages.specs.declared.talk.Reply.{Reply}
+use Rattle.saw_messages.specs.declared.talk.Reply.TheVariants.{Entries, Done, Unauthorized}
 use Rattle.saw_messages.specs.declared.talk.Turn.{Turn}
-use Rattle.saw_messages.specs.Shapes.{TxShape}
-use Rattle.saw_station.specs.Requests.{is_request, event_in, events_of}
+use Rattle.saw_messages.specs.declared.transaction.TransactionHeader.{TransactionHeader}
+use Rattle.saw_context.specs.Access.{Access, access_after, map_of_access, no_access, reads_by}
+use Rattle.saw_context.specs.Conversation.{Asked, Overlay, asked_by, events_after, first_refused, own_after, places_of, reply_to, seen_place, unless_refused}
+use Rattle.saw_context.specs.Outcome.{Talk, after_request, changes_of, conversation, followed, is_request, max_requests}
+use Rattle.saw_context.specs.Results.{IsOf, IsOfBase, IsSeen, as_asked}
+use Rattle.saw_context.specs.Views.{Layers}
+use Rattle.saw_context.specs.declared.reads.Read.{Read}
+use Rattle.saw_context.proofs.Each.{all_append}
+use Rattle.saw_station.specs.Spoken.{Gives, IsSpoken}
+use Rattle.saw_station.specs.Steps.{Step, Follows, IsOfLast, KeepsStep, fits}
+use Rattle.saw_station.proofs.Giving.{gives_none, gives_push, gives_front, gives_last}
+use Rattle.saw_station.proofs.Recorded.{asked_is, reads_of_map, reads_seen, reads_of_base}
 
--- a conversation with these turns and own changes
-abbrev pub talk_of : List Turn → Overlay → Talk
-talk_of turns own = record { turns = turns; own = own; events = events_of turns }
+-- ---- steps of a station
 
-pub events_of-push : (turns : List Turn) (action : Action) (reply : Reply) → is_request action ≡ true → events_of (turns ++ record { action = action; reply = reply } ∷ []) ≡ events_after (events_of turns) action
-events_of-push turns (actions.Get places) reply is = filter_map-append (λ turn. event_in turn.action) turns _ ∙ append-nil (events_of turns)
-events_of-push turns (actions.Set entries) reply is = filter_map-append (λ turn. event_in turn.action) turns _ ∙ append-nil (events_of turns)
-events_of-push turns (actions.Delete places) reply is = filter_map-append (λ turn. event_in turn.action) turns _ ∙ append-nil (events_of turns)
-events_of-push turns (actions.AddEvent event) reply is = filter_map-append (λ turn. event_in turn.action) turns _
-events_of-push turns actions.Ok reply is = absurd cc
-events_of-push turns (actions.Invalid reason) reply is = absurd cc
+fits_unless : (places : List Place) (bodies : List (List ℕ)) (refused : Option ℕ) → fits (actions.Get places) (Entries bodies) ≡ true → fits (actions.Get places) (unless_refused refused Unauthorized (Entries bodies)) ≡ true
+fits_unless places bodies None h = h
+fits_unless places bodies (Some index) h = refl
 
--- a request decides nothing
-request_decides : (talk : Talk) (action : Action) (others : Outcome) → is_request action ≡ true → decided talk action others ≡ others
-request_decides talk (actions.Get places) others is = refl
-request_decides talk (actions.Set entries) others is = refl
-request_decides talk (actions.Delete places) others is = refl
-request_decides talk (actions.AddEvent event) others is = refl
-request_decides talk actions.Ok others is = absurd cc
-request_decides talk (actions.Invalid reason) others is = absurd cc
+module _ (fit : Reply → Bool) (done : fit Done ≡ true) (refuse : (index : ℕ) → fit (Unauthorized index) ≡ true) where
+  fits_done : (refused : Option ℕ) → fit (unless_refused refused Unauthorized Done) ≡ true
+  fits_done None = done
+  fits_done (Some index) = refuse index
 
--- an end decides, whatever would follow
-end_decides : (talk : Talk) (action : Action) (others more : Outcome) → is_request action ≡ false → decided talk action others ≡ decided talk action more
-end_decides talk (actions.Get places) others more is = absurd cc
-end_decides talk (actions.Set entries) others more is = absurd cc
-end_decides talk (actions.Delete places) others more is = absurd cc
-end_decides talk (actions.AddEvent event) others more is = absurd cc
-end_decides talk actions.Ok others more is = refl
-end_decides talk (actions.Invalid reason) others more is = refl
+-- the reply to a request fits it
+pub reply_fits : (header : TransactionHeader) (m : StateMap) (own : Overlay) (action : Action) → is_request action ≡ true → fits action (reply_to header m own action) ≡ true
+reply_fits header m own (actions.Get places) is =
+    fits_unless places (map (seen_place m own) places) (first_refused header.inputs places) (eq-eqb _ _ (length-map places (seen_place m own)))
+reply_fits header m own (actions.Set entries) is = fits_done (fits (actions.Set entries)) refl (λ index. refl) (first_refused header.outputs (places_of entries))
+reply_fits header m own (actions.Delete places) is = fits_done (fits (actions.Delete places)) refl (λ index. refl) (first_refused header.outputs places)
+reply_fits header m own (actions.AddEvent event) is = refl
+reply_fits header m own actions.Ok is = absurd cc
+reply_fits header m own (actions.Invalid reason) is = absurd cc
 
-module _ (processors : Processors) (tx : TxShape) (m : StateMap) (turns : List Turn) (own : Overlay) (action : Action) (next : action ≡ processors.next tx turns) where
+-- the turns that a station kept, with one more
+pub follows_kept : (last : Option Step) (tx : TxShape) (turns : List Turn) (action : Action) (reply : Reply) → KeepsStep last tx turns action → fits action reply ≡ true
+    → Follows last tx (turns ++ record { action = action; reply = reply } ∷ [])
+follows_kept last tx turns action reply (inl none) fit = rw none tt
+follows_kept last tx turns action reply (inr some) fit = rw some (refl, (reply, fit, refl))
+
+pub is_of_kept : (last : Option Step) (tx : TxShape) (turns : List Turn) (action : Action) → KeepsStep last tx turns action → IsOfLast last tx turns
+is_of_kept last tx turns action (inl none) = rw none tt
+is_of_kept last tx turns action (inr some) = rw some (refl, refl)
+
+-- ---- the conversation so far
+
+-- a conversation with these turns, over a context
+abbrev pub talk_of : List Turn → Access → Talk
+talk_of turns access = record { turns = turns; own = access.own; events = access.events; asked = map as_asked access.reads }
+
+-- the turns after one more request
+abbrev pub more_turns : List Turn → Access → Action → List Turn
+more_turns turns access action = turns ++ record { action = action; reply = reply_to access.header (map_of_access access) access.own action } ∷ []
+
+asked_more : (access : Access) (action : Action) → map as_asked (access.reads ++ reads_by access action) ≡ map as_asked access.reads ++ asked_by access.header access.own action
+asked_more access action = map-append as_asked access.reads (reads_by access action) ∙ ap (λ more. map as_asked access.reads ++ more) (asked_is access action)
+
+after_is : (f : List Turn → Action) (turns : List Turn) (access : Access) (action : Action)
+    → after_request f access.header (map_of_access access) (talk_of turns access) action ≡ talk_of (more_turns turns access action) (access_after access action)
+after_is f turns access action =
+    ap (λ (asked : List Asked). record {
+      turns = more_turns turns access action;
+      own = own_after access.header access.own action;
+      events = events_after access.events action;
+      asked = asked;
+    })
+    (sym (asked_more access action))
+
+module _ (f : List Turn → Action) (turns : List Turn) (access : Access) (action : Action) (is : f turns ≡ action) where
   -- one more request, of which so many more are answered
-  pub goes_on : (left more : ℕ) (reply : Reply) (after : Overlay) → left ≡ suc more → is_request action ≡ true → reply ≡ reply_to tx.header m own action → after ≡ own_after tx.header own action
-      → outcome_from processors tx m left (talk_of turns own) ≡ outcome_from processors tx m more (talk_of (turns ++ record { action = action; reply = reply } ∷ []) after)
-  unfolding outcome_from
-  goes_on left more reply after count is told changed =
-      rw (count, ← next, request_decides (talk_of turns own) action (outcome_from processors tx m more (after_request tx m (talk_of turns own) action)) is, events_of-push turns action reply is, told, changed) refl
+  goes_on : (left more : ℕ) → left ≡ suc more → is_request action ≡ true
+      → followed f access.header (map_of_access access) left (talk_of turns access) ≡ followed f access.header (map_of_access access) more (talk_of (more_turns turns access action) (access_after access action))
+  unfolding followed
+  goes_on left more count asks = rw (count, is, asks) (ap (followed f access.header (map_of_access access) more) (after_is f turns access action))
 
   -- an end, however many requests would be answered
-  pub ends : (left : ℕ) → is_request action ≡ false → outcome_from processors tx m left (talk_of turns own) ≡ decided (talk_of turns own) action (outcomes.Invalid TooManyRequests)
-  unfolding outcome_from
-  ends zero is = rw (← next) refl
-  ends (suc more) is = rw (← next) (end_decides (talk_of turns own) action _ (outcomes.Invalid TooManyRequests) is)
+  ends : (left : ℕ) → is_request action ≡ false → followed f access.header (map_of_access access) left (talk_of turns access) ≡ talk_of turns access
+  unfolding followed
+  ends zero asks = refl
+  ends (suc more) asks = rw (is, asks) refl
 
-  -- no more requests are answered
-  pub one_too_many : (left : ℕ) → left ≡ 0 → outcome_from processors tx m left (talk_of turns own) ≡ decided (talk_of turns own) action (outcomes.Invalid TooManyRequests)
-  unfolding outcome_from
-  one_too_many left none = rw (none, ← next) refl
+-- no more requests are answered
+stops : (f : List Turn → Action) (header : TransactionHeader) (m : StateMap) (left : ℕ) (talk : Talk) → left ≡ 0 → followed f header m left talk ≡ talk
+unfolding followed
+stops f header m left talk none = rw none refl
+
+-- So far these turns were spoken, over a context that came of them, and so many more requests are answered.
+pub record IsSoFar (tells : Bool) (next : List Turn → Action) (header : TransactionHeader) (base : StateMap) (layers : Layers) (left : ℕ) (turns : List Turn) (access : Access) : Type 0 where
+  pub header_is : access.header ≡ header
+  pub base_is : access.base ≡ base
+  pub layers_is : access.layers ≡ layers
+  pub spoken : (f : List Turn → Action) → Gives f turns
+      → conversation f access.header (map_of_access access) ≡ followed f access.header (map_of_access access) left (talk_of turns access)
+  pub told : tells ≡ true → Gives next turns
+  pub reasons : AllByRecursion (λ turn. has_own_reason turn.action ≡ true) turns
+  pub of_map : AllByRecursion (IsOf (map_of_access access)) access.reads
+  pub seen : AllByRecursion (IsSeen access.layers) access.reads
+  pub of_base : AllByRecursion (IsOfBase access.base) access.reads
+
+module _ (tells : Bool) (next : List Turn → Action) (header : TransactionHeader) (base : StateMap) (layers : Layers) where
+  pub none_so_far : (access : Access) → access ≡ no_access header base layers → IsSoFar tells next header base layers max_requests [] access
+  none_so_far access is = rw is (record {
+    header_is = refl;
+    base_is = refl;
+    layers_is = refl;
+    spoken = λ f gives. refl;
+    told = λ _. gives_none next;
+    reasons = tt;
+    of_map = tt;
+    seen = tt;
+    of_base = tt;
+  })
+
+  module _ (turns : List Turn) (access : Access) (action : Action) (own : has_own_reason action ≡ true) (told : tells ≡ true → action ≡ next turns) where
+    -- one more request is answered
+    pub one_more : (left more : ℕ) → left ≡ suc more → is_request action ≡ true → IsSoFar tells next header base layers left turns access
+        → IsSoFar tells next header base layers more (more_turns turns access action) (access_after access action)
+    one_more left more count asks so_far = record {
+      header_is = so_far.header_is;
+      base_is = so_far.base_is;
+      layers_is = so_far.layers_is;
+      spoken = λ f gives. so_far.spoken f (gives_front f turns _ gives) ∙ goes_on f turns access action (gives_last f turns _ gives) left more count asks;
+      told = λ tell. gives_push next turns _ (so_far.told tell) (sym (told tell));
+      reasons = all_append _ turns _ so_far.reasons (own, tt);
+      of_map = all_append _ access.reads _ so_far.of_map (reads_of_map access action);
+      seen = all_append _ access.reads _ so_far.seen (reads_seen access action);
+      of_base = all_append _ access.reads _ so_far.of_base (reads_of_base access action);
+    }
+
+    -- the conversation ends, or went past its last request
+    pub last_of : (left : ℕ) → (is_request action ≡ false) ⊎ (left ≡ 0) → (f : List Turn → Action) → f turns ≡ action
+        → followed f access.header (map_of_access access) left (talk_of turns access) ≡ talk_of turns access
+    last_of left (inl asks) f is = ends f turns access action is left asks
+    last_of left (inr none) f is = stops f access.header (map_of_access access) left (talk_of turns access) none
+
+    pub spoken_whole : (left : ℕ) (changes : List Change) (events : List Event) (reads : List Read) → (is_request action ≡ false) ⊎ (left ≡ 0) → IsSoFar tells next header base layers left turns access
+        → changes ≡ changes_of access.own → events ≡ access.events → reads ≡ access.reads → IsSpoken tells next header base layers turns action changes events reads
+    spoken_whole left changes events reads end so_far changed added recorded = record {
+      own = access.own;
+      made = changed;
+      spoken = λ f gives is.
+          rw (← so_far.header_is, ← so_far.base_is, ← so_far.layers_is, added, recorded) (so_far.spoken f gives ∙ last_of left end f is);
+      told = λ tell. (so_far.told tell, sym (told tell));
+      reasons = so_far.reasons;
+      last_reason = own;
+      of_map = rw (recorded, ← so_far.base_is, ← so_far.layers_is) so_far.of_map;
+      seen = rw (recorded, ← so_far.layers_is) so_far.seen;
+      of_base = rw (recorded, ← so_far.base_is) so_far.of_base;
+    }

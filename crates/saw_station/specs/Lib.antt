@@ -1,3 +1,7 @@
-pub mod Requests
+pub mod Steps
+pub mod Serving
+pub mod Spoken
 pub mod Failures
-pub mod Builtin
+pub mod Answers
+pub mod Desks
+pub mod Results

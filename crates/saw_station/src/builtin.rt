@@ -1,37 +1,135 @@
-//! The built-in processors.
+//! The built-in processors, as stations.
 
-ghost use Rattle.std.specs.Prelude.{◌≡◌, false, IfOk};
-ghost use Rattle.saw_address.specs.Maps.{map_of};
-ghost use Rattle.saw_context.specs.Outcome.{outcome_of};
-ghost use Rattle.saw_messages.specs.Shapes.{shape_of};
-ghost use Rattle.saw_station.specs.Builtin.{built_in};
+ghost use Rattle.std.specs.Prelude.{◌≡◌, [], true, None, OnOk};
+ghost use Rattle.saw_intkey.specs.Actions as intkey;
+ghost use Rattle.saw_settings.specs.Actions as settings;
+ghost use Rattle.saw_xo.specs.Actions as xo;
 
-use crate::conversation::run;
-use crate::processor::Processor;
-use saw_messages::{Action, Outcome, PlainBase, Transcript, Tx};
-use std::alloc::{AllocError, Global};
+use crate::fault::StationFault;
+use crate::offer::Offer;
+use crate::station::Station;
+use saw_messages::{Action, Transcript, Tx};
+use std::alloc::Global;
 
-/// The families that every validator serves itself.
+/// IntegerKey.
 #[derive(Clone, Copy, Debug)]
-pub struct BuiltIn;
+pub(crate) struct IntKey;
 
-impl Processor for BuiltIn {
-    ghost next = { λ _. built_in.next };
+impl Station for IntKey {
+    ghost use Rattle.saw_intkey.proofs.Reasons.{next_own};
 
-    ghost serving = { λ _. built_in.serves };
+    ghost next = { λ tx turns. intkey.next tx.payload turns };
 
-    fn step(&self, alloc: Global, tx: &Tx, talk: &Transcript) -> Result<Action, AllocError> {
-        saw_intkey::step(alloc, tx, talk)
+    ghost tells = { true };
+
+    ghost faults = { λ _. 0 };
+
+    ghost begun = { λ _. true };
+
+    ghost last = { λ _. None };
+
+    ghost offered = { λ _. [] };
+
+    ghost own_reasons = { λ tx turns. next_own tx.payload turns };
+
+    // It has always begun.
+    fn begin(&mut self, _alloc: Global) -> Result<(), StationFault>
+        ensures { OnOk result (⊥ → ⊥) }
+    {
+        Ok(())
     }
 
-    fn serves(&self, family: &str, version: &str) -> bool {
-        saw_intkey::serves(family, version)
+    fn offers(&self) -> &[Offer] {
+        &[]
+    }
+
+    fn step(&mut self, alloc: Global, tx: &Tx, talk: &Transcript) -> Result<Action, StationFault> {
+        Ok(saw_intkey::step(alloc, tx, talk)?)
+    }
+
+    fn close(&mut self, _alloc: Global, _tx: &Tx, _talk: &Transcript) -> Result<(), StationFault> {
+        Ok(())
     }
 }
 
-/// What a transaction does to a map, where no dependency of it stands in a failed batch.
-pub fn run_plain(alloc: Global, tx: &Tx, map: &PlainBase) -> Result<Outcome, AllocError>
-    ensures { IfOk result (λ outcome. outcome ≡ outcome_of built_in (shape_of tx.now) (map_of map.now.map.entries) false) }
-{
-    run(alloc, &BuiltIn, tx, map, false)
+/// XO.
+#[derive(Clone, Copy, Debug)]
+pub(crate) struct Xo;
+
+impl Station for Xo {
+    ghost use Rattle.saw_xo.proofs.Reasons.{next_own};
+
+    ghost next = { λ tx turns. xo.next tx.header.signer_public_key tx.payload turns };
+
+    ghost tells = { true };
+
+    ghost faults = { λ _. 0 };
+
+    ghost begun = { λ _. true };
+
+    ghost last = { λ _. None };
+
+    ghost offered = { λ _. [] };
+
+    ghost own_reasons = { λ tx turns. next_own tx.header.signer_public_key tx.payload turns };
+
+    // It has always begun.
+    fn begin(&mut self, _alloc: Global) -> Result<(), StationFault>
+        ensures { OnOk result (⊥ → ⊥) }
+    {
+        Ok(())
+    }
+
+    fn offers(&self) -> &[Offer] {
+        &[]
+    }
+
+    fn step(&mut self, alloc: Global, tx: &Tx, talk: &Transcript) -> Result<Action, StationFault> {
+        Ok(saw_xo::step(alloc, tx, talk)?)
+    }
+
+    fn close(&mut self, _alloc: Global, _tx: &Tx, _talk: &Transcript) -> Result<(), StationFault> {
+        Ok(())
+    }
+}
+
+/// Settings.
+#[derive(Clone, Copy, Debug)]
+pub(crate) struct Settings;
+
+impl Station for Settings {
+    ghost use Rattle.saw_settings.proofs.Reasons.{next_own};
+
+    ghost next = { λ tx turns. settings.next tx.header.signer_public_key tx.payload turns };
+
+    ghost tells = { true };
+
+    ghost faults = { λ _. 0 };
+
+    ghost begun = { λ _. true };
+
+    ghost last = { λ _. None };
+
+    ghost offered = { λ _. [] };
+
+    ghost own_reasons = { λ tx turns. next_own tx.header.signer_public_key tx.payload turns };
+
+    // It has always begun.
+    fn begin(&mut self, _alloc: Global) -> Result<(), StationFault>
+        ensures { OnOk result (⊥ → ⊥) }
+    {
+        Ok(())
+    }
+
+    fn offers(&self) -> &[Offer] {
+        &[]
+    }
+
+    fn step(&mut self, alloc: Global, tx: &Tx, talk: &Transcript) -> Result<Action, StationFault> {
+        Ok(saw_settings::step(alloc, tx, talk)?)
+    }
+
+    fn close(&mut self, _alloc: Global, _tx: &Tx, _talk: &Transcript) -> Result<(), StationFault> {
+        Ok(())
+    }
 }

@@ -1,22 +1,31 @@
-//! The conversation of a transaction with its processor.
+//! The conversation of a transaction with a station.
 
-ghost use Rattle.std.specs.Prelude.{◌≡◌, IfOk};
-ghost use Rattle.saw_context.specs.Outcome.{decided, outcome_from, outcome_of, no_talk, max_requests};
+ghost use Rattle.std.specs.Prelude.{◌≡◌, ◌≤◌, true, IfOk, IsErrOf};
+ghost use Rattle.saw_context.specs.Access.{no_access};
+ghost use Rattle.saw_context.specs.Outcome.{changes_of, is_request};
+ghost use Rattle.saw_faults.specs.Counts.{Rose};
 ghost use Rattle.saw_messages.specs.Shapes.{shape_of};
-ghost use Rattle.saw_messages.specs.declared.outcome.Outcome.TheVariants as outcomes;
-ghost use Rattle.saw_messages.specs.declared.outcome.Reason.TheVariants.{TooManyRequests};
-ghost use Rattle.saw_station.specs.Requests.{is_request, event_in, events_of};
+ghost use Rattle.saw_station.specs.Spoken.{IsSpoken};
 
-use crate::processor::Processor;
-use crate::reply::reply_to;
+use crate::answer::answer;
+use crate::fault::StationFault;
+use crate::station::Station;
 use saw_address::Base;
-use saw_context::{Overlay, are_prefixes};
-use saw_messages::{Action, Event, Outcome, Reason, Transcript, Turn, Tx};
+use saw_context::{Changes, Context};
+use saw_messages::{Action, Transcript, Turn, Tx};
 use saw_wire::Items;
 use std::alloc::{AllocError, Global};
 
 /// How many requests of a transaction are answered.
 const MAX_REQUESTS: u32 = 1_000;
+
+/// What a conversation came to: its turns, the action behind them, and what was done.
+#[derive(Drop)]
+pub(crate) struct Spoken {
+    pub(crate) talk: Transcript,
+    pub(crate) last: Action,
+    pub(crate) done: Changes,
+}
 
 fn is_request(action: &Action) -> bool
     ensures { result ≡ is_request action.now }
@@ -27,104 +36,54 @@ fn is_request(action: &Action) -> bool
         Action::Delete(_) => true,
         Action::AddEvent(_) => true,
         Action::Ok => false,
-        Action::Invalid { .. } => false,
+        Action::Invalid { reason: _ } => false,
     }
 }
 
-fn event_in(turn: Turn) -> Option<Event>
-    ensures { result ≡ event_in turn.action }
-{
-    let Turn { action, reply: _ } = turn;
-    match action {
-        Action::AddEvent(event) => Some(event),
-        _ => None,
-    }
-}
-
-fn events_of(alloc: Global, talk: Transcript) -> Result<Items<Event>, AllocError>
-    ensures { IfOk result (λ events. events ≡ events_of talk.turns) }
-{
-    let mut events = Items::new(alloc);
-    for turn in talk.turns.into_vec() {
-        if let Some(event) = event_in(turn) {
-            events.push(event)?;
-        }
-    }
-    Ok(events)
-}
-
-/// The outcome that the last action decides; one more request is one too many.
-fn ended(
+/// Follows a conversation to its end, or past its last request.
+pub(crate) fn converse<S: Station, B: Base>(
     alloc: Global,
-    talk: Transcript,
-    own: Overlay,
-    action: Action,
-) -> Result<Outcome, AllocError>
-    ensures { IfOk result (λ outcome. outcome ≡ decided (record { turns = talk.turns; own = own; events = events_of talk.turns }) action (outcomes.Invalid TooManyRequests)) }
-{
-    match action {
-        Action::Ok => {
-            let changes = own.into_changes(alloc)?;
-            let events = events_of(alloc, talk)?;
-            Ok(Outcome::Ok { changes, events })
-        }
-        Action::Invalid { reason } => Ok(Outcome::Invalid { reason }),
-        _ => Ok(Outcome::Invalid {
-            reason: Reason::TooManyRequests,
-        }),
-    }
-}
-
-/// Follows the conversation to its end.
-fn converse<P: Processor, B: Base>(
-    alloc: Global,
-    processor: &P,
+    station: &mut S,
     tx: &Tx,
-    base: &B,
-) -> Result<Outcome, AllocError>
-    ensures { IfOk result (λ outcome. outcome ≡ outcome_from (record { next = P.next processor.now; serves = P.serving processor.now }) (shape_of tx.now) (B.entry base.now) max_requests no_talk) }
+    mut context: Context<'_, B>,
+) -> Result<Spoken, StationFault>
+    requires begun { S.begun station.old ≡ true }
+    requires fresh { context ≡ no_access tx.now.header context.base context.layers }
+    ensures spoken { IfOk result (λ spoken. IsSpoken S.tells (S.next (shape_of tx.now)) tx.now.header context.entry.base context.entry.layers
+        spoken.talk.turns spoken.last spoken.done.changes spoken.done.events spoken.done.reads) }
+    ensures begun { S.begun station.new ≡ true }
+    ensures offers { S.offered station.new ≡ S.offered station.old }
+    ensures later { S.faults station.old ≤ S.faults station.new }
+    ensures cause { IsErrOf result StationFault.PeerFailed → Rose (S.faults station.old) (S.faults station.new) }
 {
     let mut talk = Transcript {
         turns: Items::new(alloc),
     };
-    let mut own = Overlay::new(alloc);
     'requests: for _ in 0..MAX_REQUESTS {
-        let action = processor.step(alloc, tx, &talk)?;
+        let action = station.step(alloc, tx, &talk)?;
         if !is_request(&action) {
-            return ended(alloc, talk, own, action);
+            return Ok(ended(context, talk, action)?);
         }
-        let reply = reply_to(alloc, &tx.header, base, &mut own, &action)?;
+        let reply = answer(alloc, &mut context, &action)?;
         talk.turns.push(Turn { action, reply })?;
     }
-    let action = processor.step(alloc, tx, &talk)?;
-    ended(alloc, talk, own, action)
+    let action = station.step(alloc, tx, &talk)?;
+    if is_request(&action) {
+        station.close(alloc, tx, &talk)?;
+    }
+    Ok(ended(context, talk, action)?)
 }
 
-/// What a transaction does to the base's map. `failed`: a dependency of it stands in a failed batch.
-pub(crate) fn run<P: Processor, B: Base>(
-    alloc: Global,
-    processor: &P,
-    tx: &Tx,
-    base: &B,
-    failed: bool,
-) -> Result<Outcome, AllocError>
-    ensures { IfOk result (λ outcome. outcome ≡ outcome_of (record { next = P.next processor.now; serves = P.serving processor.now }) (shape_of tx.now) (B.entry base.now) failed) }
+fn ended<B: Base>(
+    context: Context<'_, B>,
+    talk: Transcript,
+    last: Action,
+) -> Result<Spoken, AllocError>
+    ensures talk { IfOk result (λ spoken. (spoken.talk ≡ talk) × (spoken.last ≡ last)) }
+    ensures changes { IfOk result (λ spoken. spoken.done.changes ≡ changes_of context.entry.own) }
+    ensures events { IfOk result (λ spoken. spoken.done.events ≡ context.entry.events) }
+    ensures reads { IfOk result (λ spoken. spoken.done.reads ≡ context.entry.reads) }
 {
-    let header = &tx.header;
-    if !(are_prefixes(header.inputs.as_slice()) && are_prefixes(header.outputs.as_slice())) {
-        return Ok(Outcome::Invalid {
-            reason: Reason::BadDeclared,
-        });
-    }
-    if !processor.serves(header.family_name.as_str(), header.family_version.as_str()) {
-        return Ok(Outcome::Invalid {
-            reason: Reason::NoProcessor,
-        });
-    }
-    if failed {
-        return Ok(Outcome::Invalid {
-            reason: Reason::DependencyFailed,
-        });
-    }
-    converse(alloc, processor, tx, base)
+    let done = context.finish()?;
+    Ok(Spoken { talk, last, done })
 }

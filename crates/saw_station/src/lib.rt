@@ -1,12 +1,20 @@
-//! Runs transactions by conversation with their processor, and batches one after another.
+//! Runs transactions by conversation with their processors, and batches one after another.
 #![tactic(auto)]
 
+mod answer;
 mod batches;
 mod builtin;
 mod conversation;
-mod processor;
-mod reply;
+mod desk;
+mod fault;
+mod offer;
+mod run;
+mod serving;
+mod station;
 
 pub use batches::{BatchFailure, Failure, run_batch, run_batches};
-pub use builtin::{BuiltIn, run_plain};
-pub use processor::Processor;
+pub use desk::Desk;
+pub use fault::StationFault;
+pub use offer::Offer;
+pub use run::run_one;
+pub use station::{NoStation, Station};

@@ -1,10 +1,11 @@
-//! Sources, sinks and frames.
+//! Sources, sinks, frames and shelves.
 
-use saw_faults::{rise_is_kept, rise_is_seen};
 use saw_io::{
-    FrameFault, MemorySink, MemorySource, Sink, SinkFault, Source, StdSink, StdSource,
-    cuts_do_not_show, fill, framed_is_read, read_frame, write_all,
+    DirShelf, FrameFault, MemoryShelf, MemorySink, MemorySource, Shelf, ShelfFault, Sink,
+    SinkFault, Source, StdSink, StdSource, fill, read_frame, write_all,
 };
+use saw_wire::Text;
+use std::collections::BTreeMap;
 use std::test::Fail;
 
 const BYTES: [u8; 9] = [0, 0, 0, 2, 104, 105, 0, 0, 0];
@@ -34,10 +35,6 @@ fn frames_are_read_until_the_source_ends(rt: HostRuntime) -> Result<(), Fail> {
         read_frame(alloc, &mut cut, 2),
         Err(FrameFault::Truncated { have: 1, want: 2 })
     );
-    rise_is_kept();
-    rise_is_seen();
-    framed_is_read();
-    cuts_do_not_show();
     Ok(())
 }
 
@@ -73,5 +70,39 @@ fn a_writer_of_std_is_a_sink(rt: HostRuntime) -> Result<(), Fail> {
     // A write that takes nothing is a fault.
     assert_eq!(rt; sink.write(b"d"), Err(SinkFault::Failed));
     assert_eq!(rt; sink.write(b""), Ok(0));
+    Ok(())
+}
+
+#[test]
+fn a_shelf_in_memory_gives_whole_files(rt: HostRuntime) -> Result<(), Fail> {
+    let alloc = rt.alloc();
+    let mut files = BTreeMap::new(alloc);
+    let _ = files.insert(Text::from_str(alloc, "a")?, b"hi".to_vec(alloc)?)?;
+    let mut shelf = MemoryShelf::new(files, vec![in alloc; 1]?);
+    assert_eq!(rt; shelf.fetch(alloc, "a", 2)?.as_slice(), b"hi".as_slice());
+    let faults = [
+        ("a", 2, ShelfFault::Failed),
+        ("a", 1, ShelfFault::TooLong),
+        ("A", 2, ShelfFault::Missing),
+    ];
+    for (name, limit, fault) in faults {
+        assert_eq!(rt; shelf.fetch(alloc, name, limit).err(), Some(fault));
+    }
+    Ok(())
+}
+
+#[test]
+fn a_shelf_of_the_system_tells_what_is_wrong(rt: HostRuntime) -> Result<(), Fail> {
+    let mut shelf = DirShelf::new(&rt);
+    assert!(rt; shelf.fetch(rt.alloc(), "/dev/null", 0)?.is_empty());
+    // A folder is opened and not read.
+    let faults = [
+        ("no_such_file", ShelfFault::Missing),
+        ("/dev/zero", ShelfFault::TooLong),
+        ("/", ShelfFault::Failed),
+    ];
+    for (name, fault) in faults {
+        assert_eq!(rt; shelf.fetch(rt.alloc(), name, 2).err(), Some(fault));
+    }
     Ok(())
 }

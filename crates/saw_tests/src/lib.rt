@@ -4,10 +4,20 @@
 #[cfg(test)]
 mod cbor;
 #[cfg(test)]
+mod context;
+#[cfg(test)]
 mod ends;
+#[cfg(test)]
+mod families;
+#[cfg(test)]
+mod laws;
 #[cfg(test)]
 mod messages;
 #[cfg(test)]
 mod runs;
 #[cfg(test)]
+mod settings;
+#[cfg(test)]
 mod state;
+#[cfg(test)]
+mod verify;

@@ -1,10 +1,7 @@
 //! Records and messages.
 
 use saw_messages::*;
-use saw_wire::{
-    Bytes, Items, Text, Value, one_spelling, put_bytes, put_item, put_number, put_text, records,
-    written_is_read, written_is_spelled,
-};
+use saw_wire::{Bytes, Items, Text, Value, put_bytes, put_item, put_number, put_text, records};
 use std::alloc::Global;
 use std::test::Fail;
 
@@ -18,9 +15,6 @@ fn a_setting_is_one_record(rt: HostRuntime) -> Result<(), Fail> {
         assert_eq!(rt; one.value, Value::Span { from: 2, to: 8 });
     }
     assert_eq!(rt; records(rt.alloc(), b"")?.len(), 0);
-    one_spelling();
-    written_is_spelled();
-    written_is_read();
     Ok(())
 }
 

@@ -1,10 +1,11 @@
 //! Addresses, CBOR, state nodes and the integer family.
 
 use saw_address::{
-    Address, Prefix, is_hex_text, is_prefix_text, sha256_hex, sha512_hex, sha512_hex64,
+    Address, Prefix, are_hex_digits, is_hex_text, is_prefix_text, sha256_hex, sha512_hex,
+    sha512_hex64,
 };
 use saw_intkey::{address_of, serves};
-use saw_node::{empty_root, root_of};
+use saw_node::{NodeHash, OneByte, empty_root, root_by, root_of};
 use saw_wire::Bytes;
 use std::collections::BTreeMap;
 use std::test::Fail;
@@ -28,11 +29,12 @@ fn an_address_is_read_and_written(rt: HostRuntime) -> Result<(), Fail> {
     let address = Address::parse(ADDRESS).ok_or("an address")?;
     assert_eq!(rt; address.to_hex().as_slice(), ADDRESS.as_bytes());
     assert!(rt; Address::parse("1cf126").is_none());
-    assert!(rt; is_hex_text(70, ADDRESS));
+    assert!(rt; is_hex_text(70, ADDRESS) && are_hex_digits(ADDRESS.as_bytes()));
     let family = Prefix::parse("1cf126").ok_or("a prefix")?;
     let all = Prefix::parse("").ok_or("a prefix")?;
     assert!(rt; is_prefix_text("1cf126"));
     assert!(rt; Prefix::parse("1cf12").is_none());
+    assert_eq!(rt; family.as_slice(), &address.as_slice()[..3]);
     assert!(rt; family.covers(&address));
     assert!(rt; family.overlaps(&all));
     Ok(())
@@ -59,6 +61,27 @@ fn a_node_is_read_and_written(rt: HostRuntime) -> Result<(), Fail> {
     Ok(())
 }
 
+// {"c": {"ab": "1010..10"}, "v": null}
+#[test]
+fn a_child_is_two_texts_of_digits(rt: HostRuntime) -> Result<(), Fail> {
+    let alloc = rt.alloc();
+    let hash = NodeHash::new([0x10; 32]);
+    let mut bytes = b"\xa2\x61c\xa1\x62ab\x78\x40".to_vec(alloc)?;
+    bytes.extend_from_slice(&hash.to_hex())?;
+    bytes.extend_from_slice(b"\x61v\xf6")?;
+    assert_eq!(rt; bytes.len(), 76);
+    let node = saw_node::decode(alloc, &bytes)?.ok_or("a node")?;
+    assert!(rt; node.value.is_none() && node.children.len() == 1);
+    for child in node.children.as_slice() {
+        assert!(rt; child.byte == 0xab && child.hash == hash);
+    }
+    assert_eq!(rt;
+        saw_node::encode(alloc, &node)?.as_slice(),
+        bytes.as_slice()
+    );
+    Ok(())
+}
+
 #[test]
 fn a_root_is_that_of_its_map(rt: HostRuntime) -> Result<(), Fail> {
     let alloc = rt.alloc();
@@ -70,6 +93,9 @@ fn a_root_is_that_of_its_map(rt: HostRuntime) -> Result<(), Fail> {
         root_of(alloc, &map)?.to_hex().as_slice(),
         digits.as_slice()
     );
+    let mut one = [0; 32];
+    one[0] = 0x70;
+    assert_eq!(rt; root_by::<OneByte>(alloc, &map)?.as_slice(), one.as_slice());
     let _ = map.insert(address_of("a"), Bytes::new(alloc))?;
     assert!(rt; root_of(alloc, &map)? != empty_root());
     Ok(())

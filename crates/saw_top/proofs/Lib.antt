@@ -3,3 +3,5 @@ pub mod Streams
 pub mod Standings
 pub mod Checked
 pub mod Twice
+pub mod Wholes
+pub mod Listings

@@ -8,14 +8,14 @@ use Rattle.std.proofs.lemmas.List.{append-nil, length-append, take-append-drop}
 use Rattle.saw_io.specs.Frame.{FrameGives, Takes}
 use Rattle.saw_io.specs.declared.fault.FrameFault.{FrameFault}
 use Rattle.saw_io.specs.declared.fault.FrameFault.TheVariants as frames
-use Rattle.saw_top.specs.Faults.{fault_of_frame, status_of}
+use Rattle.saw_top.specs.Faults.{fault_of_frame, fault_of_stream, status_of}
 use Rattle.saw_top.specs.Lines.{verdict_line, report}
 use Rattle.saw_top.specs.Progress.{progress_of}
 use Rattle.saw_top.specs.Run.{Answer, ending, ending_of, answer_to, apply_answer, report_of, TakesNext, IsPrompt, ShowsAll, ShowsFront, Shows}
 use Rattle.saw_top.specs.Stream.{Stream, no_frames, before, stream_from, stream_of, Reads}
 use Rattle.saw_top.specs.Verdicts.{verdict_of, verdicts}
-use Rattle.saw_top.specs.declared.fault.RunFault.{RunFault}
-use Rattle.saw_top.specs.declared.fault.RunFault.TheVariants.{Truncated, TooLong, Frames, Read, Write, Memory}
+use Rattle.saw_top.specs.declared.fault.StreamFault.{StreamFault}
+use Rattle.saw_top.specs.declared.fault.StreamFault.TheVariants.{Truncated, TooLong, Frames, Read, Write, Memory}
 use Rattle.saw_top.specs.declared.progress.Progress.{Progress}
 use Rattle.saw_top.specs.declared.stream.TheConstants.{MAX_LENGTH, MAX_FRAMES}
 use Rattle.saw_top.specs.declared.verdict.Verdict.{Verdict}
@@ -61,7 +61,7 @@ module _ (accepts : List ℕ → List ℕ → List ℕ → Bool) where
   answer_at bytes seen others is = ap (λ s. answer_to (verdicts accepts 0 s.frames) s.fault) is
 
   -- nothing but the ending is left
-  answer_last : (bytes : List ℕ) (seen : List (List ℕ)) (fault : Option RunFault) → stream_of bytes ≡ all_before seen (no_frames fault) → apply_answer accepts bytes ≡ answer_to (verdicts accepts 0 seen) fault
+  answer_last : (bytes : List ℕ) (seen : List (List ℕ)) (fault : Option StreamFault) → stream_of bytes ≡ all_before seen (no_frames fault) → apply_answer accepts bytes ≡ answer_to (verdicts accepts 0 seen) fault
   answer_last bytes seen fault is = answer_at bytes seen (no_frames fault) is ∙ ap (λ l. answer_to (verdicts accepts 0 l) fault) (append-nil seen)
 
   -- the lines of the frames so far, and then the others' and the ending
@@ -87,7 +87,7 @@ module _ (accepts : List ℕ → List ℕ → List ℕ → Bool) where
     prompt_cut next new part taken more = record { frames = at.frames; rest = at.rest; reads = at.reads; next = taken; part = part; written = Appends-trans old mid new (report_of accepts at.frames) part at.written more }
 
     -- a fault of the bytes themselves
-    shown_fault : (fault : RunFault) → stream_of bytes ≡ all_before at.frames (no_frames (Some fault)) → ((stream_of bytes).fault ≡ Some fault) × ShowsAll (apply_answer accepts bytes) old mid (status_of fault)
+    shown_fault : (fault : StreamFault) → stream_of bytes ≡ all_before at.frames (no_frames (Some fault)) → ((stream_of bytes).fault ≡ Some fault) × ShowsAll (apply_answer accepts bytes) old mid (status_of (fault_of_stream fault))
     shown_fault fault is =
         let whole = answer_last bytes at.frames (Some fault) is in
         let all : (apply_answer accepts bytes).output ≡ report_of accepts at.frames = ap (λ (a : Answer). a.output) whole ∙ append-nil (report_of accepts at.frames) in
@@ -121,7 +121,7 @@ module _ (accepts : List ℕ → List ℕ → List ℕ → Bool) where
     -- ---- a frame whose line could not be written
 
     module _ (next new : Option (List ℕ)) (content : Vec ℕ) (below : place < MAX_FRAMES) (told : FrameGives MAX_LENGTH now next (Ok (Some content))) where
-      pub line_cut : (e : RunFault) (n : ℕ) → (e ≡ Write) ⊎ (e ≡ Memory) → Appends mid new (take n (verdict_line place (verdict_of accepts place content.items))) → Shows accepts bytes next old new (Err e)
+      pub line_cut : (e : StreamFault) (n : ℕ) → (e ≡ Write) ⊎ (e ≡ Memory) → Appends mid new (take n (verdict_line place (verdict_of accepts place content.items))) → Shows accepts bytes next old new (Err e)
       line_cut e n which cut =
           let read = rw at.left at told in
           let others = stream_from (MAX_FRAMES - length at.frames - 1) read.0 in
@@ -157,10 +157,10 @@ module _ (accepts : List ℕ → List ℕ → List ℕ → Bool) where
     -- ---- the end of the stream, and what `finish` did there
 
     module _ (next new : Option (List ℕ)) (is : stream_of bytes ≡ all_before at.frames (no_frames None)) (taken : TakesNext at.rest next) where
-      ended_answer : apply_answer accepts bytes ≡ record { output = report_of accepts at.frames ++ (ending progress).output; status = (ending progress).status }
-      ended_answer = answer_last bytes at.frames None is ∙ ap (λ p. record { output = report_of accepts at.frames ++ (ending p).output; status = (ending p).status }) (sym at.known)
+      ended_answer : apply_answer accepts bytes ≡ record { output = report_of accepts at.frames ++ (ending progress).output; notes = []; status = (ending progress).status }
+      ended_answer = answer_last bytes at.frames None is ∙ ap (λ p. record { output = report_of accepts at.frames ++ (ending p).output; notes = []; status = (ending p).status }) (sym at.known)
 
-      ended_cut : (e : RunFault) (n : ℕ) → (e ≡ Write) ⊎ (e ≡ Memory) → Appends mid new (take n (ending progress).output) → Shows accepts bytes next old new (Err e)
+      ended_cut : (e : StreamFault) (n : ℕ) → (e ≡ Write) ⊎ (e ≡ Memory) → Appends mid new (take n (ending progress).output) → Shows accepts bytes next old new (Err e)
       ended_cut e n which cut =
           let piece = (ending progress).output in
           let whole : (apply_answer accepts bytes).output ≡ report_of accepts at.frames ++ (piece ++ []) =
@@ -174,7 +174,7 @@ module _ (accepts : List ℕ → List ℕ → List ℕ → Bool) where
           let output : Appends old new (report_of accepts at.frames ++ (ending progress).output) = Appends-trans old mid new (report_of accepts at.frames) (ending progress).output at.written more in
           (ap (λ s. s.fault) is, record { output = subst (Appends old new) (sym (ap (λ (a : Answer). a.output) ended_answer)) output; code = code ∙ sym (ap (λ (a : Answer). a.status) ended_answer) })
 
-      pub ended : (result : Result ℕ RunFault) → IfOk result (λ status. Appends mid new (ending progress).output) → IfOk result (λ status. status ≡ (ending progress).status)
+      pub ended : (result : Result ℕ StreamFault) → IfOk result (λ status. Appends mid new (ending progress).output) → IfOk result (λ status. status ≡ (ending progress).status)
           → OnErr result ((n : ℕ) × Appends mid new (take n (ending progress).output)) → IfErr result (λ e. (e ≡ Write) ⊎ (e ≡ Memory)) → Shows accepts bytes next old new result
       ended (Ok status) more code cut which = ended_whole status more code
       ended (Err e) more code cut which = ended_cut e cut.0 which cut.1
@@ -187,7 +187,7 @@ module _ (accepts : List ℕ → List ℕ → List ℕ → Bool) where
     SoFar-read_fault None e at below told taken consumed takes = tt
     SoFar-read_fault (Some bytes) e at below told taken consumed takes = read_fault place bytes now old mid progress at next e below told taken consumed takes
 
-    pub SoFar-line_cut : (first new : Option (List ℕ)) (content : Vec ℕ) (e : RunFault) (n : ℕ) → SoFar place first now old mid progress → place < MAX_FRAMES → FrameGives MAX_LENGTH now next (Ok (Some content))
+    pub SoFar-line_cut : (first new : Option (List ℕ)) (content : Vec ℕ) (e : StreamFault) (n : ℕ) → SoFar place first now old mid progress → place < MAX_FRAMES → FrameGives MAX_LENGTH now next (Ok (Some content))
         → (e ≡ Write) ⊎ (e ≡ Memory) → Appends mid new (take n (verdict_line place (verdict_of accepts place content.items))) → IfSome first (λ bytes. Shows accepts bytes next old new (Err e))
     SoFar-line_cut None new content e n at below told which cut = tt
     SoFar-line_cut (Some bytes) new content e n at below told which cut = line_cut place bytes now old mid progress at next new content below told e n which cut
@@ -198,7 +198,7 @@ module _ (accepts : List ℕ → List ℕ → List ℕ → Bool) where
     SoFar-more None new content verdict after at below told is line adds = tt
     SoFar-more (Some bytes) new content verdict after at below told is line adds = line_written place bytes now old mid progress at next new content below told verdict after is line adds
 
-    pub SoFar-ended : (first new : Option (List ℕ)) (result : Result ℕ RunFault) → SoFar place first now old mid progress → place < MAX_FRAMES → FrameGives MAX_LENGTH now next (Ok None)
+    pub SoFar-ended : (first new : Option (List ℕ)) (result : Result ℕ StreamFault) → SoFar place first now old mid progress → place < MAX_FRAMES → FrameGives MAX_LENGTH now next (Ok None)
         → IfOk result (λ status. Appends mid new (ending progress).output) → IfOk result (λ status. status ≡ (ending progress).status)
         → OnErr result ((n : ℕ) × Appends mid new (take n (ending progress).output)) → IfErr result (λ e. (e ≡ Write) ⊎ (e ≡ Memory)) → IfSome first (λ bytes. Shows accepts bytes next old new result)
     SoFar-ended None new result at below told more code cut which = tt
@@ -216,7 +216,7 @@ module _ (accepts : List ℕ → List ℕ → List ℕ → Bool) where
     SoFar-too_many None at fits over some = tt
     SoFar-too_many (Some bytes) at fits over some = too_many place bytes now old mid progress at next fits over some
 
-    pub SoFar-full : (first new : Option (List ℕ)) (result : Result ℕ RunFault) → SoFar place first now old mid progress → place ≤ MAX_FRAMES → MAX_FRAMES ≤ place
+    pub SoFar-full : (first new : Option (List ℕ)) (result : Result ℕ StreamFault) → SoFar place first now old mid progress → place ≤ MAX_FRAMES → MAX_FRAMES ≤ place
         → IfSome now (λ left. true ≡ (length left == 0)) → (taken : List ℕ) → Consumes now next taken → length taken ≤ 1
         → IfOk result (λ status. Appends mid new (ending progress).output) → IfOk result (λ status. status ≡ (ending progress).status)
         → OnErr result ((n : ℕ) × Appends mid new (take n (ending progress).output)) → IfErr result (λ e. (e ≡ Write) ⊎ (e ≡ Memory)) → IfSome first (λ bytes. Shows accepts bytes next old new result)

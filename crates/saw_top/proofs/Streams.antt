@@ -8,8 +8,8 @@ use Rattle.saw_top.specs.Lines.{verdict_line, report}
 use Rattle.saw_top.specs.Run.{report_of}
 use Rattle.saw_top.specs.Stream.{Stream, no_frames, before, by_reading, stream_from, Reads}
 use Rattle.saw_top.specs.Verdicts.{verdict_of, verdicts}
-use Rattle.saw_top.specs.declared.fault.RunFault.{RunFault}
-use Rattle.saw_top.specs.declared.fault.RunFault.TheVariants.{Frames}
+use Rattle.saw_top.specs.declared.fault.StreamFault.{StreamFault}
+use Rattle.saw_top.specs.declared.fault.StreamFault.TheVariants.{Frames}
 use Rattle.saw_top.specs.declared.stream.TheConstants.{MAX_LENGTH}
 use Rattle.saw_top.specs.declared.verdict.Verdict.{Verdict}
 
@@ -104,7 +104,7 @@ module _ (max : ℕ) (frames : List (List ℕ)) (bytes rest : List ℕ) (reads :
     stream_too_many is = last ∙ ap (λ b. all_before frames (no_frames (cond b None (Some Frames)))) is
 
   -- some frames may begin still
-  pub stream_some : length frames ≤ max → (others : List (List ℕ)) × (fault : Option RunFault) × (stream_from max bytes ≡ all_before frames (record { frames = others; fault = fault }))
+  pub stream_some : length frames ≤ max → (others : List (List ℕ)) × (fault : Option StreamFault) × (stream_from max bytes ≡ all_before frames (record { frames = others; fault = fault }))
   stream_some fits =
       let more = stream_from (max - length frames) rest in
       (more.frames, more.fault, stands_behind (max - length frames) (omega arith))

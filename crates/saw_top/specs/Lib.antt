@@ -3,6 +3,9 @@ pub mod Parts
 pub mod Progress
 pub mod Lines
 pub mod Command
+pub mod Wishes
 pub mod Faults
+pub mod Notes
 pub mod Stream
 pub mod Run
+pub mod Answers

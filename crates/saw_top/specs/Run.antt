@@ -1,38 +1,46 @@
--- What a run answers to words and bytes, and what of it was written when the run ended early.
+-- What a run answers to a stream, and what of it was written when the run ended early.
 use Rattle.std.specs.Prelude.{◌≡◌, ◌⊎◌, ◌≤◌, ℕ, Bool, List, [], ◌++◌, length, Option, Some, None, Result, Ok, Err, if◌then◌else◌}
 use Rattle.std.specs.Io.KnownBytes.{Appends, Consumes}
 use Rattle.saw_io.specs.Frame.{frame_at, IsPart}
-use Rattle.saw_top.specs.Command.{command_of}
-use Rattle.saw_top.specs.Faults.{status_of}
+use Rattle.saw_top.specs.Faults.{fault_of_stream, status_of}
+use Rattle.saw_top.specs.Notes.{fault_line}
 use Rattle.saw_top.specs.Lines.{report, head_line}
 use Rattle.saw_top.specs.Progress.{progress_of}
 use Rattle.saw_top.specs.Stream.{stream_of, Reads}
 use Rattle.saw_top.specs.Verdicts.{verdicts}
-use Rattle.saw_top.specs.declared.command.Command.{Command}
-use Rattle.saw_top.specs.declared.command.Command.TheVariants.{Apply}
 use Rattle.saw_top.specs.declared.fault.RunFault.{RunFault}
-use Rattle.saw_top.specs.declared.fault.RunFault.TheVariants.{Truncated, TooLong, Frames, Read, Write, Memory}
+use Rattle.saw_top.specs.declared.fault.StreamFault.{StreamFault}
+use Rattle.saw_top.specs.declared.fault.StreamFault.TheVariants.{Truncated, TooLong, Frames, Read, Write, Memory}
 use Rattle.saw_top.specs.declared.progress.Progress.{Progress}
 use Rattle.saw_top.specs.declared.stream.TheConstants.{MAX_LENGTH}
 use Rattle.saw_top.specs.declared.verdict.Verdict.{Verdict}
 
--- what a run writes, and the status with which it ends
+-- what a run writes, what it tells on the notes, and the status with which it ends
 pub record Answer : Type 0 where
   pub output : List ℕ
+  pub notes : List ℕ
   pub status : ℕ
+
+-- nothing but the line of a fault
+abbrev pub faulty : RunFault → Answer
+faulty fault = record { output = []; notes = fault_line fault; status = status_of fault }
 
 -- what follows the lines of the blocks: the head's line, and whether a block was refused
 abbrev pub ending : Progress → Answer
-ending progress = record { output = head_line progress.head; status = if progress.refused then 1 else 0 }
+ending progress = record { output = head_line progress.head; notes = []; status = if progress.refused then 1 else 0 }
 
 -- what follows the lines of the blocks, by what stands behind the frames
-abbrev pub ending_of : List Verdict → Option RunFault → Answer
+abbrev pub ending_of : List Verdict → Option StreamFault → Answer
 ending_of judged None = ending (progress_of judged)
-ending_of judged (Some fault) = record { output = []; status = status_of fault }
+ending_of judged (Some fault) = faulty (fault_of_stream fault)
 
 -- a line for each block, and then the ending
-abbrev pub answer_to : List Verdict → Option RunFault → Answer
-answer_to judged fault = record { output = report 0 judged ++ (ending_of judged fault).output; status = (ending_of judged fault).status }
+abbrev pub answer_to : List Verdict → Option StreamFault → Answer
+answer_to judged fault = record {
+  output = report 0 judged ++ (ending_of judged fault).output;
+  notes = (ending_of judged fault).notes;
+  status = (ending_of judged fault).status;
+}
 
 -- of the rest at most what comes next was taken: a part of a frame, a length, or a whole frame or the end
 abbrev pub TakesNext : List ℕ → Option (List ℕ) → Type 0
@@ -43,14 +51,6 @@ module _ (accepts : List ℕ → List ℕ → List ℕ → Bool) where
   -- the answer of the command `apply`
   abbrev pub apply_answer : List ℕ → Answer
   apply_answer bytes = answer_to (verdicts accepts 0 (stream_of bytes).frames) (stream_of bytes).fault
-
-  abbrev pub answer_by : Option Command → List ℕ → Answer
-  answer_by None bytes = record { output = []; status = 2 }
-  answer_by (Some Apply) bytes = apply_answer bytes
-
-  -- the answer to words and a stream
-  abbrev pub answer_of : List (List ℕ) → List ℕ → Answer
-  answer_of words bytes = answer_by (command_of words) bytes
 
   -- what is written for whole frames
   abbrev pub report_of : List (List ℕ) → List ℕ
@@ -76,17 +76,17 @@ module _ (accepts : List ℕ → List ℕ → List ℕ → Bool) where
     pub part : List ℕ
     pub written : Appends old new (report_of frames ++ part)
 
--- all of the answer was written, and the run ended with its status
+-- all of the output was written, and the run ended with the answer's status
 pub record ShowsAll (answer : Answer) (old new : Option (List ℕ)) (status : ℕ) : Type 0 where
   pub output : Appends old new answer.output
   pub code : status ≡ answer.status
 
--- a front of the answer was written
+-- a front of the output was written
 abbrev pub ShowsFront : Answer → Option (List ℕ) → Option (List ℕ) → Type 0
 ShowsFront answer old new = (written : List ℕ) × (more : List ℕ) × (answer.output ≡ written ++ more) × Appends old new written
 
 -- what was written by the command `apply`, by how it ended
-abbrev pub Shows : (List ℕ → List ℕ → List ℕ → Bool) → List ℕ → Option (List ℕ) → Option (List ℕ) → Option (List ℕ) → Result ℕ RunFault → Type 0
+abbrev pub Shows : (List ℕ → List ℕ → List ℕ → Bool) → List ℕ → Option (List ℕ) → Option (List ℕ) → Option (List ℕ) → Result ℕ StreamFault → Type 0
 Shows accepts bytes left old new (Ok status) = ((stream_of bytes).fault ≡ None) × ShowsAll (apply_answer accepts bytes) old new status
 Shows accepts bytes left old new (Err (Truncated have want)) = ((stream_of bytes).fault ≡ Some (Truncated have want)) × ShowsAll (apply_answer accepts bytes) old new 3
 Shows accepts bytes left old new (Err (TooLong size)) = ((stream_of bytes).fault ≡ Some (TooLong size)) × ShowsAll (apply_answer accepts bytes) old new 3
@@ -94,11 +94,3 @@ Shows accepts bytes left old new (Err Frames) = ((stream_of bytes).fault ≡ Som
 Shows accepts bytes left old new (Err Read) = ShowsFront (apply_answer accepts bytes) old new × IsUpToDate accepts bytes left old new
 Shows accepts bytes left old new (Err Write) = ShowsFront (apply_answer accepts bytes) old new × IsPrompt accepts bytes left old new
 Shows accepts bytes left old new (Err Memory) = ShowsFront (apply_answer accepts bytes) old new × IsPrompt accepts bytes left old new
-
--- the statuses of a fault of the outside: of the input, of the output, of memory
-abbrev pub IsFault : ℕ → Type 0
-IsFault status = (status ≡ 4) ⊎ (status ≡ 5) ⊎ (status ≡ 7)
-
--- the statuses of whole answers to `apply`
-abbrev pub IsWhole : ℕ → Type 0
-IsWhole status = (status ≡ 0) ⊎ (status ≡ 1) ⊎ (status ≡ 3)

@@ -2,16 +2,16 @@
 use Rattle.std.specs.Prelude.{◌≡◌, ℕ, zero, suc, List, [], ◌∷◌, length, Option, Some, None, Ok, Err, ◌==◌, if◌then◌else◌}
 use Rattle.saw_io.specs.Frame.{Reading, frame_at}
 use Rattle.saw_top.specs.Faults.{fault_of_frame}
-use Rattle.saw_top.specs.declared.fault.RunFault.{RunFault}
-use Rattle.saw_top.specs.declared.fault.RunFault.TheVariants.{Frames}
+use Rattle.saw_top.specs.declared.fault.StreamFault.{StreamFault}
+use Rattle.saw_top.specs.declared.fault.StreamFault.TheVariants.{Frames}
 use Rattle.saw_top.specs.declared.stream.TheConstants.{MAX_LENGTH, MAX_FRAMES}
 
 -- the contents of the whole frames, and what stands behind them: nothing, or what is no frame
 pub record Stream : Type 0 where
   pub frames : List (List ℕ)
-  pub fault : Option RunFault
+  pub fault : Option StreamFault
 
-abbrev pub no_frames : Option RunFault → Stream
+abbrev pub no_frames : Option StreamFault → Stream
 no_frames fault = record { frames = []; fault = fault }
 
 -- one more frame before the others

@@ -1,15 +1,15 @@
 -- What is said of each block of a stream.
-use Rattle.std.specs.Prelude.{ℕ, ◌+◌, Bool, false, ◌&&◌, ◌||◌, not, List, [], ◌∷◌, ◌++◌, length, map, Option, Some, None, Result, Ok, Err, sum_by, ◌==◌, if◌then◌else◌, codes}
-use Rattle.std.specs.List.{list_all, list_any, flat_map}
+use Rattle.std.specs.Prelude.{ℕ, ◌+◌, Bool, ◌&&◌, not, List, [], ◌∷◌, ◌++◌, length, map, Option, Some, None, Result, Ok, Err, sum_by, ◌==◌, if◌then◌else◌, codes}
+use Rattle.std.specs.List.{list_all, flat_map}
 use Rattle.std.specs.Str.{bytes_eq}
 use Rattle.hex.specs.Hex.{encode_lower}
 use Rattle.saw_address.specs.Maps.{no_entries}
-use Rattle.saw_address.specs.Texts.{is_address_text}
 use Rattle.saw_checks.specs.BlockFaults.{structure_fault}
 use Rattle.saw_checks.specs.declared.fault.StructureFault.{StructureFault}
 use Rattle.saw_checks.specs.declared.fault.StructureFault.TheVariants.{Undecodable}
-use Rattle.saw_context.specs.Serial.{serial, left_after}
+use Rattle.saw_context.specs.Serial.{BatchResult, serial, left_after}
 use Rattle.saw_messages.specs.Blocks.{block, block_header}
+use Rattle.saw_messages.specs.Distinct.{are_distinct}
 use Rattle.saw_messages.specs.Shapes.{TxShape, shape_in}
 use Rattle.saw_messages.specs.declared.block.Block.{Block}
 use Rattle.saw_messages.specs.declared.block.BlockHeader.{BlockHeader}
@@ -17,7 +17,7 @@ use Rattle.saw_messages.specs.declared.outcome.Reason.{Reason}
 use Rattle.saw_node.specs.Hashes.{first_half}
 use Rattle.saw_node.specs.Trees.{root_of_map}
 use Rattle.saw_station.specs.Failures.{first_failure}
-use Rattle.saw_station.specs.Builtin.{built_in}
+use Rattle.saw_station.specs.Serving.{alone}
 use Rattle.saw_wire.specs.declared.fault.MessageFault.{MessageFault}
 use Rattle.saw_top.specs.declared.verdict.Verdict.{Verdict}
 use Rattle.saw_top.specs.declared.verdict.Verdict.TheVariants.{Committed, Refused}
@@ -42,27 +42,9 @@ parts_of b header = record {
   batches = map (λ batch. map shape_in batch.transactions) b.batches;
 }
 
--- whether an id stands among those before it
-abbrev pub repeats_after : List (List ℕ) → List (List ℕ) → Bool
-repeats_after earlier [] = false
-repeats_after earlier (id ∷ ids) = list_any (λ other. bytes_eq other id) earlier || repeats_after (earlier ++ id ∷ []) ids
-
--- whether an id stands in the list twice
-abbrev pub has_repeats : List (List ℕ) → Bool
-has_repeats ids = repeats_after [] ids
-
-abbrev pub is_one_address : List (List ℕ) → Bool
-is_one_address [] = false
-is_one_address (text ∷ []) = is_address_text text
-is_one_address (text ∷ second ∷ texts) = false
-
--- a transaction that is run so far: of a built-in family, without dependencies, with one address each way
+-- a transaction that is run so far: without dependencies
 abbrev pub is_run : TxShape → Bool
-is_run tx =
-    built_in.serves tx.header.family_name tx.header.family_version
-    && length tx.header.dependencies == 0
-    && is_one_address tx.header.inputs
-    && is_one_address tx.header.outputs
+is_run tx = length tx.header.dependencies == 0
 
 abbrev pub are_run : List TxShape → Bool
 are_run txs = list_all is_run txs
@@ -73,20 +55,24 @@ ids_of txs = map (λ tx. tx.id) txs
 abbrev pub tx_ids_of : List (List TxShape) → List (List ℕ)
 tx_ids_of batches = flat_map ids_of batches
 
--- A block that is judged so far: the first of the stream, number 0 of a chain, no batch and no transaction twice,
--- and of transactions that are run so far.
+-- a block that is judged so far: the first of the stream, number 0 of a chain, no batch and no transaction twice, and
+-- of transactions that are run so far
 abbrev pub is_judged : ℕ → Parts → Bool
 is_judged place parts =
     place == 0
     && bytes_eq parts.header.previous_block_id no_block
     && parts.header.block_num == 0
-    && not (has_repeats parts.batch_ids)
-    && not (has_repeats (tx_ids_of parts.batches))
+    && are_distinct parts.batch_ids
+    && are_distinct (tx_ids_of parts.batches)
     && list_all are_run parts.batches
+
+-- what comes of the batches of a first block: the built-in processors run them over the empty state
+abbrev pub results_of : List (List TxShape) → List BatchResult
+results_of batches = serial (alone []) no_entries batches
 
 -- the digits of the root of the map that the batches leave
 abbrev pub root_text : List (List TxShape) → List ℕ
-root_text batches = encode_lower (root_of_map first_half (left_after built_in no_entries batches))
+root_text batches = encode_lower (root_of_map first_half (left_after no_entries (results_of batches)))
 
 abbrev pub transactions_in : List (List TxShape) → ℕ
 transactions_in batches = sum_by (λ txs. length txs) batches
@@ -104,7 +90,7 @@ verdict_by_failure parts None = verdict_by_root parts (root_text parts.batches)
 abbrev pub verdict_of_parts : ℕ → Parts → Verdict
 verdict_of_parts place parts =
     if not (is_judged place parts) then Refused NotBuilt
-    else verdict_by_failure parts (first_failure 0 (serial built_in no_entries parts.batches))
+    else verdict_by_failure parts (first_failure 0 (results_of parts.batches))
 
 abbrev pub verdict_of_header : ℕ → Block → Result BlockHeader MessageFault → Verdict
 verdict_of_header place b (Ok header) = verdict_of_parts place (parts_of b header)

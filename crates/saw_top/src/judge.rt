@@ -1,23 +1,24 @@
 //! The judgement of a block.
 
-ghost use Rattle.std.specs.Prelude.{◌≡◌, ◌<◌, ◌^◌, length, sum_by, map, false, IfOk};
+ghost use Rattle.std.specs.Prelude.{◌≡◌, ◌<◌, ◌^◌, [], length, option_map, IfOk, IfNone};
+ghost use Rattle.saw_address.specs.Maps.{map_of};
+ghost use Rattle.saw_context.specs.Serial.{serial, left_after};
+ghost use Rattle.saw_station.specs.Serving.{alone};
 ghost use Rattle.std.specs.Arc.{arc_value};
 ghost use Rattle.std.specs.List.{list_all};
 ghost use Rattle.hex.specs.Hex.{encode_lower};
 ghost use Rattle.saw_messages.specs.Shapes.{shape_of};
-ghost use Rattle.saw_station.specs.Failures.{shapes_of, batch_shapes};
+ghost use Rattle.saw_station.specs.Failures.{shapes_of, batch_shapes, first_failure};
 ghost use Rattle.saw_top.specs.Parts.{parts_in};
-ghost use Rattle.saw_top.specs.Verdicts.{is_one_address, is_run, are_run, is_judged, transactions_in, verdict_of, verdict_of_parts, verdict_by_root};
+ghost use Rattle.saw_top.specs.Verdicts.{is_run, are_run, is_judged, transactions_in, verdict_of, verdict_of_parts, verdict_by_root};
 
 use crate::repeats::are_distinct;
 use crate::verdict::{BlockFault, BlockRecord, Verdict};
-use saw_address::is_hex_text;
 use saw_checks::{CheckedBlock, StructureFault, check_block};
 use saw_messages::{PlainBase, Tx, TxBatch};
 use saw_node::root_of;
-use saw_station::{BatchFailure, BuiltIn, Processor, run_batches};
+use saw_station::{BatchFailure, Desk, NoStation, StationFault, run_batches};
 use saw_verify::Verifier;
-use saw_wire::Text;
 use std::alloc::{AllocError, Global};
 use std::collections::BTreeMap;
 use std::sync::Arc;
@@ -25,23 +26,10 @@ use std::sync::Arc;
 /// The previous id of a first block.
 const NO_BLOCK: &str = "0000000000000000";
 
-fn is_one_address(texts: &[Text]) -> bool
-    ensures { result ≡ is_one_address texts.now }
-{
-    match texts {
-        [text] => is_hex_text(70, text.as_str()),
-        _ => false,
-    }
-}
-
 fn is_run(tx: &Tx) -> bool
     ensures { result ≡ is_run (shape_of tx.now) }
 {
-    let header = &tx.header;
-    BuiltIn.serves(header.family_name.as_str(), header.family_version.as_str())
-        && header.dependencies.is_empty()
-        && is_one_address(header.inputs.as_slice())
-        && is_one_address(header.outputs.as_slice())
+    tx.header.dependencies.is_empty()
 }
 
 fn each_is_run(txs: &[Arc<Tx>]) -> bool
@@ -96,6 +84,26 @@ fn is_judged(alloc: Global, place: u32, checked: &CheckedBlock) -> Result<bool, 
     Ok(are_distinct(alloc, batches)? && are_all_run(batches))
 }
 
+// A desk without a remote has none that fails.
+fn execute(
+    alloc: Global,
+    base: &mut PlainBase,
+    checked: &CheckedBlock,
+) -> Result<Option<BatchFailure>, AllocError>
+    ensures failure { IfOk result (λ found. option_map (λ f. (f.k, f.t, f.reason)) found
+        ≡ first_failure 0 (serial (alone []) (map_of base.old.map.entries) (batch_shapes checked.now.batches))) }
+    ensures left { IfOk result (λ found. IfNone found (map_of base.new.map.entries
+        ≡ left_after (map_of base.old.map.entries) (serial (alone []) (map_of base.old.map.entries) (batch_shapes checked.now.batches)))) }
+{
+    let offers = Arc::new(alloc, Vec::new(alloc))?;
+    let mut desk: Desk<NoStation> = Desk::new(None, offers);
+    match run_batches(alloc, &mut desk, base, checked.batches.as_slice()) {
+        Ok(failure) => Ok(failure),
+        Err(StationFault::PeerFailed) => Err(AllocError),
+        Err(StationFault::OutOfMemory) => Err(AllocError),
+    }
+}
+
 /// Judges a block whose structure has no fault.
 fn judge_checked(alloc: Global, place: u32, checked: CheckedBlock) -> Result<Verdict, AllocError>
     ensures { IfOk result (λ verdict. verdict ≡ verdict_of_parts place (parts_in checked)) }
@@ -108,8 +116,7 @@ fn judge_checked(alloc: Global, place: u32, checked: CheckedBlock) -> Result<Ver
     let mut base = PlainBase {
         map: BTreeMap::new(alloc),
     };
-    let failure = run_batches(alloc, &BuiltIn, &mut base, checked.batches.as_slice())?;
-    if let Some(BatchFailure { k, t, reason }) = failure {
+    if let Some(BatchFailure { k, t, reason }) = execute(alloc, &mut base, &checked)? {
         return Ok(Verdict::Refused {
             fault: BlockFault::BatchInvalid { k, t, reason },
         });

@@ -5,6 +5,7 @@ mod command;
 mod fault;
 mod judge;
 mod line;
+mod notes;
 mod progress;
 mod repeats;
 mod status;
@@ -14,4 +15,4 @@ mod verdict;
 
 pub use status::Status;
 pub use stream::{MAX_FRAMES, MAX_LENGTH};
-pub use top::run;
+pub use top::{MAX_LIST, run};

@@ -1,10 +1,11 @@
 //! Whether batches or transactions stand in a block twice.
 
-ghost use Rattle.std.specs.Prelude.{◌≡◌, ◌++◌, [], ℕ, List, Bool, true, false, map, not, ◌&&◌, IfOk};
+ghost use Rattle.std.specs.Prelude.{◌≡◌, ◌++◌, [], ℕ, List, false, map, ◌&&◌, IfOk};
 ghost use Rattle.saw_checks.specs.Seen.{HoldsIds};
 ghost use Rattle.saw_station.specs.Failures.{batch_shapes};
-ghost use Rattle.saw_top.specs.Parts.{read_ids};
-ghost use Rattle.saw_top.specs.Verdicts.{repeats_after, has_repeats, tx_ids_of};
+ghost use Rattle.saw_top.specs.Parts.{read_ids, repeats_after};
+ghost use Rattle.saw_top.specs.Verdicts.{tx_ids_of};
+ghost use Rattle.saw_messages.specs.Distinct.{are_distinct};
 
 use saw_checks::add_id;
 use saw_messages::{Tx, TxBatch};
@@ -14,7 +15,7 @@ use std::collections::BTreeSet;
 use std::sync::Arc;
 
 fn batch_repeats(alloc: Global, batches: &[TxBatch]) -> Result<bool, AllocError>
-    ensures { IfOk result (λ repeated. repeated ≡ has_repeats (map (λ batch. batch.id) batches.now)) }
+    ensures { IfOk result (λ repeated. repeated ≡ repeats_after [] (map (λ batch. batch.id) batches.now)) }
 {
     let mut seen = BTreeSet::new(alloc);
     for batch in batches {
@@ -41,7 +42,7 @@ fn txs_repeat(seen: &mut BTreeSet<Text>, alloc: Global, txs: &[Arc<Tx>]) -> Resu
 }
 
 fn tx_repeats(alloc: Global, batches: &[TxBatch]) -> Result<bool, AllocError>
-    ensures { IfOk result (λ repeated. repeated ≡ has_repeats (tx_ids_of (batch_shapes batches.now))) }
+    ensures { IfOk result (λ repeated. repeated ≡ repeats_after [] (tx_ids_of (batch_shapes batches.now))) }
 {
     let mut seen = BTreeSet::new(alloc);
     for batch in batches {
@@ -54,7 +55,7 @@ fn tx_repeats(alloc: Global, batches: &[TxBatch]) -> Result<bool, AllocError>
 
 /// Whether no batch and no transaction stands there twice.
 pub(crate) fn are_distinct(alloc: Global, batches: &[TxBatch]) -> Result<bool, AllocError>
-    ensures { IfOk result (λ distinct. distinct ≡ (not (has_repeats (map (λ batch. batch.id) batches.now)) && not (has_repeats (tx_ids_of (batch_shapes batches.now))))) }
+    ensures { IfOk result (λ distinct. distinct ≡ (are_distinct (map (λ batch. batch.id) batches.now) && are_distinct (tx_ids_of (batch_shapes batches.now)))) }
 {
     Ok(!batch_repeats(alloc, batches)? && !tx_repeats(alloc, batches)?)
 }

@@ -1,0 +1,4 @@
+pub mod Places
+pub mod LineSets
+pub mod Triples
+pub mod Listed

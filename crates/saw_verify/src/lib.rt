@@ -1,8 +1,10 @@
-//! Verifiers: who vouches that a signature is a key's over a message.
+//! Verifiers: who vouches that a signature is a key's over a message, a digest mark or an attestation list.
 #![tactic(auto)]
 
+mod attest;
 mod dev;
 mod verifier;
 
+pub use attest::{AttestFault, AttestVerifier};
 pub use dev::DevVerifier;
 pub use verifier::Verifier;

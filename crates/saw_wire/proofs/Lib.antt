@@ -10,3 +10,4 @@ pub mod FieldFaults
 pub mod Pushes
 pub mod Texts
 pub mod ReadBack
+pub mod FieldsBack

@@ -1,7 +1,7 @@
 //! The program: judges the block stream of its standard input.
 #![tactic(auto)]
 
-use saw_io::{StdSink, StdSource};
+use saw_io::{DirShelf, StdSink, StdSource};
 use saw_top::run;
 use saw_verify::DevVerifier;
 use std::alloc::Global;
@@ -28,6 +28,16 @@ fn main(rt: HostRuntime) -> ExitCode {
     };
     let mut input = StdSource::new(rt.reader());
     let mut output = StdSink::new(io::writer(&rt));
-    let status = run(alloc, &words, &mut input, &mut output, &DevVerifier);
+    let mut notes = StdSink::new(rt.stderr());
+    let mut shelf = DirShelf::new(&rt);
+    let status = run(
+        alloc,
+        &words,
+        &mut input,
+        &mut output,
+        &mut notes,
+        &mut shelf,
+        &DevVerifier,
+    );
     ExitCode::from(status.code())
 }

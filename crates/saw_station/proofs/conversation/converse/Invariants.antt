@@ -1,10 +1,15 @@
-use Rattle.std.proofs.Common.{◌≡◌, ◌-◌}
-use Rattle.saw_context.specs.Outcome.{outcome_from, no_talk, max_requests}
+use Rattle.std.proofs.Common.{◌≡◌, ◌≤◌, ◌-◌, true}
+use Rattle.saw_context.specs.Outcome.{max_requests}
 use Rattle.saw_messages.specs.Shapes.{shape_of}
-use Rattle.saw_station.proofs.Talks.{talk_of}
+use Rattle.saw_station.specs.Steps.{MayFollow}
+use Rattle.saw_station.proofs.Talks.{IsSoFar}
 use Rattle.saw_station.proofs.conversation.converse.Given as goal
 
 abbrev pub invariant-requests : goal.invariant-requests
-invariant-requests g l =
-    outcome_from (record { next = g.P.Processor.next l.processor; serves = g.P.Processor.serving l.processor }) (shape_of l.tx) (g.B.Base.entry l.base) (max_requests - l.counter) (talk_of l.talk.turns l.own)
-    ≡ outcome_from (record { next = g.P.Processor.next l.processor; serves = g.P.Processor.serving l.processor }) (shape_of l.tx) (g.B.Base.entry l.base) max_requests no_talk
+invariant-requests g l = record {
+  begun : g.S.Station.begun l.station ≡ true;
+  offers : g.S.Station.offered l.station ≡ g.S.Station.offered l.fn.station;
+  later : g.S.Station.faults l.fn.station ≤ g.S.Station.faults l.station;
+  follows : MayFollow (g.S.Station.last l.station) (shape_of l.tx) l.talk.turns;
+  so_far : IsSoFar g.S.Station.tells (g.S.Station.next (shape_of l.tx)) l.tx.header l.fn.context.base l.fn.context.layers (max_requests - l.counter) l.talk.turns l.context;
+}

@@ -1,6 +1,6 @@
 use Rattle.std.proofs.Common.{◌≡◌, arith}
 use Rattle.std.proofs.lemmas.Result.{err_from_is_err_and}
-use Rattle.saw_top.specs.declared.fault.RunFault.TheVariants.{Read}
+use Rattle.saw_top.specs.declared.fault.StreamFault.TheVariants.{Read}
 use Rattle.saw_top.proofs.Standings.{SoFar-read_fault, SoFar-line_cut, SoFar-more, SoFar-ended, SoFar-probe_fault, SoFar-too_many, SoFar-full}
 use Rattle.saw_top.proofs.stream.apply.Goals as goal
 

@@ -1,12 +1,7 @@
-use Rattle.std.proofs.Common.{◌≡◌, ◌+◌, ◌++◌, ◌∷◌, [], take, ap, sym, ◌∙◌}
-use Rattle.std.proofs.lemmas.List.{take_more}
-use Rattle.saw_context.proofs.Overlays.{delete_all-push}
+use Rattle.std.proofs.Common.{sym, subst, refl}
+use Rattle.saw_context.specs.Undo.{CameBy}
 use Rattle.saw_context.proofs.overlay.Overlay.delete_all.Goals as goal
 
-pub loop-place-preserved : goal.loop-place-preserved
-loop-place-preserved c =
-    let xs = c.args.places.now in
-    let i = c.loop-place.place-index in
-    let place = c.place-item.result in
-    let more : take (i + 1) xs ≡ take i xs ++ place ∷ [] = take_more xs i place c.loop-place-test.true ∙ ap (λ e. take i xs ++ e ∷ []) (sym c.place-item.is) in
-    rw (more, delete_all-push, ← c.loop-place.invariant) c.in_ok-put_at.ensures.ok
+pub returns-in-Err-clause-err : goal.returns-in-Err-clause-err
+returns-in-Err-clause-err c =
+    c.take_all_back.ensures c.args.self.now (c.in-Err.ensures.undos c.args.self.now (subst (λ undos. CameBy c.args.self.now undos c.args.self.now) (sym c.new-undos.ensures.items) refl))

@@ -1,12 +1,7 @@
-use Rattle.std.proofs.Common.{◌≡◌, ◌+◌, ◌++◌, ◌∷◌, [], take, ap, sym, ◌∙◌}
-use Rattle.std.proofs.lemmas.List.{take_more}
-use Rattle.saw_context.proofs.Overlays.{set_all-push}
+use Rattle.std.proofs.Common.{sym, subst, refl}
+use Rattle.saw_context.specs.Undo.{CameBy}
 use Rattle.saw_context.proofs.overlay.Overlay.set_all.Goals as goal
 
-pub loop-entry-preserved : goal.loop-entry-preserved
-loop-entry-preserved c =
-    let xs = c.args.entries.now in
-    let i = c.loop-entry.entry-index in
-    let entry = c.entry-item.result in
-    let more : take (i + 1) xs ≡ take i xs ++ entry ∷ [] = take_more xs i entry c.loop-entry-test.true ∙ ap (λ e. take i xs ++ e ∷ []) (sym c.entry-item.is) in
-    rw (more, set_all-push, ← c.loop-entry.invariant, ← c.in_ok-body.ensures) c.in_ok-put_at.ensures.ok
+pub returns-in-Err-clause-err : goal.returns-in-Err-clause-err
+returns-in-Err-clause-err c =
+    c.take_all_back.ensures c.args.self.now (c.in-Err.ensures.undos c.args.self.now (subst (λ undos. CameBy c.args.self.now undos c.args.self.now) (sym c.new-undos.ensures.items) refl))

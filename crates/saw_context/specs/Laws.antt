@@ -1,0 +1,54 @@
+-- What is true of transactions, whatever their processors.
+use Rattle.std.specs.Prelude.{◌≡◌, ℕ, Bool, true, false, List, Option}
+use Rattle.std.specs.FinMap as finite
+use Rattle.std.specs.List.{AllByRecursion}
+use Rattle.saw_address.specs.Maps.{StateMap, value_at}
+use Rattle.saw_messages.specs.Reasons.{has_own_reason}
+use Rattle.saw_messages.specs.Shapes.{TxShape}
+use Rattle.saw_messages.specs.declared.outcome.Change.{Change}
+use Rattle.saw_messages.specs.declared.outcome.Outcome.{Outcome}
+use Rattle.saw_messages.specs.declared.outcome.Outcome.TheVariants as outcomes
+use Rattle.saw_messages.specs.declared.receipt.Event.{Event}
+use Rattle.saw_messages.specs.declared.talk.Action.{Action}
+use Rattle.saw_messages.specs.declared.talk.Turn.{Turn}
+use Rattle.saw_messages.specs.declared.transaction.TransactionHeader.{TransactionHeader}
+use Rattle.saw_context.specs.Conversation.{are_covering}
+use Rattle.saw_context.specs.Outcome.{Processors, conversed, outcome_of}
+use Rattle.saw_context.specs.Results.{IsOf, IsOfBase, IsSeen, IsSound, fits_dependency, is_early}
+use Rattle.saw_context.specs.Views.{Layers, over, layered}
+use Rattle.saw_context.specs.declared.reads.Read.{Read}
+
+-- what a map with a view on top has
+abbrev pub OverShows : Type 0
+OverShows = (m : StateMap) (layers : Layers) (at : List ℕ) → value_at (over m layers) at ≡ layered (finite.get layers at) (value_at m at)
+
+-- the outcome depends only on what the map has at addresses that the inputs cover
+abbrev pub OutcomeSeesInputs : Type 0
+OutcomeSeesInputs = (processors : Processors) (tx : TxShape) (m n : StateMap) (failed : Bool)
+    → ((at : List ℕ) → are_covering tx.header.inputs at ≡ true → value_at m at ≡ value_at n at)
+    → outcome_of processors tx m failed ≡ outcome_of processors tx n failed
+
+-- a transaction writes only addresses that its outputs cover
+abbrev pub WritesAreCovered : Type 0
+WritesAreCovered = (processors : Processors) (tx : TxShape) (m : StateMap) (failed : Bool) (changes : List Change) (events : List Event)
+    → outcome_of processors tx m failed ≡ outcomes.Ok changes events
+    → AllByRecursion (λ change. are_covering tx.header.outputs change.address ≡ true) changes
+
+-- no reason that comes before a conversation comes out of one
+abbrev pub ConversationIsNotEarly : Type 0
+ConversationIsNotEarly = (next : List Turn → Action) (header : TransactionHeader) (m : StateMap)
+    → ((turns : List Turn) → has_own_reason (next turns) ≡ true) → is_early (conversed next header m) ≡ false
+
+-- a true result whose recorded reads are what a map gives has the outcome over that map, where the processor is told
+abbrev pub SoundIsOutcome : Type 0
+SoundIsOutcome = (processors : Processors) (tx : TxShape) (turns : List Turn) (reads : List Read) (outcome : Outcome) (m : StateMap) (failed : Bool)
+    → IsSound processors tx turns reads outcome
+    → processors.tells tx.header.family_name tx.header.family_version ≡ true
+    → fits_dependency failed outcome ≡ true
+    → AllByRecursion (IsOf m) reads
+    → outcome ≡ outcome_of processors tx m failed
+
+-- reads that are what a view gives, and those of the base what the base has, are what the base gives with the view on top
+abbrev pub SeenIsOver : Type 0
+SeenIsOver = (m : StateMap) (layers : Layers) (reads : List Read)
+    → AllByRecursion (IsSeen layers) reads → AllByRecursion (IsOfBase m) reads → AllByRecursion (IsOf (over m layers)) reads

@@ -1,0 +1,36 @@
+//! Transactions that are to be run, and their results.
+
+use crate::reads::Read;
+use crate::view::View;
+use saw_messages::{Outcome, Transcript, Tx};
+use saw_wire::Items;
+use std::sync::Arc;
+
+/// Which run of which transaction: its number, and how many runs of it were begun before.
+#[derive(Clone, Copy, Debug, PartialEq, Eq)]
+pub struct Ticket {
+    pub index: u32,
+    pub attempt: u64,
+}
+
+/// A transaction to be run.
+#[derive(Drop)]
+pub struct Job {
+    pub ticket: Ticket,
+    pub tx: Arc<Tx>,
+    /// What earlier transactions left of what it may read.
+    pub view: Arc<View>,
+    /// Whether a dependency of it stands in a failed batch.
+    pub dependency_failed: bool,
+}
+
+/// What came of a job.
+#[derive(Drop)]
+pub struct Done {
+    pub ticket: Ticket,
+    pub tx: Arc<Tx>,
+    /// The requests with their replies.
+    pub talk: Transcript,
+    pub reads: Items<Read>,
+    pub outcome: Outcome,
+}

@@ -1,0 +1,33 @@
+//! Laws of transactions, whatever their processors.
+
+ghost use Rattle.saw_context.specs.Laws.{OverShows, OutcomeSeesInputs, WritesAreCovered, ConversationIsNotEarly, SoundIsOutcome, SeenIsOver};
+
+/// What a map has with a view on top.
+pub fn over_shows()
+    ensures { OverShows }
+{}
+
+/// The outcome depends only on what the map has at addresses that the inputs cover.
+pub fn outcome_sees_inputs()
+    ensures { OutcomeSeesInputs }
+{}
+
+/// A transaction writes only addresses that its outputs cover.
+pub fn writes_are_covered()
+    ensures { WritesAreCovered }
+{}
+
+/// No reason that comes before a conversation comes out of one.
+pub fn conversation_is_not_early()
+    ensures { ConversationIsNotEarly }
+{}
+
+/// A true result whose recorded reads are what a map gives has the outcome over that map.
+pub fn sound_is_outcome()
+    ensures { SoundIsOutcome }
+{}
+
+/// Reads that agree with a view and its base are what the base gives with the view on top.
+pub fn seen_is_over()
+    ensures { SeenIsOver }
+{}

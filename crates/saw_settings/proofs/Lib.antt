@@ -1,0 +1,10 @@
+pub mod Parts
+pub mod Places
+pub mod Trimming
+pub mod Numerals
+pub mod Going
+pub mod Counting
+pub mod SettingsBack
+pub mod Octets
+pub mod KeptBack
+pub mod Reasons

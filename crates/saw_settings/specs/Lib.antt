@@ -1,0 +1,9 @@
+pub mod Messages
+pub mod Candidates
+pub mod Keys
+pub mod Values
+pub mod Settings
+pub mod Replies
+pub mod Actions
+pub mod Turns
+pub mod ReadBack

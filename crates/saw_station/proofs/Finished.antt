@@ -1,0 +1,140 @@
+-- What a run comes to is a true result of its job.
+use Rattle.std.proofs.Common.{◌≡◌, Bool, true, false, List, Some, None, Result, Ok, Err, IfOk, inr, refl, sym, ap, subst}
+use Rattle.std.specs.Arc.{arc_value}
+use Rattle.std.specs.Prelude.{is_some}
+use Rattle.saw_address.specs.Maps.{StateMap}
+use Rattle.saw_messages.specs.Reasons.{has_own_reason, is_own_reason}
+use Rattle.saw_messages.specs.Shapes.{TxShape, shape_of}
+use Rattle.saw_messages.specs.declared.outcome.Change.{Change}
+use Rattle.saw_messages.specs.declared.outcome.Outcome.{Outcome}
+use Rattle.saw_messages.specs.declared.outcome.Outcome.TheVariants as outcomes
+use Rattle.saw_messages.specs.declared.outcome.Reason.{Reason}
+use Rattle.saw_messages.specs.declared.outcome.Reason.TheVariants.{BadDeclared, NoProcessor, DependencyFailed, TooManyRequests, Remote, Family}
+use Rattle.saw_messages.specs.declared.receipt.Event.{Event}
+use Rattle.saw_messages.specs.declared.talk.Action.{Action}
+use Rattle.saw_messages.specs.declared.talk.Action.TheVariants as actions
+use Rattle.saw_messages.specs.declared.talk.Turn.{Turn}
+use Rattle.saw_messages.specs.declared.tx.Tx.{Tx}
+use Rattle.saw_messages.specs.declared.transaction.TransactionHeader.{TransactionHeader}
+use Rattle.saw_context.specs.Access.{Access, no_access}
+use Rattle.saw_context.specs.Outcome.{Processors, are_declared, outcome_of, refusal}
+use Rattle.saw_context.specs.Results.{IsConversed, IsSound, IsSoundBy, fits_dependency}
+use Rattle.saw_context.specs.Views.{Layers, layers_of, over}
+use Rattle.saw_context.specs.declared.job.Done.{Done}
+use Rattle.saw_context.specs.declared.job.Job.{Job}
+use Rattle.saw_context.specs.declared.reads.Read.{Read}
+use Rattle.saw_context.proofs.Layers.{seen_are_over}
+use Rattle.saw_context.proofs.Sound.{sound_outcome}
+use Rattle.saw_intkey.proofs.Reasons as intkey
+use Rattle.saw_xo.proofs.Reasons as xo
+use Rattle.saw_settings.proofs.Reasons as settings
+use Rattle.saw_station.specs.Results.{IsResult, IsTalk, outcome_at}
+use Rattle.saw_station.specs.Serving.{next_by, processors_at, serving, tells_by}
+use Rattle.saw_station.specs.Spoken.{IsSpoken}
+use Rattle.saw_station.specs.declared.conversation.Spoken.{Spoken}
+use Rattle.saw_station.specs.declared.offer.Offer.{Offer}
+use Rattle.saw_station.specs.declared.serving.Served.{Served}
+use Rattle.saw_station.specs.declared.serving.Served.TheVariants as served
+use Rattle.saw_station.proofs.Conversed.{conversed_by_spoken}
+
+-- ---- a conversation
+
+refusal_none : (processors : Processors) (tx : TxShape) → are_declared tx.header ≡ true → processors.serves tx.header.family_name tx.header.family_version ≡ true → refusal processors tx ≡ None
+refusal_none processors tx declared serves = rw (declared, serves) refl
+
+own_not_failed : (reason : Reason) → is_own_reason reason ≡ true → fits_dependency false (outcomes.Invalid reason) ≡ true
+own_not_failed BadDeclared own = absurd cc
+own_not_failed NoProcessor own = absurd cc
+own_not_failed DependencyFailed own = absurd cc
+own_not_failed TooManyRequests own = absurd cc
+own_not_failed Remote own = refl
+own_not_failed (Family number) own = refl
+
+outcome_not_failed : (last : Action) (changes : List Change) (events : List Event) → has_own_reason last ≡ true → fits_dependency false (outcome_at last changes events) ≡ true
+outcome_not_failed (actions.Get places) changes events own = refl
+outcome_not_failed (actions.Set entries) changes events own = refl
+outcome_not_failed (actions.Delete places) changes events own = refl
+outcome_not_failed (actions.AddEvent event) changes events own = refl
+outcome_not_failed actions.Ok changes events own = refl
+outcome_not_failed (actions.Invalid reason) changes events own = own_not_failed reason own
+
+module _ (next : TxShape → List Turn → Action) (own : (tx : TxShape) (turns : List Turn) → has_own_reason (next tx turns) ≡ true) where
+  next_by_own : (tx : TxShape) (turns : List Turn) (by : Served) → has_own_reason (next_by next tx turns (Some by)) ≡ true
+  next_by_own tx turns served.IntKey = intkey.next_own tx.payload turns
+  next_by_own tx turns served.Xo = xo.next_own tx.header.signer_public_key tx.payload turns
+  next_by_own tx turns served.Settings = settings.next_own tx.header.signer_public_key tx.payload turns
+  next_by_own tx turns served.Remote = own tx turns
+
+  module _ (tells : Bool) (offers : List Offer) (base : StateMap) where
+    -- what was spoken with who serves it is a conversation with the processors
+    spoken_conversed : (tx : TxShape) (by : Served) (layers : Layers) (turns : List Turn) (last : Action) (changes : List Change) (events : List Event) (reads : List Read)
+        → Some by ≡ serving offers tx.header.family_name tx.header.family_version
+        → IsSpoken (tells_by tells (Some by)) (λ turns. next_by next tx turns (Some by)) tx.header base layers turns last changes events reads
+        → IsConversed (processors_at next tells offers) tx turns reads (outcome_at last changes events)
+    spoken_conversed tx by layers turns last changes events reads serves spoken =
+        conversed_by_spoken (processors_at next tells offers) tx base layers (tells_by tells (Some by)) (λ turns. next_by next tx turns (Some by)) turns last changes events reads spoken
+        (ap (tells_by tells) (sym serves)) (λ said. ap (next_by next tx said) serves) (λ said. next_by_own tx said by) (tells_by tells (Some by)) refl
+
+    -- a result by a conversation
+    result_by_talk : (job : Job) (by : Served) (spoken : Spoken) (done : Done) → are_declared (arc_value job.tx).header ≡ true
+        → Some by ≡ serving offers (arc_value job.tx).header.family_name (arc_value job.tx).header.family_version → job.dependency_failed ≡ false
+        → IsSpoken (tells_by tells (Some by)) (λ turns. next_by next (shape_of (arc_value job.tx)) turns (Some by)) (arc_value job.tx).header base (layers_of (arc_value job.view))
+        spoken.talk.turns spoken.last spoken.done.changes spoken.done.events spoken.done.reads
+        → IsTalk job spoken done → IsResult (processors_at next tells offers) base job done
+    result_by_talk job by spoken done declared serves none_failed is talk =
+        let tx : TxShape = shape_of (arc_value job.tx) in
+        let processors : Processors = processors_at next tells offers in
+        let outcome : Outcome = outcome_at spoken.last spoken.done.changes spoken.done.events in
+        let conversed = spoken_conversed tx by (layers_of (arc_value job.view)) spoken.talk.turns spoken.last spoken.done.changes spoken.done.events spoken.done.reads serves is in
+        let sound : IsSound processors tx spoken.talk.turns spoken.done.reads outcome =
+        subst (IsSoundBy processors tx spoken.talk.turns spoken.done.reads outcome) (sym (refusal_none processors tx declared (ap is_some (sym serves)))) (inr conversed) in
+        record {
+          ticket = talk.ticket;
+          sound = subst (λ (shape : TxShape). IsSound processors shape done.talk.turns done.reads done.outcome) (sym talk.tx) (rw (talk.turns, talk.reads, talk.outcome) sound);
+          agrees = record {
+            tx = talk.tx;
+            dependency = rw (none_failed, talk.outcome) (outcome_not_failed spoken.last spoken.done.changes spoken.done.events is.last_reason);
+            seen = rw talk.reads is.seen;
+          };
+          of_base = rw talk.reads is.of_base;
+        }
+
+    -- the same, where the transaction and the view are known by equations
+    pub talk_result : (job : Job) (by : Served) (spoken : Spoken) (done : Done) (tx : Tx) (layers : Layers) → tx ≡ arc_value job.tx → layers ≡ layers_of (arc_value job.view)
+        → are_declared (arc_value job.tx).header ≡ true → Some by ≡ serving offers (arc_value job.tx).header.family_name (arc_value job.tx).header.family_version → job.dependency_failed ≡ false
+        → IsSpoken (tells_by tells (Some by)) (λ turns. next_by next (shape_of tx) turns (Some by)) tx.header base layers spoken.talk.turns spoken.last spoken.done.changes spoken.done.events spoken.done.reads
+        → IsTalk job spoken done → IsResult (processors_at next tells offers) base job done
+    talk_result job by spoken done tx layers tx_is layers_is declared serves none_failed is talk =
+        result_by_talk job by spoken done declared serves none_failed
+        (subst
+        (λ (t : Tx). IsSpoken (tells_by tells (Some by)) (λ turns. next_by next (shape_of t) turns (Some by)) t.header base (layers_of (arc_value job.view)) spoken.talk.turns spoken.last spoken.done.changes spoken.done.events
+        spoken.done.reads)
+        tx_is
+        (subst
+        (λ (l : Layers). IsSpoken (tells_by tells (Some by)) (λ turns. next_by next (shape_of tx) turns (Some by)) tx.header base l spoken.talk.turns spoken.last spoken.done.changes spoken.done.events spoken.done.reads)
+        layers_is is))
+        talk
+
+-- ---- the outcome
+
+-- where it is told, the outcome is that over the base with the view on top
+outcome_told : (processors : Processors) (base : StateMap) (job : Job) (done : Done) → IsResult processors base job done
+    → processors.tells (arc_value job.tx).header.family_name (arc_value job.tx).header.family_version ≡ true
+    → done.outcome ≡ outcome_of processors (shape_of (arc_value job.tx)) (over base (layers_of (arc_value job.view))) job.dependency_failed
+outcome_told processors base job done is told =
+    sound_outcome processors (shape_of (arc_value job.tx)) done.talk.turns done.reads done.outcome (over base (layers_of (arc_value job.view))) job.dependency_failed
+    (subst (λ tx. IsSound processors tx done.talk.turns done.reads done.outcome) is.agrees.tx is.sound) told is.agrees.dependency
+    (seen_are_over base (layers_of (arc_value job.view)) done.reads is.agrees.seen is.of_base)
+
+-- the same, of a base that is the context's
+pub outcome_in : (processors : Processors) (access : Access) (header : TransactionHeader) (base : StateMap) (layers : Layers) (job : Job) (done : Done) → access ≡ no_access header base layers → IsResult processors access.base job done
+    → processors.tells (arc_value job.tx).header.family_name (arc_value job.tx).header.family_version ≡ true
+    → done.outcome ≡ outcome_of processors (shape_of (arc_value job.tx)) (over base (layers_of (arc_value job.view))) job.dependency_failed
+outcome_in processors access header base layers job done new is = outcome_told processors base job done (subst (λ (b : StateMap). IsResult processors b job done) (ap (λ (a : Access). a.base) new) is)
+
+-- ---- results of calls
+
+-- what is true of an `Ok` is true by what follows from it
+pub if_ok : {T E : Type 0} (P Q : T → Type 0) → ((x : T) → P x → Q x) → (r : Result T E) → IfOk r P → IfOk r Q
+if_ok P Q f (Ok x) h = f x h
+if_ok P Q f (Err e) h = h

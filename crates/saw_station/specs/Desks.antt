@@ -1,0 +1,18 @@
+-- What a desk has.
+use Rattle.std.specs.Prelude.{◌≡◌, ℕ, Bool, true, List, [], Option, Some, None}
+use Rattle.saw_station.specs.declared.offer.Offer.{Offer}
+
+-- a remote processor or none, and the offers that all remotes have in common
+pub record Place (R : Type 0) : Type 0 where
+  pub remote : Option R
+  pub offers : List Offer
+
+-- where there is no remote nothing is offered, and a remote has begun
+abbrev pub IsOpen : {R : Type 0} → (R → Bool) → Option R → List Offer → Type 0
+IsOpen begun None offers = offers ≡ []
+IsOpen begun (Some remote) offers = begun remote ≡ true
+
+-- the count of the remote's faults
+abbrev pub faults_by : {R : Type 0} → (R → ℕ) → Option R → ℕ
+faults_by faults None = 0
+faults_by faults (Some remote) = faults remote

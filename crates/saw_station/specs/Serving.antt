@@ -1,0 +1,59 @@
+-- Who serves the transactions of a family and version.
+use Rattle.std.specs.Prelude.{ℕ, Bool, true, ◌&&◌, List, Option, Some, None, is_some, if◌then◌else◌}
+use Rattle.std.specs.List.{list_any}
+use Rattle.std.specs.Str.{bytes_eq}
+use Rattle.saw_context.specs.Outcome.{Processors}
+use Rattle.saw_messages.specs.Shapes.{TxShape}
+use Rattle.saw_messages.specs.declared.outcome.Reason.TheVariants as reasons
+use Rattle.saw_messages.specs.declared.talk.Action.{Action}
+use Rattle.saw_messages.specs.declared.talk.Action.TheVariants as actions
+use Rattle.saw_messages.specs.declared.talk.Turn.{Turn}
+use Rattle.saw_intkey.specs.Actions as intkey
+use Rattle.saw_xo.specs.Actions as xo
+use Rattle.saw_settings.specs.Actions as settings
+use Rattle.saw_station.specs.declared.offer.Offer.{Offer}
+use Rattle.saw_station.specs.declared.serving.Served.{Served}
+use Rattle.saw_station.specs.declared.serving.Served.TheVariants.{IntKey, Xo, Settings, Remote}
+
+abbrev pub is_family : List ℕ → List ℕ → List ℕ → List ℕ → Bool
+is_family name its_version family version = bytes_eq family name && bytes_eq version its_version
+
+abbrev pub is_offered : List Offer → List ℕ → List ℕ → Bool
+is_offered offers family version = list_any (λ offer. bytes_eq family offer.family && bytes_eq version offer.version) offers
+
+-- a built-in family is served by its own processor, any other by the remote where it is offered
+abbrev pub serving : List Offer → List ℕ → List ℕ → Option Served
+serving offers family version =
+    if is_family intkey.family_name intkey.family_version family version then Some IntKey
+    else if is_family xo.family_name xo.family_version family version then Some Xo
+    else if is_family settings.family_name settings.family_version family version then Some Settings
+    else if is_offered offers family version then Some Remote
+    else None
+
+module _ (next : TxShape → List Turn → Action) where
+  abbrev pub next_by : TxShape → List Turn → Option Served → Action
+  next_by tx turns (Some IntKey) = intkey.next tx.payload turns
+  next_by tx turns (Some Xo) = xo.next tx.header.signer_public_key tx.payload turns
+  next_by tx turns (Some Settings) = settings.next tx.header.signer_public_key tx.payload turns
+  next_by tx turns (Some Remote) = next tx turns
+  next_by tx turns None = next tx turns
+
+-- the actions of a remote may not be told; where nobody serves there are none to tell
+abbrev pub tells_by : Bool → Option Served → Bool
+tells_by tells (Some IntKey) = true
+tells_by tells (Some Xo) = true
+tells_by tells (Some Settings) = true
+tells_by tells (Some Remote) = tells
+tells_by tells None = true
+
+-- the built-in processors, with a remote that has this function, tells or not, and has these offers
+abbrev pub processors_at : (TxShape → List Turn → Action) → Bool → List Offer → Processors
+processors_at next tells offers = record {
+  next = λ tx turns. next_by next tx turns (serving offers tx.header.family_name tx.header.family_version);
+  serves = λ family version. is_some (serving offers family version);
+  tells = λ family version. tells_by tells (serving offers family version);
+}
+
+-- the built-in processors with no remote of their own that answers; it would refuse all that is offered
+abbrev pub alone : List Offer → Processors
+alone offers = processors_at (λ tx turns. actions.Invalid reasons.Remote) true offers

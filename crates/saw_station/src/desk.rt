@@ -1,0 +1,47 @@
+//! A worker's place: the built-in processors, and maybe a remote one.
+
+ghost use Rattle.std.specs.Prelude.{◌≡◌};
+ghost use Rattle.std.specs.Arc.{arc_value};
+ghost use Rattle.saw_station.specs.Desks.{IsOpen};
+
+use crate::offer::Offer;
+use crate::station::Station;
+use std::marker::Model;
+use std::sync::Arc;
+
+/// Serves the built-in families, and what its remote offers where it has one. A built-in family is always served by
+/// the built-in processor.
+#[derive(Drop)]
+pub struct Desk<R: Station> {
+    pub(crate) remote: Option<R>,
+    pub(crate) offers: Arc<Vec<Offer>>,
+}
+
+impl<R: Station> Model for Desk<R> {
+    ghost use Rattle.std.specs.Arc.{arc_value};
+    ghost use Rattle.saw_station.specs.Desks.{Place, IsOpen};
+
+    ghost Value = { Place R };
+
+    ghost view = { λ desk. record { remote = desk.remote; offers = (arc_value desk.offers).items } };
+
+    ghost invariant = { λ desk. IsOpen R.begun desk.remote (arc_value desk.offers).items };
+}
+
+impl<R: Station> Desk<R> {
+    /// The desk of a remote that has begun, with the offers that all remotes have in common; without a remote there are
+    /// none.
+    pub fn new(remote: Option<R>, offers: Arc<Vec<Offer>>) -> Self
+        requires { IsOpen R.begun remote (arc_value offers).items }
+        ensures { result ≡ record { remote = remote; offers = (arc_value offers).items } }
+    {
+        Desk { remote, offers }
+    }
+
+    /// Gives the remote back.
+    pub fn into_remote(self) -> Option<R>
+        ensures { result ≡ self.remote }
+    {
+        self.remote
+    }
+}

@@ -1,0 +1,50 @@
+//! Each law is called once.
+
+use saw_node::{OneByte, Sha512Half};
+
+#[test]
+fn laws_of_bytes_and_addresses(_rt: HostRuntime) {
+    saw_faults::rise_is_kept();
+    saw_faults::rise_is_seen();
+    saw_io::framed_is_read();
+    saw_io::cuts_do_not_show();
+    saw_wire::one_spelling();
+    saw_wire::written_is_spelled();
+    saw_wire::written_is_read();
+    saw_address::address_is_text();
+    saw_address::covers_means();
+    saw_address::overlaps_means();
+    saw_address::read_after_change();
+    saw_address::same_everywhere();
+    saw_address::text_is_one();
+}
+
+#[test]
+fn laws_of_messages_and_roots(_rt: HostRuntime) {
+    saw_messages::transactions_are_read_back();
+    saw_messages::batches_are_read_back();
+    saw_messages::blocks_are_read_back();
+    saw_messages::receipts_are_read_back();
+    saw_node::encoding_is_one();
+    saw_node::empty_root_is();
+    saw_node::same_root::<Sha512Half>();
+    saw_node::same_root::<OneByte>();
+    saw_node::order_does_not_show::<Sha512Half>();
+    saw_node::order_does_not_show::<OneByte>();
+}
+
+#[test]
+fn laws_of_transactions_and_families(_rt: HostRuntime) {
+    saw_context::over_shows();
+    saw_context::outcome_sees_inputs();
+    saw_context::writes_are_covered();
+    saw_context::conversation_is_not_early();
+    saw_context::sound_is_outcome();
+    saw_context::seen_is_over();
+    saw_intkey::replies_decide();
+    saw_intkey::reasons_are_own();
+    saw_xo::replies_decide();
+    saw_xo::kept_is_read();
+    saw_settings::replies_decide();
+    saw_settings::settings_are_read_back();
+}

@@ -1,0 +1,14 @@
+pub mod Wholes
+pub mod Boards
+pub mod Entries
+pub mod Lookups
+pub mod Distinct
+pub mod Gathered
+pub mod Joins
+pub mod Counted
+pub mod Cuts
+pub mod Written
+pub mod Ascii
+pub mod Sorted
+pub mod ReadBack
+pub mod Reasons
