@@ -11,7 +11,7 @@ import sys
 
 KEY = "02" + "1" * 64
 LIMIT = 4294967295
-FOLDER = sys.argv[1]
+FOLDER = sys.argv[1] if len(sys.argv) > 1 else "."
 
 
 def sha512(data):
