@@ -4,15 +4,13 @@
 #[cfg(test)]
 mod cbor;
 #[cfg(test)]
-mod context;
-#[cfg(test)]
 mod ends;
-#[cfg(test)]
-mod families;
 #[cfg(test)]
 mod laws;
 #[cfg(test)]
 mod messages;
+#[cfg(test)]
+mod receipts;
 #[cfg(test)]
 mod runs;
 #[cfg(test)]
