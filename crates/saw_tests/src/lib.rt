@@ -18,4 +18,6 @@ mod settings;
 #[cfg(test)]
 mod state;
 #[cfg(test)]
+mod station;
+#[cfg(test)]
 mod verify;
