@@ -54,10 +54,10 @@ fn an_item_is_read_and_written(rt: HostRuntime) -> Result<(), Fail> {
 #[test]
 fn a_node_is_read_and_written(rt: HostRuntime) -> Result<(), Fail> {
     let alloc = rt.alloc();
-    let bytes = b"\xa2\x61c\xa0\x61v\x42hi".as_slice();
+    let bytes = b"\xa2\x61c\xa0\x61v\x44\xa1\x61\x61\x05".as_slice();
     let node = saw_node::decode(alloc, bytes)?.ok_or("a node")?;
     assert_eq!(rt; saw_node::encode(alloc, &node)?.as_slice(), bytes);
-    assert!(rt; saw_node::decode(alloc, b"\xa2\x61c\xa0\x61v\x58\x02hi")?.is_none());
+    assert!(rt; saw_node::decode(alloc, b"\xa2\x61c\xa0\x61v\x58\x04\xa1\x61\x61\x05")?.is_none());
     Ok(())
 }
 
