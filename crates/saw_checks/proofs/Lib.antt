@@ -6,3 +6,5 @@ pub mod Chains
 pub mod BatchRuns
 pub mod BlockRuns
 pub mod BatchSteps
+pub mod Repeats
+pub mod Faultless

@@ -5,3 +5,4 @@ pub mod Readings
 pub mod Seen
 pub mod Parts
 pub mod BlockParts
+pub mod Laws

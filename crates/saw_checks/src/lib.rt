@@ -8,6 +8,7 @@ mod checked;
 mod fault;
 mod ids;
 mod judged;
+mod laws;
 mod seen;
 mod transactions;
 
@@ -16,4 +17,5 @@ pub use block::check_block;
 pub use checked::CheckedBlock;
 pub use fault::{BatchFault, StructureFault};
 pub use judged::{Judged, check_batches};
+pub use laws::{faultless_batch_is_good, faultless_block_is_good};
 pub use seen::add_id;

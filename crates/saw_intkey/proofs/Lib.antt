@@ -3,3 +3,4 @@ pub mod Entries
 pub mod Replaces
 pub mod Kept
 pub mod Reasons
+pub mod ReadBack

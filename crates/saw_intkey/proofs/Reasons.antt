@@ -1,6 +1,6 @@
 -- Each refusal is by a number of the family.
 use Rattle.std.proofs.Common.{◌≡◌, ℕ, Bool, true, false, cond, List, [], ◌∷◌, map, Option, Some, None, Result, Ok, Err, refl}
-use Rattle.std.specs.Prelude.{nat_lt, nat_le}
+use Rattle.std.specs.Prelude.{nat_lt}
 use Rattle.saw_cbor.specs.Data.{Pairs}
 use Rattle.saw_cbor.specs.Reading.{reading}
 use Rattle.saw_messages.specs.Reasons.{has_own_reason}

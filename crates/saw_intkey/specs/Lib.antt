@@ -1,3 +1,4 @@
 pub mod Payloads
 pub mod States
 pub mod Actions
+pub mod Laws

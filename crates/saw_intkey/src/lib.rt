@@ -3,7 +3,9 @@
 
 mod action;
 mod item;
+mod laws;
 mod payload;
 mod state;
 
 pub use action::{address_of, reasons_are_own, replies_decide, serves, step};
+pub use laws::kept_is_read;

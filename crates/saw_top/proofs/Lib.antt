@@ -5,3 +5,4 @@ pub mod Checked
 pub mod Twice
 pub mod Wholes
 pub mod Listings
+pub mod Frames

@@ -9,3 +9,4 @@ pub mod Notes
 pub mod Stream
 pub mod Run
 pub mod Answers
+pub mod Laws

@@ -1,7 +1,5 @@
 -- What is judged of a checked block.
-use Rattle.std.specs.Prelude.{ℕ, Bool, false, ◌||◌, List, [], ◌∷◌, ◌++◌, map}
-use Rattle.std.specs.List.{list_any}
-use Rattle.std.specs.Str.{bytes_eq}
+use Rattle.std.specs.Prelude.{ℕ, List, map}
 use Rattle.std.specs.Arc.{arc_value}
 use Rattle.std.specs.declared.sync.Arc.{Arc}
 use Rattle.std.specs.Global.{Global}
@@ -21,8 +19,3 @@ parts_in checked = record {
 -- the ids of transactions that were read
 abbrev pub read_ids : List (Arc Tx Global) → List (List ℕ)
 read_ids txs = map (λ (tx : Arc Tx Global). (arc_value tx).id) txs
-
--- whether an id stands among those before it, or twice in the list
-abbrev pub repeats_after : List (List ℕ) → List (List ℕ) → Bool
-repeats_after earlier [] = false
-repeats_after earlier (id ∷ ids) = list_any (λ other. bytes_eq other id) earlier || repeats_after (earlier ++ id ∷ []) ids

@@ -4,6 +4,7 @@
 mod command;
 mod fault;
 mod judge;
+mod laws;
 mod line;
 mod notes;
 mod progress;
@@ -13,6 +14,7 @@ mod stream;
 mod top;
 mod verdict;
 
+pub use laws::frames_are_read;
 pub use status::Status;
 pub use stream::{MAX_FRAMES, MAX_LENGTH};
 pub use top::{MAX_LIST, run};

@@ -42,19 +42,32 @@ module _ (key first signature second digest line : List ℕ) (key_size : length 
   by_signature : line ≡ key ++ first ++ (signature ++ (second ++ digest))
   by_signature = sym is ∙ simp append_assoc
 
-  key_of_parts : take 66 line ≡ key
+  pub key_of_parts : take 66 line ≡ key
   key_of_parts = ap (take 66) by_key ∙ take_at key (first ++ (signature ++ (second ++ digest))) 66 key_size
 
   behind_key : drop 67 line ≡ signature ++ (second ++ digest)
   behind_key = ap (drop 67) by_signature ∙ drop_at (key ++ first) (signature ++ (second ++ digest)) 67 (omega (arith, length-append key first))
 
-  signature_of_parts : take 128 (drop 67 line) ≡ signature
+  pub signature_of_parts : take 128 (drop 67 line) ≡ signature
   signature_of_parts = ap (take 128) behind_key ∙ take_at signature (second ++ digest) 128 signature_size
 
-  digest_of_parts : drop 196 line ≡ digest
+  pub digest_of_parts : drop 196 line ≡ digest
   digest_of_parts =
       ap (drop 196) (sym is)
       ∙ drop_at (key ++ first ++ signature ++ second) digest 196 (omega (arith, length-append (key ++ first ++ signature) second, length-append (key ++ first) signature, length-append key first))
+
+  pub first_of_parts : take 1 (drop 66 line) ≡ first
+  first_of_parts = ap (λ (v : List ℕ). take 1 v) (ap (drop 66) by_key ∙ drop_at key (first ++ (signature ++ (second ++ digest))) 66 key_size) ∙ take_at first (signature ++ (second ++ digest)) 1 first_size
+
+  pub second_of_parts : take 1 (drop 195 line) ≡ second
+  second_of_parts =
+      ap (λ (v : List ℕ). take 1 v)
+      (ap (drop 195) (sym is ∙ append_assoc (key ++ first ++ signature) second digest)
+      ∙ drop_at (key ++ first ++ signature) (second ++ digest) 195 (omega (arith, length-append (key ++ first) signature, length-append key first)))
+      ∙ take_at second digest 1 second_size
+
+  pub size_of_parts : length line ≡ 196 + length digest
+  size_of_parts = ap (λ (v : List ℕ). length v) (sym is) ∙ omega (arith, length-append (key ++ first ++ signature ++ second) digest, length-append (key ++ first ++ signature) second, length-append (key ++ first) signature, length-append key first)
 
 -- ---- a line and its triple
 

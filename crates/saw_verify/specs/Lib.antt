@@ -1,3 +1,4 @@
 pub mod Marks
 pub mod Lists
 pub mod Held
+pub mod Laws

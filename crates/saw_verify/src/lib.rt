@@ -3,8 +3,10 @@
 
 mod attest;
 mod dev;
+mod laws;
 mod verifier;
 
 pub use attest::{AttestFault, AttestVerifier};
 pub use dev::DevVerifier;
+pub use laws::list_is_read;
 pub use verifier::Verifier;

@@ -1,6 +1,6 @@
 use Rattle.std.proofs.Common.{[], ◌≡◌, map, take, drop}
 use Rattle.saw_checks.specs.Seen.{HoldsIds}
-use Rattle.saw_top.specs.Parts.{repeats_after}
+use Rattle.saw_checks.specs.Seen.{repeats_after}
 use Rattle.saw_top.proofs.repeats.batch_repeats.Given as goal
 
 abbrev pub invariant-loop-batch : goal.invariant-loop-batch
