@@ -43,8 +43,19 @@ fn laws_of_transactions_and_families(_rt: HostRuntime) {
     saw_context::seen_is_over();
     saw_intkey::replies_decide();
     saw_intkey::reasons_are_own();
+    saw_intkey::kept_is_read();
     saw_xo::replies_decide();
+    saw_xo::reasons_are_own();
     saw_xo::kept_is_read();
     saw_settings::replies_decide();
+    saw_settings::reasons_are_own();
     saw_settings::settings_are_read_back();
+}
+
+#[test]
+fn laws_of_blocks_and_streams(_rt: HostRuntime) {
+    saw_verify::list_is_read();
+    saw_checks::faultless_batch_is_good();
+    saw_checks::faultless_block_is_good();
+    saw_top::frames_are_read();
 }

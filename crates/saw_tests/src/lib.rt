@@ -2,13 +2,23 @@
 #![tactic(auto)]
 
 #[cfg(test)]
+mod access;
+#[cfg(test)]
+mod batches;
+#[cfg(test)]
 mod cbor;
 #[cfg(test)]
 mod ends;
 #[cfg(test)]
+mod families;
+#[cfg(test)]
 mod laws;
 #[cfg(test)]
+mod making;
+#[cfg(test)]
 mod messages;
+#[cfg(test)]
+mod reasons;
 #[cfg(test)]
 mod receipts;
 #[cfg(test)]

@@ -1,8 +1,9 @@
 //! Receipts of transactions.
 
+use crate::making::batch_of;
 use saw_address::Address;
-use saw_messages::{Change, Event, encode_receipt};
-use saw_receipts::receipt_of;
+use saw_messages::{Change, Event, Outcome, Reason, encode_receipt};
+use saw_receipts::{batch_receipts, receipt_of};
 use saw_wire::{Bytes, Items, Text};
 use std::alloc::{AllocError, Global};
 use std::test::Fail;
@@ -39,5 +40,42 @@ fn a_receipt_tells_sets_deletions_and_events(rt: HostRuntime) -> Result<(), Fail
     wanted.extend_from_slice([b'f'; 70].as_slice())?;
     wanted.extend_from_slice(b"\x18\x02\x12\x03\x0a\x01e\x22\x02id")?;
     assert_eq!(rt; bytes.as_slice(), wanted.as_slice());
+    Ok(())
+}
+
+/// An outcome without changes and events, or an invalid one.
+fn outcomes_of(alloc: Global, is_applied: bool) -> Result<Vec<Outcome>, AllocError> {
+    let mut outcomes = Vec::new(alloc);
+    outcomes.push(if is_applied {
+        Outcome::Ok {
+            changes: Items::new(alloc),
+            events: Items::new(alloc),
+        }
+    } else {
+        Outcome::Invalid {
+            reason: Reason::NoProcessor,
+        }
+    })?;
+    Ok(outcomes)
+}
+
+#[test]
+fn an_applied_transaction_has_a_receipt_under_its_id(rt: HostRuntime) -> Result<(), Fail> {
+    let alloc = rt.alloc();
+    let batch = batch_of(alloc, b"")?;
+    let made = batch_receipts(alloc, &batch, &outcomes_of(alloc, true)?)?;
+    match made.as_slice() {
+        [receipt] => assert_eq!(rt; receipt.transaction_id.as_str(), "id"),
+        _ => assert!(rt; false),
+    }
+    Ok(())
+}
+
+#[test]
+fn an_invalid_transaction_has_none(rt: HostRuntime) -> Result<(), Fail> {
+    let alloc = rt.alloc();
+    let batch = batch_of(alloc, b"")?;
+    let made = batch_receipts(alloc, &batch, &outcomes_of(alloc, false)?)?;
+    assert!(rt; made.is_empty());
     Ok(())
 }

@@ -1,7 +1,10 @@
 //! Messages of the Settings family, and where its settings are kept.
 
+use saw_messages::PlainBase;
 use saw_settings::*;
+use saw_wire::Bytes;
 use std::alloc::Global;
+use std::collections::BTreeMap;
 use std::test::Fail;
 
 fn setting_again(alloc: Global, bytes: &[u8]) -> Result<Vec<u8>, Fail> {
@@ -62,4 +65,17 @@ fn settings_have_their_addresses(rt: HostRuntime) {
     for (key, digits) in addresses {
         assert_eq!(rt; address_of(key).to_hex().as_slice(), digits.as_bytes());
     }
+}
+
+#[test]
+fn the_first_entry_of_a_key_is_its_setting(rt: HostRuntime) -> Result<(), Fail> {
+    let alloc = rt.alloc();
+    let kept = b"\x0a\x06\x0a\x01a\x12\x01b\x0a\x06\x0a\x01a\x12\x01c".as_slice();
+    let mut map = BTreeMap::new(alloc);
+    let _ = map.insert(address_of("a"), Bytes::from_slice(alloc, kept)?)?;
+    let base = PlainBase { map };
+    let value = setting_of(alloc, &base, "a")?.ok_or("a setting")?;
+    assert_eq!(rt; value.as_str(), "b");
+    assert!(rt; setting_of(alloc, &base, "b")?.is_none());
+    Ok(())
 }

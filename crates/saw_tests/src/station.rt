@@ -3,25 +3,24 @@
 ghost use Rattle.std.specs.Prelude.{◌≡◌, [], false, true, None, OnOk};
 ghost use Rattle.saw_messages.specs.declared.talk.Action.TheVariants as actions;
 
-use saw_context::{Job, Ticket, View};
-use saw_messages::{
-    Action, Event, Outcome, PlainBase, Reason, TransactionHeader, Transcript, Tx,
-    encode_transaction_header,
-};
+use crate::making::{no_view, transaction};
+use saw_address::Address;
+use saw_context::{Done, Job, Ticket};
+use saw_messages::{Action, Outcome, Place, PlainBase, Reason, Transcript, Tx};
 use saw_station::{Desk, Offer, Station, StationFault, run_one};
-use saw_wire::{Bytes, Items, Text};
-use std::alloc::{AllocError, Global};
+use saw_wire::{Items, Text};
+use std::alloc::Global;
 use std::collections::BTreeMap;
 use std::sync::Arc;
 use std::test::Fail;
 
-/// Adds so many events, and then is done.
+/// Asks for the same input so many times, and then is done.
 #[derive(Drop)]
-struct Adding {
-    events: usize,
+struct Asking {
+    requests: usize,
 }
 
-impl Station for Adding {
+impl Station for Asking {
     ghost use Rattle.std.specs.Prelude.{refl};
 
     ghost next = { λ _ _. actions.Ok };
@@ -49,12 +48,10 @@ impl Station for Adding {
     }
 
     fn step(&mut self, alloc: Global, _tx: &Tx, talk: &Transcript) -> Result<Action, StationFault> {
-        if talk.turns.as_slice().len() < self.events {
-            return Ok(Action::AddEvent(Event {
-                event_type: Text::new(alloc),
-                attributes: Items::new(alloc),
-                body: Bytes::new(alloc),
-            }));
+        if talk.turns.as_slice().len() < self.requests {
+            let mut places = Items::new(alloc);
+            places.push(Place::At(Address::new([0; 35])))?;
+            return Ok(Action::Get(places));
         }
         Ok(Action::Ok)
     }
@@ -64,45 +61,13 @@ impl Station for Adding {
     }
 }
 
-/// A list of one text.
-fn one_text(alloc: Global, text: &str) -> Result<Items<Text>, AllocError> {
-    let mut texts = Items::new(alloc);
-    texts.push(Text::from_str(alloc, text)?)?;
-    Ok(texts)
-}
-
-/// A transaction of this signer that may read and write under this prefix.
-fn transaction(alloc: Global, prefix: &str, signer: &str, payload: &[u8]) -> Result<Tx, Fail> {
-    let header = TransactionHeader {
-        batcher_public_key: Text::new(alloc),
-        dependencies: Items::new(alloc),
-        family_name: Text::new(alloc),
-        family_version: Text::new(alloc),
-        inputs: one_text(alloc, prefix)?,
-        nonce: Text::new(alloc),
-        outputs: one_text(alloc, prefix)?,
-        payload_sha512: Text::new(alloc),
-        signer_public_key: Text::from_str(alloc, signer)?,
-    };
-    let header_bytes = Bytes::from_vec(encode_transaction_header(alloc, &header)?);
-    let payload = Bytes::from_slice(alloc, payload)?;
-    let id = Text::new(alloc);
-    Ok(Tx::read(alloc, id, header_bytes, payload)?)
-}
-
-/// The view of a transaction before which there is none.
-fn no_view(alloc: Global) -> Result<Arc<View>, Fail> {
-    let entries = BTreeMap::new(alloc);
-    Ok(Arc::new(alloc, View { entries })?)
-}
-
-/// What comes of a transaction whose processor adds so many events.
-fn outcome_with(alloc: Global, events: usize) -> Result<Outcome, Fail> {
+/// What comes of a transaction whose processor makes so many requests.
+fn done_with(alloc: Global, requests: usize) -> Result<Done, Fail> {
     let mut offers = Vec::new(alloc);
     let family = Text::new(alloc);
-    let version = Text::new(alloc);
+    let version = Text::from_str(alloc, "1.0")?;
     offers.push(Offer { family, version })?;
-    let mut desk = Desk::new(Some(Adding { events }), Arc::new(alloc, offers)?);
+    let mut desk = Desk::new(Some(Asking { requests }), Arc::new(alloc, offers)?);
     let job = Job {
         ticket: Ticket {
             index: 0,
@@ -113,19 +78,10 @@ fn outcome_with(alloc: Global, events: usize) -> Result<Outcome, Fail> {
         dependency_failed: false,
     };
     let map = BTreeMap::new(alloc);
-    let done = run_one(alloc, &mut desk, &job, &PlainBase { map })?;
-    Ok(done.outcome)
+    Ok(run_one(alloc, &mut desk, &job, &PlainBase { map })?)
 }
 
-/// How many events an applied transaction added.
-fn count_of(outcome: &Outcome) -> Option<usize> {
-    match outcome {
-        Outcome::Ok { changes: _, events } => Some(events.len()),
-        Outcome::Invalid { reason: _ } => None,
-    }
-}
-
-/// Why it is invalid.
+/// Why it is invalid, if it is.
 fn reason_of(outcome: &Outcome) -> Option<Reason> {
     match outcome {
         Outcome::Ok { .. } => None,
@@ -135,14 +91,15 @@ fn reason_of(outcome: &Outcome) -> Option<Reason> {
 
 #[test]
 fn a_thousand_requests_are_answered(rt: HostRuntime) -> Result<(), Fail> {
-    let outcome = outcome_with(rt.alloc(), 1000)?;
-    assert_eq!(rt; count_of(&outcome), Some(1000));
+    let done = done_with(rt.alloc(), 1000)?;
+    assert_eq!(rt; done.reads.len(), 1000);
+    assert_eq!(rt; reason_of(&done.outcome), None);
     Ok(())
 }
 
 #[test]
 fn one_more_is_too_many(rt: HostRuntime) -> Result<(), Fail> {
-    let outcome = outcome_with(rt.alloc(), 1001)?;
-    assert_eq!(rt; reason_of(&outcome), Some(Reason::TooManyRequests));
+    let done = done_with(rt.alloc(), 1001)?;
+    assert_eq!(rt; reason_of(&done.outcome), Some(Reason::TooManyRequests));
     Ok(())
 }

@@ -1,8 +1,7 @@
 -- What is carried out of an answer, with the verifier that was given or with the triples of a list.
-use Rattle.std.proofs.Common.{◌≡◌, ◌⊎◌, inl, inr, ℕ, zero, suc, ◌<◌, ◌≤◌, Bool, true, false, cond, List, [], ◌∷◌, ◌++◌, length, Option, Some, None, Result, Ok, Err, refl, sym, ap, subst, ◌∙◌, arith}
-use Rattle.std.specs.Prelude.{IfSome, IsErrOf, nat_lt, option_map}
+use Rattle.std.proofs.Common.{◌≡◌, ◌⊎◌, inl, inr, ℕ, zero, suc, ◌<◌, ◌≤◌, Bool, true, false, List, [], ◌∷◌, length, Option, Some, None, Result, Ok, Err, refl, sym, ap, subst, ◌∙◌, arith}
+use Rattle.std.specs.Prelude.{IfSome, nat_lt, option_map}
 use Rattle.std.specs.Global.{Vec}
-use Rattle.std.specs.Io.KnownBytes.{Appends, Consumes}
 use Rattle.std.proofs.KnownBytes.{Appends-nil, Consumes-nil}
 use Rattle.std.proofs.lemmas.Bool.Decides.{nat_tests}
 use Rattle.std.proofs.Math.Path.{fun_ext}
@@ -16,14 +15,14 @@ use Rattle.std.proofs.lemmas.List.{append-nil}
 use Rattle.saw_top.specs.Command.{Apply, wish_of}
 use Rattle.saw_top.specs.Answers.{attested, listed, vouches, answer_of, vouches_for, WhereTold, CarriedBy, Carries}
 use Rattle.saw_top.specs.Faults.{is_told, fault_of_stream, fault_of_list, fault_of_shelf}
-use Rattle.saw_top.specs.Run.{Answer, ending_of, faulty, apply_answer, answer_to, IsUpToDate, IsPrompt, ShowsAll, ShowsFront, Shows}
+use Rattle.saw_top.specs.Run.{Answer, ending_of, faulty, apply_answer, IsUpToDate, IsPrompt, ShowsFront, Shows}
 use Rattle.saw_top.specs.Stream.{stream_of}
 use Rattle.saw_top.specs.Verdicts.{verdicts}
 use Rattle.saw_top.specs.declared.fault.RunFault.{RunFault}
 use Rattle.saw_top.specs.declared.fault.RunFault.TheVariants as runs
 use Rattle.saw_top.specs.declared.fault.StreamFault.{StreamFault}
 use Rattle.saw_top.specs.declared.fault.StreamFault.TheVariants.{Truncated, TooLong, Frames, Read, Write, Memory}
-use Rattle.saw_top.specs.declared.top.TheConstants.{MAX_LIST}
+use Rattle.saw_top.specs.Limits.{max_list}
 
 abbrev Accepts : Type 0
 Accepts = List ℕ → List ℕ → List ℕ → Bool
@@ -99,8 +98,8 @@ not_over : (n max : ℕ) → n ≤ max → nat_lt max n ≡ false
 not_over n max fits = grind (arith, nat_tests)
 
 -- the answer by a list that is there and not too long
-by_list : (file : Option (List ℕ)) (list bytes : List ℕ) → file ≡ Some list → length list ≤ MAX_LIST → listed file bytes ≡ attested list bytes (first_bad_line list)
-by_list file list bytes is fits = rw (is, not_over (length list) MAX_LIST fits) refl
+by_list : (file : Option (List ℕ)) (list bytes : List ℕ) → file ≡ Some list → length list ≤ max_list → listed file bytes ≡ attested list bytes (first_bad_line list)
+by_list file list bytes is fits = rw (is, not_over (length list) max_list fits) refl
 
 bad_by : (answer : Answer) (list bytes : List ℕ) (old : Option (List ℕ)) (e : AttestFault) → answer ≡ attested list bytes (first_bad_line list) → (e ≡ lists.OutOfMemory) ⊎ (option_map lists.BadLine (first_bad_line list) ≡ Some e)
     → Carries answer old old (Err (fault_of_list e))
@@ -115,7 +114,7 @@ bad_by answer list bytes old e is (inr bad) = bad_at (first_bad_line list) is ba
     bad_at (Some line) is bad = told line is (let same : lists.BadLine line ≡ e = cc in sym same)
 
 -- a list that is none
-pub bad_list : (first old : Option (List ℕ)) (held : Option Files) (name : List ℕ) (list : Vec ℕ) (e : AttestFault) → Fetches held name MAX_LIST (Ok list) → length list.items ≤ MAX_LIST
+pub bad_list : (first old : Option (List ℕ)) (held : Option Files) (name : List ℕ) (list : Vec ℕ) (e : AttestFault) → Fetches held name max_list (Ok list) → length list.items ≤ max_list
     → (e ≡ lists.OutOfMemory) ⊎ (option_map lists.BadLine (first_bad_line list.items) ≡ Some e) → WhereTold first held (λ bytes files. Carries (listed (files name) bytes) old old (Err (fault_of_list e)))
 bad_list None old held name list e fetched within why = tt
 bad_list (Some bytes) old None name list e fetched within why = (one_file list.items, bad_by (listed (Some list.items) bytes) list.items bytes old e (by_list (Some list.items) list.items bytes refl within) why)
@@ -127,14 +126,14 @@ bad_list (Some bytes) old (Some files) name list e fetched within why = bad_by (
 same_verifier : (accepts others : Accepts) → ((key message signature : List ℕ) → accepts key message signature ≡ others key message signature) → accepts ≡ others
 same_verifier accepts others same = fun_ext (λ key. fun_ext (λ message. fun_ext (λ signature. same key message signature)))
 
-good_list : (file : Option (List ℕ)) (list bytes : List ℕ) → file ≡ Some list → length list ≤ MAX_LIST → first_bad_line list ≡ None → listed file bytes ≡ apply_answer (attests list) bytes
+good_list : (file : Option (List ℕ)) (list bytes : List ℕ) → file ≡ Some list → length list ≤ max_list → first_bad_line list ≡ None → listed file bytes ≡ apply_answer (attests list) bytes
 good_list file list bytes is fits good = by_list file list bytes is fits ∙ ap (attested list bytes) good
 
 vouches_is : (accepts : Accepts) (file : Option (List ℕ)) (list : List ℕ) → file ≡ Some list → vouches accepts file ≡ attests list
 vouches_is accepts file list is = ap (vouches accepts) is
 
 pub carried_listed : (first left old new : Option (List ℕ)) (held : Option Files) (name : List ℕ) (list : Vec ℕ) (accepts : Accepts) → ((key message signature : List ℕ) → accepts key message signature ≡ attests list.items key message signature)
-    → first_bad_line list.items ≡ None → Fetches held name MAX_LIST (Ok list) → length list.items ≤ MAX_LIST → (status : ℕ) → IfSome first (λ bytes. Shows accepts bytes left old new (Ok status))
+    → first_bad_line list.items ≡ None → Fetches held name max_list (Ok list) → length list.items ≤ max_list → (status : ℕ) → IfSome first (λ bytes. Shows accepts bytes left old new (Ok status))
     → WhereTold first held (λ bytes files. Carries (listed (files name) bytes) old new (Ok status))
 carried_listed None left old new held name list accepts alike good fetched within status shown = tt
 carried_listed (Some bytes) left old new None name list accepts alike good fetched within status shown = (
@@ -147,7 +146,7 @@ carried_listed (Some bytes) left old new (Some files) name list accepts alike go
     (carried (attests list.items) bytes left old new status (subst (λ (v : Accepts). Shows v bytes left old new (Ok status)) (same_verifier accepts (attests list.items) alike) shown))
 
 pub carried_listed_fault : (first left old new : Option (List ℕ)) (held : Option Files) (name : List ℕ) (list : Vec ℕ) (accepts : Accepts) → ((key message signature : List ℕ) → accepts key message signature ≡ attests list.items key message signature)
-    → first_bad_line list.items ≡ None → Fetches held name MAX_LIST (Ok list) → length list.items ≤ MAX_LIST → (e : StreamFault) → IfSome first (λ bytes. Shows accepts bytes left old new (Err e))
+    → first_bad_line list.items ≡ None → Fetches held name max_list (Ok list) → length list.items ≤ max_list → (e : StreamFault) → IfSome first (λ bytes. Shows accepts bytes left old new (Err e))
     → WhereTold first held (λ bytes files. Carries (listed (files name) bytes) old new (Err (fault_of_stream e)))
 carried_listed_fault None left old new held name list accepts alike good fetched within e shown = tt
 carried_listed_fault (Some bytes) left old new None name list accepts alike good fetched within e shown = (
@@ -160,7 +159,7 @@ carried_listed_fault (Some bytes) left old new (Some files) name list accepts al
     (carried_fault (attests list.items) bytes left old new e (subst (λ (v : Accepts). Shows v bytes left old new (Err e)) (same_verifier accepts (attests list.items) alike) shown))
 
 pub up_to_date_listed : (first left old new : Option (List ℕ)) (held : Option Files) (name : List ℕ) (list : Vec ℕ) (accepts : Accepts) → ((key message signature : List ℕ) → accepts key message signature ≡ attests list.items key message signature)
-    → Fetches held name MAX_LIST (Ok list) → (e : StreamFault) → IfSome first (λ bytes. Shows accepts bytes left old new (Err e)) → fault_of_stream e ≡ runs.Read
+    → Fetches held name max_list (Ok list) → (e : StreamFault) → IfSome first (λ bytes. Shows accepts bytes left old new (Err e)) → fault_of_stream e ≡ runs.Read
     → WhereTold first held (λ bytes files. (others : Accepts) → IsUpToDate (vouches others (files name)) bytes left old new)
 up_to_date_listed None left old new held name list accepts alike fetched e shown is = tt
 up_to_date_listed (Some bytes) left old new None name list accepts alike fetched e shown is = (
@@ -174,7 +173,7 @@ up_to_date_listed (Some bytes) left old new (Some files) name list accepts alike
     (up_to_date_fault accepts bytes left old new e shown is)
 
 pub prompt_listed : (first left old new : Option (List ℕ)) (held : Option Files) (name : List ℕ) (list : Vec ℕ) (accepts : Accepts) → ((key message signature : List ℕ) → accepts key message signature ≡ attests list.items key message signature)
-    → Fetches held name MAX_LIST (Ok list) → (e : StreamFault) → IfSome first (λ bytes. Shows accepts bytes left old new (Err e)) → (fault_of_stream e ≡ runs.Write) ⊎ (fault_of_stream e ≡ runs.Memory)
+    → Fetches held name max_list (Ok list) → (e : StreamFault) → IfSome first (λ bytes. Shows accepts bytes left old new (Err e)) → (fault_of_stream e ≡ runs.Write) ⊎ (fault_of_stream e ≡ runs.Memory)
     → WhereTold first held (λ bytes files. (others : Accepts) → IsPrompt (vouches others (files name)) bytes left old new)
 prompt_listed None left old new held name list accepts alike fetched e shown is = tt
 prompt_listed (Some bytes) left old new None name list accepts alike fetched e shown is = (
@@ -210,10 +209,10 @@ faulty_shown runs.FileTooLong old = (record { output = Appends-nil old; code = r
 faulty_shown runs.FileFailed old = nothing_shown (faulty runs.FileFailed) old
 faulty_shown (runs.BadLine line) old = (record { output = Appends-nil old; code = refl }, refl)
 
-too_long : (file : Option (List ℕ)) (list bytes : List ℕ) → file ≡ Some list → MAX_LIST < length list → listed file bytes ≡ faulty runs.FileTooLong
-too_long file list bytes is more = rw (is, over (length list) MAX_LIST more) refl
+too_long : (file : Option (List ℕ)) (list bytes : List ℕ) → file ≡ Some list → max_list < length list → listed file bytes ≡ faulty runs.FileTooLong
+too_long file list bytes is more = rw (is, over (length list) max_list more) refl
 
-no_list : (file : Option (List ℕ)) (bytes : List ℕ) (old : Option (List ℕ)) (e : ShelfFault) → FileGives MAX_LIST file (Err e) → Carries (listed file bytes) old old (Err (fault_of_shelf e))
+no_list : (file : Option (List ℕ)) (bytes : List ℕ) (old : Option (List ℕ)) (e : ShelfFault) → FileGives max_list file (Err e) → Carries (listed file bytes) old old (Err (fault_of_shelf e))
 no_list file bytes old shelves.Missing is = rw is (faulty_shown runs.FileMissing old)
 no_list file bytes old shelves.TooLong is = rw (too_long file is.0 bytes is.1 is.2) (faulty_shown runs.FileTooLong old)
 no_list file bytes old shelves.Failed is = nothing_shown (listed file bytes) old
@@ -226,10 +225,10 @@ some_file max shelves.TooLong = (Some (some_list (suc max)).0, ((some_list (suc 
 some_file max shelves.Failed = (None, tt)
 some_file max shelves.OutOfMemory = (None, tt)
 
-pub unlisted : (first old : Option (List ℕ)) (held : Option Files) (name : List ℕ) (e : ShelfFault) → Fetches held name MAX_LIST (Err e)
+pub unlisted : (first old : Option (List ℕ)) (held : Option Files) (name : List ℕ) (e : ShelfFault) → Fetches held name max_list (Err e)
     → WhereTold first held (λ bytes files. Carries (listed (files name) bytes) old old (Err (fault_of_shelf e)))
 unlisted None old held name e fetched = tt
-unlisted (Some bytes) old None name e fetched = let found = some_file MAX_LIST e in (λ any. found.0, no_list found.0 bytes old e found.1)
+unlisted (Some bytes) old None name e fetched = let found = some_file max_list e in (λ any. found.0, no_list found.0 bytes old e found.1)
 unlisted (Some bytes) old (Some files) name e fetched = no_list (files name) bytes old e fetched
 
 -- ---- what the words ask for was done

@@ -17,7 +17,7 @@ use Rattle.saw_top.specs.Verdicts.{verdict_of, verdicts}
 use Rattle.saw_top.specs.declared.fault.StreamFault.{StreamFault}
 use Rattle.saw_top.specs.declared.fault.StreamFault.TheVariants.{Truncated, TooLong, Frames, Read, Write, Memory}
 use Rattle.saw_top.specs.declared.progress.Progress.{Progress}
-use Rattle.saw_top.specs.declared.stream.TheConstants.{MAX_LENGTH, MAX_FRAMES}
+use Rattle.saw_top.specs.Limits.{max_length, max_frames}
 use Rattle.saw_top.specs.declared.verdict.Verdict.{Verdict}
 use Rattle.saw_top.proofs.Streams.{report_of-append, report_of-push, verdicts-push, Reads-push, all_before, stream_ended, stream_faulty, stream_goes_on, stream_full, stream_too_many, stream_some}
 
@@ -74,9 +74,9 @@ module _ (accepts : List ℕ → List ℕ → List ℕ → Bool) where
 
   module _ (place : ℕ) (bytes : List ℕ) (now old mid : Option (List ℕ)) (progress : Progress) (at : IsAt place bytes now old mid progress) where
     -- a front, where nothing more was written
-    pub front_here : place ≤ MAX_FRAMES → ShowsFront (apply_answer accepts bytes) old mid
+    pub front_here : place ≤ max_frames → ShowsFront (apply_answer accepts bytes) old mid
     front_here fits =
-        let some = stream_some MAX_FRAMES at.frames bytes at.rest at.reads (omega (arith, at.count)) in
+        let some = stream_some max_frames at.frames bytes at.rest at.reads (omega (arith, at.count)) in
         let others : Stream = record { frames = some.0; fault = some.1 } in
         (report_of accepts at.frames, _, output_at bytes at.frames others some.2, at.written)
 
@@ -95,11 +95,11 @@ module _ (accepts : List ℕ → List ℕ → List ℕ → Bool) where
 
     -- ---- a read that gave no frame
 
-    pub read_fault : (next : Option (List ℕ)) (e : FrameFault) → place < MAX_FRAMES → FrameGives MAX_LENGTH now next (Err e) → (taken : List ℕ) → Consumes now next taken → Takes e taken next → Shows accepts bytes next old mid (Err (fault_of_frame e))
+    pub read_fault : (next : Option (List ℕ)) (e : FrameFault) → place < max_frames → FrameGives max_length now next (Err e) → (taken : List ℕ) → Consumes now next taken → Takes e taken next → Shows accepts bytes next old mid (Err (fault_of_frame e))
     read_fault next (frames.Truncated have want) below told taken consumed takes =
-        shown_fault (Truncated have want) (stream_faulty MAX_FRAMES at.frames bytes at.rest at.reads (omega (arith, at.count)) (frames.Truncated have want) (rw at.left at told))
+        shown_fault (Truncated have want) (stream_faulty max_frames at.frames bytes at.rest at.reads (omega (arith, at.count)) (frames.Truncated have want) (rw at.left at told))
     read_fault next (frames.TooLong size) below told taken consumed takes =
-        shown_fault (TooLong size) (stream_faulty MAX_FRAMES at.frames bytes at.rest at.reads (omega (arith, at.count)) (frames.TooLong size) (rw at.left at told))
+        shown_fault (TooLong size) (stream_faulty max_frames at.frames bytes at.rest at.reads (omega (arith, at.count)) (frames.TooLong size) (rw at.left at told))
     read_fault next frames.ReadFailed below told taken consumed takes =
         let rest : Consumes (Some at.rest) next taken = subst (λ o. Consumes o next taken) at.left consumed in
         (front_here (omega arith), record { frames = at.frames; rest = at.rest; reads = at.reads; taken = taken; consumed = rest; part = takes; written = at.written })
@@ -108,24 +108,24 @@ module _ (accepts : List ℕ → List ℕ → List ℕ → Bool) where
         (front_here (omega arith), prompt_here next (inl (taken, rest, inl (omega (arith, takes)))))
 
     -- the byte behind the last frame could not be read
-    pub probe_fault : (next : Option (List ℕ)) → place ≤ MAX_FRAMES → (taken : List ℕ) → Consumes now next taken → length taken < 1 → Shows accepts bytes next old mid (Err Read)
+    pub probe_fault : (next : Option (List ℕ)) → place ≤ max_frames → (taken : List ℕ) → Consumes now next taken → length taken < 1 → Shows accepts bytes next old mid (Err Read)
     probe_fault next fits taken consumed few =
         let rest : Consumes (Some at.rest) next taken = subst (λ o. Consumes o next taken) at.left consumed in
         (front_here fits, record { frames = at.frames; rest = at.rest; reads = at.reads; taken = taken; consumed = rest; part = inl (omega arith); written = at.written })
 
-    pub too_many : (next : Option (List ℕ)) → place ≤ MAX_FRAMES → MAX_FRAMES ≤ place → IfSome now (λ left. false ≡ (length left == 0)) → Shows accepts bytes next old mid (Err Frames)
+    pub too_many : (next : Option (List ℕ)) → place ≤ max_frames → max_frames ≤ place → IfSome now (λ left. false ≡ (length left == 0)) → Shows accepts bytes next old mid (Err Frames)
     too_many next fits over some =
         let test : false ≡ (length at.rest == 0) = rw at.left at some in
-        shown_fault Frames (stream_too_many MAX_FRAMES at.frames bytes at.rest at.reads (omega (arith, at.count)) (omega (arith, at.count)) (sym test))
+        shown_fault Frames (stream_too_many max_frames at.frames bytes at.rest at.reads (omega (arith, at.count)) (omega (arith, at.count)) (sym test))
 
     -- ---- a frame whose line could not be written
 
-    module _ (next new : Option (List ℕ)) (content : Vec ℕ) (below : place < MAX_FRAMES) (told : FrameGives MAX_LENGTH now next (Ok (Some content))) where
+    module _ (next new : Option (List ℕ)) (content : Vec ℕ) (below : place < max_frames) (told : FrameGives max_length now next (Ok (Some content))) where
       pub line_cut : (e : StreamFault) (n : ℕ) → (e ≡ Write) ⊎ (e ≡ Memory) → Appends mid new (take n (verdict_line place (verdict_of accepts place content.items))) → Shows accepts bytes next old new (Err e)
       line_cut e n which cut =
           let read = rw at.left at told in
-          let others = stream_from (MAX_FRAMES - length at.frames - 1) read.0 in
-          let is = stream_goes_on MAX_FRAMES at.frames bytes at.rest at.reads (omega (arith, at.count)) content.items read.0 read.2 in
+          let others = stream_from (max_frames - length at.frames - 1) read.0 in
+          let is = stream_goes_on max_frames at.frames bytes at.rest at.reads (omega (arith, at.count)) content.items read.0 read.2 in
           let line = verdict_line (length at.frames) (verdict_of accepts (length at.frames) content.items) in
           let rest = report (length at.frames + 1) (verdicts accepts (length at.frames + 1) others.frames) in
           let tail = (ending_of (verdicts accepts 0 (at.frames ++ content.items ∷ others.frames)) others.fault).output in
@@ -182,41 +182,41 @@ module _ (accepts : List ℕ → List ℕ → List ℕ → Bool) where
   -- ---- the same, whether or not the input tells its bytes
 
   module _ (place : ℕ) (now next old mid : Option (List ℕ)) (progress : Progress) where
-    pub SoFar-read_fault : (first : Option (List ℕ)) (e : FrameFault) → SoFar place first now old mid progress → place < MAX_FRAMES → FrameGives MAX_LENGTH now next (Err e)
+    pub SoFar-read_fault : (first : Option (List ℕ)) (e : FrameFault) → SoFar place first now old mid progress → place < max_frames → FrameGives max_length now next (Err e)
         → (taken : List ℕ) → Consumes now next taken → Takes e taken next → IfSome first (λ bytes. Shows accepts bytes next old mid (Err (fault_of_frame e)))
     SoFar-read_fault None e at below told taken consumed takes = tt
     SoFar-read_fault (Some bytes) e at below told taken consumed takes = read_fault place bytes now old mid progress at next e below told taken consumed takes
 
-    pub SoFar-line_cut : (first new : Option (List ℕ)) (content : Vec ℕ) (e : StreamFault) (n : ℕ) → SoFar place first now old mid progress → place < MAX_FRAMES → FrameGives MAX_LENGTH now next (Ok (Some content))
+    pub SoFar-line_cut : (first new : Option (List ℕ)) (content : Vec ℕ) (e : StreamFault) (n : ℕ) → SoFar place first now old mid progress → place < max_frames → FrameGives max_length now next (Ok (Some content))
         → (e ≡ Write) ⊎ (e ≡ Memory) → Appends mid new (take n (verdict_line place (verdict_of accepts place content.items))) → IfSome first (λ bytes. Shows accepts bytes next old new (Err e))
     SoFar-line_cut None new content e n at below told which cut = tt
     SoFar-line_cut (Some bytes) new content e n at below told which cut = line_cut place bytes now old mid progress at next new content below told e n which cut
 
-    pub SoFar-more : (first new : Option (List ℕ)) (content : Vec ℕ) (verdict : Verdict) (after : Progress) → SoFar place first now old mid progress → place < MAX_FRAMES → FrameGives MAX_LENGTH now next (Ok (Some content))
+    pub SoFar-more : (first new : Option (List ℕ)) (content : Vec ℕ) (verdict : Verdict) (after : Progress) → SoFar place first now old mid progress → place < max_frames → FrameGives max_length now next (Ok (Some content))
         → verdict ≡ verdict_of accepts place content.items → Appends mid new (verdict_line place verdict)
         → ((judged : List Verdict) → progress ≡ progress_of judged → after ≡ progress_of (judged ++ verdict ∷ [])) → SoFar (place + 1) first next old new after
     SoFar-more None new content verdict after at below told is line adds = tt
     SoFar-more (Some bytes) new content verdict after at below told is line adds = line_written place bytes now old mid progress at next new content below told verdict after is line adds
 
-    pub SoFar-ended : (first new : Option (List ℕ)) (result : Result ℕ StreamFault) → SoFar place first now old mid progress → place < MAX_FRAMES → FrameGives MAX_LENGTH now next (Ok None)
+    pub SoFar-ended : (first new : Option (List ℕ)) (result : Result ℕ StreamFault) → SoFar place first now old mid progress → place < max_frames → FrameGives max_length now next (Ok None)
         → IfOk result (λ status. Appends mid new (ending progress).output) → IfOk result (λ status. status ≡ (ending progress).status)
         → OnErr result ((n : ℕ) × Appends mid new (take n (ending progress).output)) → IfErr result (λ e. (e ≡ Write) ⊎ (e ≡ Memory)) → IfSome first (λ bytes. Shows accepts bytes next old new result)
     SoFar-ended None new result at below told more code cut which = tt
     SoFar-ended (Some bytes) new result at below told more code cut which =
         let read = rw at.left at told in
-        ended place bytes now old mid progress at next new (stream_ended MAX_FRAMES at.frames bytes at.rest at.reads (omega (arith, at.count)) read.0 read.2) (inr (None, read.0, read.2, read.1)) result more code cut which
+        ended place bytes now old mid progress at next new (stream_ended max_frames at.frames bytes at.rest at.reads (omega (arith, at.count)) read.0 read.2) (inr (None, read.0, read.2, read.1)) result more code cut which
 
-    pub SoFar-probe_fault : (first : Option (List ℕ)) → SoFar place first now old mid progress → place ≤ MAX_FRAMES → (taken : List ℕ) → Consumes now next taken → length taken < 1
+    pub SoFar-probe_fault : (first : Option (List ℕ)) → SoFar place first now old mid progress → place ≤ max_frames → (taken : List ℕ) → Consumes now next taken → length taken < 1
         → IfSome first (λ bytes. Shows accepts bytes next old mid (Err Read))
     SoFar-probe_fault None at fits taken consumed few = tt
     SoFar-probe_fault (Some bytes) at fits taken consumed few = probe_fault place bytes now old mid progress at next fits taken consumed few
 
-    pub SoFar-too_many : (first : Option (List ℕ)) → SoFar place first now old mid progress → place ≤ MAX_FRAMES → MAX_FRAMES ≤ place → IfSome now (λ left. false ≡ (length left == 0))
+    pub SoFar-too_many : (first : Option (List ℕ)) → SoFar place first now old mid progress → place ≤ max_frames → max_frames ≤ place → IfSome now (λ left. false ≡ (length left == 0))
         → IfSome first (λ bytes. Shows accepts bytes next old mid (Err Frames))
     SoFar-too_many None at fits over some = tt
     SoFar-too_many (Some bytes) at fits over some = too_many place bytes now old mid progress at next fits over some
 
-    pub SoFar-full : (first new : Option (List ℕ)) (result : Result ℕ StreamFault) → SoFar place first now old mid progress → place ≤ MAX_FRAMES → MAX_FRAMES ≤ place
+    pub SoFar-full : (first new : Option (List ℕ)) (result : Result ℕ StreamFault) → SoFar place first now old mid progress → place ≤ max_frames → max_frames ≤ place
         → IfSome now (λ left. true ≡ (length left == 0)) → (taken : List ℕ) → Consumes now next taken → length taken ≤ 1
         → IfOk result (λ status. Appends mid new (ending progress).output) → IfOk result (λ status. status ≡ (ending progress).status)
         → OnErr result ((n : ℕ) × Appends mid new (take n (ending progress).output)) → IfErr result (λ e. (e ≡ Write) ⊎ (e ≡ Memory)) → IfSome first (λ bytes. Shows accepts bytes next old new result)
@@ -224,4 +224,4 @@ module _ (accepts : List ℕ → List ℕ → List ℕ → Bool) where
     SoFar-full (Some bytes) new result at fits over none taken consumed few more code cut which =
         let test : true ≡ (length at.rest == 0) = rw at.left at none in
         let rest : Consumes (Some at.rest) next taken = subst (λ o. Consumes o next taken) at.left consumed in
-        ended place bytes now old mid progress at next new (stream_full MAX_FRAMES at.frames bytes at.rest at.reads (omega (arith, at.count)) (omega (arith, at.count)) (sym test)) (inl (taken, rest, inl (omega arith))) result more code cut which
+        ended place bytes now old mid progress at next new (stream_full max_frames at.frames bytes at.rest at.reads (omega (arith, at.count)) (omega (arith, at.count)) (sym test)) (inl (taken, rest, inl (omega arith))) result more code cut which

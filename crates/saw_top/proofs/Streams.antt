@@ -10,7 +10,7 @@ use Rattle.saw_top.specs.Stream.{Stream, no_frames, before, by_reading, stream_f
 use Rattle.saw_top.specs.Verdicts.{verdict_of, verdicts}
 use Rattle.saw_top.specs.declared.fault.StreamFault.{StreamFault}
 use Rattle.saw_top.specs.declared.fault.StreamFault.TheVariants.{Frames}
-use Rattle.saw_top.specs.declared.stream.TheConstants.{MAX_LENGTH}
+use Rattle.saw_top.specs.Limits.{max_length}
 use Rattle.saw_top.specs.declared.verdict.Verdict.{Verdict}
 
 -- ---- lines
@@ -51,8 +51,8 @@ module _ (accepts : List ℕ → List ℕ → List ℕ → Bool) where
 
 -- ---- frames
 
-pub Reads-push : (frames : List (List ℕ)) (bytes rest behind content : List ℕ) → Reads frames bytes rest → frame_at MAX_LENGTH rest ≡ Ok (Some content, behind) → Reads (frames ++ content ∷ []) bytes behind
-Reads-push [] bytes rest behind content same is = (behind, ap (frame_at MAX_LENGTH) same ∙ is, refl)
+pub Reads-push : (frames : List (List ℕ)) (bytes rest behind content : List ℕ) → Reads frames bytes rest → frame_at max_length rest ≡ Ok (Some content, behind) → Reads (frames ++ content ∷ []) bytes behind
+Reads-push [] bytes rest behind content same is = (behind, ap (frame_at max_length) same ∙ is, refl)
 Reads-push (first ∷ frames) bytes rest behind content reads is = (reads.0, reads.1, Reads-push frames reads.0 rest behind content reads.2 is)
 
 -- frames before the others
@@ -75,15 +75,15 @@ module _ (max : ℕ) (frames : List (List ℕ)) (bytes rest : List ℕ) (reads :
     one_more : length frames + suc (max - length frames - 1) ≡ max
     one_more = omega arith
 
-    pub stream_ended : (behind : List ℕ) → frame_at MAX_LENGTH rest ≡ Ok (None, behind) → stream_from max bytes ≡ all_before frames (no_frames None)
+    pub stream_ended : (behind : List ℕ) → frame_at max_length rest ≡ Ok (None, behind) → stream_from max bytes ≡ all_before frames (no_frames None)
     unfolding stream_from
     stream_ended behind is = stands_behind (suc (max - length frames - 1)) one_more ∙ ap (λ r. all_before frames (by_reading (stream_from (max - length frames - 1)) r)) is
 
-    pub stream_faulty : (e : FrameFault) → frame_at MAX_LENGTH rest ≡ Err e → stream_from max bytes ≡ all_before frames (no_frames (Some (fault_of_frame e)))
+    pub stream_faulty : (e : FrameFault) → frame_at max_length rest ≡ Err e → stream_from max bytes ≡ all_before frames (no_frames (Some (fault_of_frame e)))
     unfolding stream_from
     stream_faulty e is = stands_behind (suc (max - length frames - 1)) one_more ∙ ap (λ r. all_before frames (by_reading (stream_from (max - length frames - 1)) r)) is
 
-    pub stream_goes_on : (content behind : List ℕ) → frame_at MAX_LENGTH rest ≡ Ok (Some content, behind)
+    pub stream_goes_on : (content behind : List ℕ) → frame_at max_length rest ≡ Ok (Some content, behind)
         → stream_from max bytes ≡ all_before frames (before content (stream_from (max - length frames - 1) behind))
     unfolding stream_from
     stream_goes_on content behind is = stands_behind (suc (max - length frames - 1)) one_more ∙ ap (λ r. all_before frames (by_reading (stream_from (max - length frames - 1)) r)) is

@@ -9,7 +9,7 @@ use Rattle.saw_top.specs.Notes.{fault_line}
 use Rattle.saw_top.specs.Run.{Answer, faulty, apply_answer, ShowsAll, ShowsFront}
 use Rattle.saw_top.specs.declared.fault.RunFault.{RunFault}
 use Rattle.saw_top.specs.declared.fault.RunFault.TheVariants.{Words, FileMissing, FileTooLong, BadLine}
-use Rattle.saw_top.specs.declared.top.TheConstants.{MAX_LIST}
+use Rattle.saw_top.specs.Limits.{max_list}
 
 -- with the triples of a list in place of the verifier, unless a line is bad
 abbrev pub attested : List ℕ → List ℕ → Option ℕ → Answer
@@ -19,7 +19,7 @@ attested list bytes None = apply_answer (attests list) bytes
 -- with the list that the file is, if there is one and it is not too long
 abbrev pub listed : Option (List ℕ) → List ℕ → Answer
 listed None bytes = faulty FileMissing
-listed (Some list) bytes = if nat_lt MAX_LIST (length list) then faulty FileTooLong else attested list bytes (first_bad_line list)
+listed (Some list) bytes = if nat_lt max_list (length list) then faulty FileTooLong else attested list bytes (first_bad_line list)
 
 -- who vouches for signatures: the triples of the file, if one is named and there is one, else the verifier
 abbrev pub vouches : (List ℕ → List ℕ → List ℕ → Bool) → Option (List ℕ) → List ℕ → List ℕ → List ℕ → Bool

@@ -1,3 +1,4 @@
+pub mod Limits
 pub mod Verdicts
 pub mod Parts
 pub mod Progress

@@ -12,7 +12,7 @@ use Rattle.saw_top.specs.declared.fault.RunFault.{RunFault}
 use Rattle.saw_top.specs.declared.fault.StreamFault.{StreamFault}
 use Rattle.saw_top.specs.declared.fault.StreamFault.TheVariants.{Truncated, TooLong, Frames, Read, Write, Memory}
 use Rattle.saw_top.specs.declared.progress.Progress.{Progress}
-use Rattle.saw_top.specs.declared.stream.TheConstants.{MAX_LENGTH}
+use Rattle.saw_top.specs.Limits.{max_length}
 use Rattle.saw_top.specs.declared.verdict.Verdict.{Verdict}
 
 -- what a run writes, what it tells on the notes, and the status with which it ends
@@ -45,7 +45,7 @@ answer_to judged fault = record {
 -- of the rest at most what comes next was taken: a part of a frame, a length, or a whole frame or the end
 abbrev pub TakesNext : List ℕ → Option (List ℕ) → Type 0
 TakesNext rest left = ((taken : List ℕ) × Consumes (Some rest) left taken × ((length taken ≤ 4) ⊎ IsPart taken))
-    ⊎ ((next : Option (List ℕ)) × (behind : List ℕ) × (frame_at MAX_LENGTH rest ≡ Ok (next, behind)) × (left ≡ Some behind))
+    ⊎ ((next : Option (List ℕ)) × (behind : List ℕ) × (frame_at max_length rest ≡ Ok (next, behind)) × (left ≡ Some behind))
 
 module _ (accepts : List ℕ → List ℕ → List ℕ → Bool) where
   -- the answer of the command `apply`

@@ -4,7 +4,7 @@ use Rattle.saw_io.specs.Frame.{Reading, frame_at}
 use Rattle.saw_top.specs.Faults.{fault_of_frame}
 use Rattle.saw_top.specs.declared.fault.StreamFault.{StreamFault}
 use Rattle.saw_top.specs.declared.fault.StreamFault.TheVariants.{Frames}
-use Rattle.saw_top.specs.declared.stream.TheConstants.{MAX_LENGTH, MAX_FRAMES}
+use Rattle.saw_top.specs.Limits.{max_length, max_frames}
 
 -- the contents of the whole frames, and what stands behind them: nothing, or what is no frame
 pub record Stream : Type 0 where
@@ -28,12 +28,12 @@ by_reading others (Err e) = no_frames (Some (fault_of_frame e))
 -- whatever stands behind it.
 unfoldable pub stream_from : ℕ → List ℕ → Stream
 stream_from zero bytes = no_frames (if length bytes == 0 then None else Some Frames)
-stream_from (suc more) bytes = by_reading (stream_from more) (frame_at MAX_LENGTH bytes)
+stream_from (suc more) bytes = by_reading (stream_from more) (frame_at max_length bytes)
 
 abbrev pub stream_of : List ℕ → Stream
-stream_of bytes = stream_from MAX_FRAMES bytes
+stream_of bytes = stream_from max_frames bytes
 
 -- the bytes begin with these whole frames, and the rest stands behind them
 abbrev pub Reads : List (List ℕ) → List ℕ → List ℕ → Type 0
 Reads [] bytes rest = bytes ≡ rest
-Reads (content ∷ frames) bytes rest = (behind : List ℕ) × (frame_at MAX_LENGTH bytes ≡ Ok (Some content, behind)) × Reads frames behind rest
+Reads (content ∷ frames) bytes rest = (behind : List ℕ) × (frame_at max_length bytes ≡ Ok (Some content, behind)) × Reads frames behind rest
