@@ -1,12 +1,12 @@
 -- What a transaction sees of its own changes.
-use Rattle.std.proofs.Common.{◌≡◌, ℕ, List, [], ◌∷◌, ◌++◌, map, Option, Some, None, refl, sym, ap, ◌∙◌}
+use Rattle.std.proofs.Common.{◌≡◌, ℕ, List, [], ◌∷◌, ◌++◌, Option, Some, None, refl, sym, ap, ◌∙◌}
 use Rattle.std.specs.Ordering.{nat_cmp}
 use Rattle.std.specs.Cmp.Lexicographic.{slice_cmp}
 use Rattle.std.specs.Map.{lookup}
 use Rattle.std.specs.BTreeMap.{is_at}
 use Rattle.std.specs.FinMap as finite
 use Rattle.saw_address.specs.Maps.{StateMap, value_at}
-use Rattle.saw_address.proofs.Finite.{get-map_of, map_inserted}
+use Rattle.saw_address.proofs.Finite.{get-map_of}
 use Rattle.saw_messages.specs.declared.outcome.Change.{Change}
 use Rattle.saw_messages.specs.declared.talk.Entry.{Entry}
 use Rattle.saw_messages.specs.declared.talk.Place.{Place}

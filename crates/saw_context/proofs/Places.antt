@@ -1,6 +1,5 @@
 -- Positions in lists.
-use Rattle.std.proofs.Common.{◌≡◌, Bool, true, false, cond, not, ℕ, suc, List, [], ◌∷◌, map, Option, Some, None, length, refl, ap}
-use Rattle.std.specs.Prelude.{nat_lt}
+use Rattle.std.proofs.Common.{◌≡◌, Bool, not, List, [], ◌∷◌, map, refl}
 use Rattle.std.specs.List.{position, prefix_len}
 use Rattle.std.proofs.lemmas.List.{length-map}
 

@@ -1,5 +1,5 @@
 -- Results of transactions with what they were told: which are true, and which agree with the job that they are of.
-use Rattle.std.specs.Prelude.{◌≡◌, ◌⊎◌, ℕ, ◌+◌, Bool, true, false, not, ◌&&◌, List, [], ◌∷◌, map, Option, Some, None, is_some, nat_lt, if◌then◌else◌}
+use Rattle.std.specs.Prelude.{◌≡◌, ◌⊎◌, ℕ, Bool, true, false, not, List, [], ◌∷◌, map, Option, Some, None, if◌then◌else◌}
 use Rattle.std.specs.Arc.{arc_value}
 use Rattle.std.specs.FinMap as finite
 use Rattle.std.specs.List.{AllByRecursion}
@@ -11,10 +11,9 @@ use Rattle.saw_messages.specs.declared.outcome.Outcome.TheVariants as outcomes
 use Rattle.saw_messages.specs.declared.outcome.Reason.{Reason}
 use Rattle.saw_messages.specs.declared.outcome.Reason.TheVariants.{BadDeclared, NoProcessor, DependencyFailed, TooManyRequests, Remote, Family}
 use Rattle.saw_messages.specs.declared.talk.Action.{Action}
-use Rattle.saw_messages.specs.declared.talk.Action.TheVariants as actions
 use Rattle.saw_messages.specs.declared.talk.Turn.{Turn}
 use Rattle.saw_context.specs.Conversation.{Asked, body_of}
-use Rattle.saw_context.specs.Outcome.{Processors, Talk, conversation, conversed, refusal}
+use Rattle.saw_context.specs.Outcome.{Processors, conversation, conversed, refusal}
 use Rattle.saw_context.specs.Views.{Layers, layers_of}
 use Rattle.saw_context.specs.declared.reads.Origin.{Origin}
 use Rattle.saw_context.specs.declared.reads.Origin.TheVariants.{Own, Layer, Base}

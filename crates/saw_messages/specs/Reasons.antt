@@ -1,5 +1,5 @@
 -- The reasons by which processors refuse transactions.
-use Rattle.std.specs.Prelude.{ℕ, Bool, true, false, nat_lt}
+use Rattle.std.specs.Prelude.{Bool, true, false, nat_lt}
 use Rattle.saw_messages.specs.declared.outcome.Reason.{Reason}
 use Rattle.saw_messages.specs.declared.outcome.Reason.TheVariants.{BadDeclared, NoProcessor, DependencyFailed, TooManyRequests, Remote, Family}
 use Rattle.saw_messages.specs.declared.talk.Action.{Action}

@@ -18,7 +18,7 @@ use Rattle.saw_messages.specs.declared.talk.Turn.{Turn}
 use Rattle.saw_settings.specs.Actions.{accept_number, act, act_by, add_to, cast_vote, count_up, count_votes, decide, found_in, has_id, has_key, has_none, has_voted, id_of, is_reachable, new_candidate, next, next_after, propose, propose_by, propose_number, propose_under, proposal_fault, put_to_vote, reject_number, vote_among, vote_by, vote_for, vote_number, vote_under, with_vote, write}
 use Rattle.saw_settings.specs.Keys.{address_of, approval_threshold, authorized_keys, proposals, with_value}
 use Rattle.saw_settings.specs.Messages.{setting, setting_proposal, setting_vote, settings_payload}
-use Rattle.saw_settings.specs.Replies.{Told, Due, Goes, and_then, done, done_by, entries_at, entries_told, invalid, set_to, then_do, told_by, told_of, update_of, value_at, value_told, written_to}
+use Rattle.saw_settings.specs.Replies.{Told, Due, Goes, and_then, done, done_by, entries_at, entries_told, invalid, set_to, then_do, told_by, update_of, value_at, value_told, written_to}
 use Rattle.saw_settings.specs.Values.{candidates_of_value, kept_text, keys_in, keys_of, number_in, threshold_of}
 use Rattle.saw_settings.specs.declared.candidate.SettingCandidate.{SettingCandidate}
 use Rattle.saw_settings.specs.declared.payload.SettingProposal.{SettingProposal}

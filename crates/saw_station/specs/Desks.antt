@@ -1,5 +1,5 @@
 -- What a desk has.
-use Rattle.std.specs.Prelude.{◌≡◌, ℕ, Bool, true, List, [], Option, Some, None}
+use Rattle.std.specs.Prelude.{◌≡◌, ℕ, Bool, false, true, List, [], Option, Some, None}
 use Rattle.saw_station.specs.declared.offer.Offer.{Offer}
 
 -- a remote processor or none, and the offers that all remotes have in common
@@ -16,3 +16,8 @@ IsOpen begun (Some remote) offers = begun remote ≡ true
 abbrev pub faults_by : {R : Type 0} → (R → ℕ) → Option R → ℕ
 faults_by faults None = 0
 faults_by faults (Some remote) = faults remote
+
+-- whether the remote has a conversation open
+abbrev pub talking_by : {R : Type 0} → (R → Bool) → Option R → Bool
+talking_by talking None = false
+talking_by talking (Some remote) = talking remote

@@ -1,6 +1,6 @@
 //! The built-in processors, as stations.
 
-ghost use Rattle.std.specs.Prelude.{◌≡◌, [], true, None, OnOk};
+ghost use Rattle.std.specs.Prelude.{◌≡◌, [], false, true, None, OnOk};
 ghost use Rattle.saw_intkey.specs.Actions as intkey;
 ghost use Rattle.saw_settings.specs.Actions as settings;
 ghost use Rattle.saw_xo.specs.Actions as xo;
@@ -27,6 +27,8 @@ impl Station for IntKey {
     ghost begun = { λ _. true };
 
     ghost last = { λ _. None };
+
+    ghost talking = { λ _. false };
 
     ghost offered = { λ _. [] };
 
@@ -69,6 +71,8 @@ impl Station for Xo {
 
     ghost last = { λ _. None };
 
+    ghost talking = { λ _. false };
+
     ghost offered = { λ _. [] };
 
     ghost own_reasons = { λ tx turns. next_own tx.header.signer_public_key tx.payload turns };
@@ -109,6 +113,8 @@ impl Station for Settings {
     ghost begun = { λ _. true };
 
     ghost last = { λ _. None };
+
+    ghost talking = { λ _. false };
 
     ghost offered = { λ _. [] };
 

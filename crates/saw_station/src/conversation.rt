@@ -1,6 +1,6 @@
 //! The conversation of a transaction with a station.
 
-ghost use Rattle.std.specs.Prelude.{◌≡◌, ◌≤◌, true, IfOk, IsErrOf};
+ghost use Rattle.std.specs.Prelude.{◌≡◌, ◌≤◌, false, true, IfOk, IsErrOf, OnOk};
 ghost use Rattle.saw_context.specs.Access.{no_access};
 ghost use Rattle.saw_context.specs.Outcome.{changes_of, is_request};
 ghost use Rattle.saw_faults.specs.Counts.{Rose};
@@ -40,7 +40,7 @@ fn is_request(action: &Action) -> bool
     }
 }
 
-/// Follows a conversation to its end, or past its last request.
+/// Follows a conversation to its end, or past its last request. None is open then.
 pub(crate) fn converse<S: Station, B: Base>(
     alloc: Global,
     station: &mut S,
@@ -51,6 +51,7 @@ pub(crate) fn converse<S: Station, B: Base>(
     requires fresh { context ≡ no_access tx.now.header context.base context.layers }
     ensures spoken { IfOk result (λ spoken. IsSpoken S.tells (S.next (shape_of tx.now)) tx.now.header context.entry.base context.entry.layers
         spoken.talk.turns spoken.last spoken.done.changes spoken.done.events spoken.done.reads) }
+    ensures closed { OnOk result (S.talking station.new ≡ false) }
     ensures begun { S.begun station.new ≡ true }
     ensures offers { S.offered station.new ≡ S.offered station.old }
     ensures later { S.faults station.old ≤ S.faults station.new }

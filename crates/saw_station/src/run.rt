@@ -1,6 +1,6 @@
 //! One transaction, run at a desk.
 
-ghost use Rattle.std.specs.Prelude.{◌≡◌, ◌≤◌, true, is_some, IfOk, IsErrOf};
+ghost use Rattle.std.specs.Prelude.{◌≡◌, ◌≤◌, false, true, is_some, IfOk, IsErrOf, OnOk};
 ghost use Rattle.std.specs.Arc.{arc_value};
 ghost use Rattle.std.specs.List.{AllByRecursion};
 ghost use Rattle.saw_context.specs.Access.{no_access};
@@ -9,7 +9,7 @@ ghost use Rattle.saw_context.specs.Results.{Agrees, IsOfBase, IsSoundDone};
 ghost use Rattle.saw_context.specs.Views.{layers_of, over};
 ghost use Rattle.saw_faults.specs.Counts.{Rose};
 ghost use Rattle.saw_messages.specs.Shapes.{shape_of};
-ghost use Rattle.saw_station.specs.Desks.{faults_by};
+ghost use Rattle.saw_station.specs.Desks.{faults_by, talking_by};
 ghost use Rattle.saw_station.specs.Results.{IsRefusal, IsResult, IsTalk, outcome_at};
 ghost use Rattle.saw_station.specs.Serving.{next_by, processors_at, serving, tells_by};
 ghost use Rattle.saw_station.specs.Spoken.{IsSpoken};
@@ -26,7 +26,8 @@ use saw_messages::{Action, Change, Event, Outcome, Reason, Transcript, Tx};
 use saw_wire::Items;
 use std::alloc::{AllocError, Global};
 
-/// Runs a transaction over the base with the job's view on top. A fault leaves the desk with its offers and its remote.
+/// Runs a transaction over the base with the job's view on top, and leaves no conversation open. A fault leaves the desk
+/// with its offers and its remote.
 pub fn run_one<R: Station, B: Base>(
     alloc: Global,
     desk: &mut Desk<R>,
@@ -42,6 +43,7 @@ pub fn run_one<R: Station, B: Base>(
         → done.outcome ≡ outcome_of processors tx (over (B.entry base.now) (layers_of (arc_value job.now.view))) job.now.dependency_failed) }
     ensures offers { desk.new.offers ≡ desk.old.offers }
     ensures remote { is_some desk.new.remote ≡ is_some desk.old.remote }
+    ensures closed { OnOk result (talking_by R.talking desk.old.remote ≡ false → talking_by R.talking desk.new.remote ≡ false) }
     ensures later { faults_by R.faults desk.old.remote ≤ faults_by R.faults desk.new.remote }
     ensures cause { IsErrOf result StationFault.PeerFailed
         → Rose (faults_by R.faults desk.old.remote) (faults_by R.faults desk.new.remote) }
@@ -65,6 +67,7 @@ fn run_in<R: Station, B: Base>(
     ensures done { IfOk result (IsResult (processors_at R.next R.tells desk.old.offers) context.entry.base job.now) }
     ensures offers { desk.new.offers ≡ desk.old.offers }
     ensures remote { is_some desk.new.remote ≡ is_some desk.old.remote }
+    ensures closed { OnOk result (talking_by R.talking desk.old.remote ≡ false → talking_by R.talking desk.new.remote ≡ false) }
     ensures later { faults_by R.faults desk.old.remote ≤ faults_by R.faults desk.new.remote }
     ensures cause { IsErrOf result StationFault.PeerFailed
         → Rose (faults_by R.faults desk.old.remote) (faults_by R.faults desk.new.remote) }
@@ -98,6 +101,7 @@ fn speak<R: Station, B: Base>(
         context.entry.base context.entry.layers spoken.talk.turns spoken.last spoken.done.changes spoken.done.events spoken.done.reads) }
     ensures offers { desk.new.offers ≡ desk.old.offers }
     ensures remote { is_some desk.new.remote ≡ is_some desk.old.remote }
+    ensures closed { OnOk result (talking_by R.talking desk.old.remote ≡ false → talking_by R.talking desk.new.remote ≡ false) }
     ensures later { faults_by R.faults desk.old.remote ≤ faults_by R.faults desk.new.remote }
     ensures cause { IsErrOf result StationFault.PeerFailed
         → Rose (faults_by R.faults desk.old.remote) (faults_by R.faults desk.new.remote) }

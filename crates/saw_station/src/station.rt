@@ -1,6 +1,7 @@
 //! What answers for transactions.
 
 ghost use Rattle.std.specs.Prelude.{◌≡◌, ◌≤◌, ℕ, List, [], Bool, true, false, Option, None, IfOk, OnOk, IsErrOf};
+ghost use Rattle.saw_context.specs.Outcome.{is_request};
 ghost use Rattle.saw_faults.specs.Counts.{Rose};
 ghost use Rattle.saw_messages.specs.Reasons.{has_own_reason};
 ghost use Rattle.saw_messages.specs.Shapes.{TxShape, shape_of};
@@ -32,12 +33,16 @@ pub trait Station: Send + Drop {
     /// What its last step was given and answered, where it keeps that.
     ghost last: { Self → Option Step };
 
+    /// Whether a conversation is open.
+    ghost talking: { Self → Bool };
+
     ghost offered: { Self → List Offer };
 
     /// Learns what it serves. It has begun after an `Ok`.
     fn begin(&mut self, alloc: Global) -> Result<(), StationFault>
         requires { begun self.old ≡ false }
         ensures ok { OnOk result (begun self.new ≡ true) }
+        ensures closed { OnOk result (talking self.new ≡ false) }
         ensures later { faults self.old ≤ faults self.new }
         ensures cause { IsErrOf result StationFault.PeerFailed → Rose (faults self.old) (faults self.new) };
 
@@ -54,15 +59,17 @@ pub trait Station: Send + Drop {
         ensures reason { IfOk result (λ action. has_own_reason action ≡ true) }
         ensures short { IfOk result IsShort }
         ensures keeps { IfOk result (KeepsStep (last self.new) (shape_of tx.now) talk.now.turns) }
+        ensures talking { IfOk result (λ action. talking self.new ≡ true → is_request action ≡ true) }
         ensures begun { begun self.new ≡ true }
         ensures offers { offered self.new ≡ offered self.old }
         ensures later { faults self.old ≤ faults self.new }
         ensures cause { IsErrOf result StationFault.PeerFailed → Rose (faults self.old) (faults self.new) };
 
-    /// Ends a conversation that went past its last request.
+    /// Ends a conversation that went past its last request. None is open then.
     fn close(&mut self, alloc: Global, tx: &Tx, talk: &Transcript) -> Result<(), StationFault>
         requires begun { begun self.old ≡ true }
         requires last { IsOfLast (last self.old) (shape_of tx.now) talk.now.turns }
+        ensures closed { OnOk result (talking self.new ≡ false) }
         ensures begun { begun self.new ≡ true }
         ensures offers { offered self.new ≡ offered self.old }
         ensures later { faults self.old ≤ faults self.new }
@@ -88,6 +95,8 @@ impl Station for NoStation {
     ghost begun = { λ _. true };
 
     ghost last = { λ _. None };
+
+    ghost talking = { λ _. false };
 
     ghost offered = { λ _. [] };
 

@@ -1,5 +1,5 @@
 use Rattle.std.proofs.Common.{sym, ◌∙◌}
-use Rattle.saw_context.proofs.Origins.{origin_own, origin_layer, origin_base}
+use Rattle.saw_context.proofs.Origins.{origin_layer, origin_base}
 use Rattle.saw_context.proofs.context.origin_at.Goals as goal
 
 pub returns-in-Some : goal.returns-in-Some

@@ -1,5 +1,3 @@
-use Rattle.std.proofs.Common.{Some, None, sym, ap, ◌∙◌}
-use Rattle.saw_context.specs.Conversation.{body_of}
 use Rattle.saw_context.proofs.Overlays.{over_entry, over_none}
 use Rattle.saw_context.proofs.overlay.below.Goals as goal
 

@@ -1,5 +1,5 @@
-use Rattle.std.proofs.Common.{◌≡◌, sym, subst}
-use Rattle.saw_context.specs.Undo.{IsOneStep, CameBy}
+use Rattle.std.proofs.Common.{sym, subst}
+use Rattle.saw_context.specs.Undo.{IsOneStep}
 use Rattle.saw_context.proofs.Undos.{came_by-push}
 use Rattle.saw_context.proofs.overlay.Overlay.note.Goals as goal
 

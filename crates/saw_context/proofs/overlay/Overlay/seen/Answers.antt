@@ -1,4 +1,3 @@
-use Rattle.std.proofs.Common.{Some, None}
 use Rattle.saw_context.specs.Views.{over, layers_of}
 use Rattle.saw_context.proofs.Overlays.{seen_own, seen_below}
 use Rattle.saw_context.proofs.overlay.Overlay.seen.Goals as goal
