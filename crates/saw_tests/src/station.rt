@@ -33,6 +33,8 @@ impl Station for Asking {
 
     ghost last = { λ _. None };
 
+    ghost talking = { λ _. false };
+
     ghost offered = { λ _. [] };
 
     ghost own_reasons = { λ _ _. refl };
