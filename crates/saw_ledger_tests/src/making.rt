@@ -11,6 +11,9 @@ use std::collections::BTreeMap;
 use std::sync::Arc;
 use std::test::Fail;
 
+/// The payload that sets the counter `a` to 5, in CBOR: {"Verb": "set", "Name": "a", "Value": 5}.
+pub(crate) const SET: &[u8] = b"\xa3\x64Verb\x63set\x64Name\x61a\x65Value\x05";
+
 /// A list of one text.
 pub(crate) fn one_text(alloc: Global, text: &str) -> Result<Items<Text>, AllocError> {
     let mut texts = Items::new(alloc);

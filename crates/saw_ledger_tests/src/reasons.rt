@@ -1,19 +1,30 @@
 //! Each reason of the built-in families, at its own check.
 
 use crate::making::{number_of, talk_of, transaction};
-use std::alloc::Global;
+use saw_messages::Transcript;
+use std::alloc::{AllocError, Global};
 use std::test::Fail;
 
+/// A conversation in which the bytes at an address were read, if some are given.
+fn talk_with(alloc: Global, kept: Option<&[u8]>) -> Result<Transcript, AllocError> {
+    match kept {
+        Some(bytes) => talk_of(alloc, &[bytes]),
+        None => talk_of(alloc, &[]),
+    }
+}
+
 /// The number by which a counter transaction is refused, after the bytes at its address were read if some are given.
-fn intkey_number(alloc: Global, payload: &[u8], kept: &[&[u8]]) -> Result<Option<u16>, Fail> {
+fn intkey_number(alloc: Global, payload: &[u8], kept: Option<&[u8]>) -> Result<Option<u16>, Fail> {
     let tx = transaction(alloc, "intkey", "", payload)?;
-    Ok(number_of(&saw_intkey::step(alloc, &tx, &talk_of(alloc, kept)?)?))
+    let talk = talk_with(alloc, kept)?;
+    Ok(number_of(&saw_intkey::step(alloc, &tx, &talk)?))
 }
 
 /// The same of a game transaction.
-fn xo_number(alloc: Global, payload: &[u8], kept: &[&[u8]]) -> Result<Option<u16>, Fail> {
+fn xo_number(alloc: Global, payload: &[u8], kept: Option<&[u8]>) -> Result<Option<u16>, Fail> {
     let tx = transaction(alloc, "xo", "", payload)?;
-    Ok(number_of(&saw_xo::step(alloc, &tx, &talk_of(alloc, kept)?)?))
+    let talk = talk_with(alloc, kept)?;
+    Ok(number_of(&saw_xo::step(alloc, &tx, &talk)?))
 }
 
 /// The same of a settings transaction, after these settings were read.
@@ -22,28 +33,25 @@ fn settings_number(alloc: Global, payload: &[u8], kept: &[&[u8]]) -> Result<Opti
     Ok(number_of(&saw_settings::step(alloc, &tx, &talk_of(alloc, kept)?)?))
 }
 
-/// A payload, what was read, and the number.
-type Row<'a> = (&'a [u8], &'a [&'a [u8]], u16);
-
 // The payloads are CBOR maps of `Verb`, `Name` and `Value`; what is kept is one of names with their values.
 #[test]
 fn each_check_of_a_counter_has_its_number(rt: HostRuntime) -> Result<(), Fail> {
-    let rows: [Row<'_>; 11] = [
-        (b"\x01", &[], 101),
-        (b"\xa2dNameaaeValue\x05", &[], 102),
-        (b"\xa3dVerbcputdNameaaeValue\x05", &[], 102),
-        (b"\xa2dVerbcseteValue\x05", &[], 103),
-        (b"\xa2dVerbcsetdNameaa", &[], 104),
-        (b"\xa3dVerbcsetdNameaaeValue\x05", &[b"\x01"], 106),
-        (b"\xa3dVerbcsetdNameaaeValue\x05", &[b"\xa1aa\x07"], 107),
-        (b"\xa3dVerbcincdNameaaeValue\x05", &[b"\xa1ab\x07"], 108),
-        (b"\xa3dVerbcdecdNameaaeValue\x05", &[b""], 108),
+    let rows: [(&[u8], Option<&[u8]>, u16); 11] = [
+        (b"\x01", None, 101),
+        (b"\xa2dNameaaeValue\x05", None, 102),
+        (b"\xa3dVerbcputdNameaaeValue\x05", None, 102),
+        (b"\xa2dVerbcseteValue\x05", None, 103),
+        (b"\xa2dVerbcsetdNameaa", None, 104),
+        (b"\xa3dVerbcsetdNameaaeValue\x05", Some(b"\x01"), 106),
+        (b"\xa3dVerbcsetdNameaaeValue\x05", Some(b"\xa1aa\x07"), 107),
+        (b"\xa3dVerbcincdNameaaeValue\x05", Some(b"\xa1ab\x07"), 108),
+        (b"\xa3dVerbcdecdNameaaeValue\x05", Some(b""), 108),
         (
             b"\xa3dVerbcincdNameaaeValue\x01",
-            &[b"\xa1aa\x1a\xff\xff\xff\xff"],
+            Some(b"\xa1aa\x1a\xff\xff\xff\xff"),
             109,
         ),
-        (b"\xa3dVerbcdecdNameaaeValue\x05", &[b"\xa1aa\x04"], 109),
+        (b"\xa3dVerbcdecdNameaaeValue\x05", Some(b"\xa1aa\x04"), 109),
     ];
     for (payload, kept, number) in rows {
         assert_eq!(rt; intkey_number(rt.alloc(), payload, kept)?, Some(number));
@@ -54,32 +62,32 @@ fn each_check_of_a_counter_has_its_number(rt: HostRuntime) -> Result<(), Fail> {
 // The signer is `K`.
 #[test]
 fn each_check_of_a_game_has_its_number(rt: HostRuntime) -> Result<(), Fail> {
-    let rows: [Row<'_>; 21] = [
-        (b"g,create", &[], 201),
-        (b"g,create,,", &[], 201),
-        (b"\xff,create,", &[], 201),
-        (b",create,", &[], 202),
-        (b"g|h,create,", &[], 202),
-        (b"g,play,", &[], 203),
-        (b"g,take,0", &[], 204),
-        (b"g,take,12", &[], 204),
-        (b"g,take,", &[], 204),
-        (b"g,create,", &[b"g"], 206),
-        (b"g,create,", &[b"f,--------,P1-NEXT,,"], 206),
-        (b"g,create,", &[b"f,---------,P1,,"], 206),
+    let rows: [(&[u8], Option<&[u8]>, u16); 21] = [
+        (b"g,create", None, 201),
+        (b"g,create,,", None, 201),
+        (b"\xff,create,", None, 201),
+        (b",create,", None, 202),
+        (b"g|h,create,", None, 202),
+        (b"g,play,", None, 203),
+        (b"g,take,0", None, 204),
+        (b"g,take,12", None, 204),
+        (b"g,take,", None, 204),
+        (b"g,create,", Some(b"g"), 206),
+        (b"g,create,", Some(b"f,--------,P1-NEXT,,"), 206),
+        (b"g,create,", Some(b"f,---------,P1,,"), 206),
         (
             b"g,create,",
-            &[b"f,---------,P1-NEXT,,|f,---------,P1-NEXT,,"],
+            Some(b"f,---------,P1-NEXT,,|f,---------,P1-NEXT,,"),
             206,
         ),
-        (b"g,create,", &[b"g,---------,P1-NEXT,,"], 207),
-        (b"g,take,1", &[b"f,---------,P1-NEXT,,"], 208),
-        (b"g,delete,", &[b""], 208),
-        (b"g,take,9", &[b"g,XXXOO----,P1-WIN,K,K"], 209),
-        (b"g,take,9", &[b"g,XXOOOXXOX,TIE,K,K"], 209),
-        (b"g,take,1", &[b"g,---------,P1-NEXT,L,"], 210),
-        (b"g,take,2", &[b"g,X--------,P2-NEXT,K,L"], 210),
-        (b"g,take,1", &[b"g,X--------,P2-NEXT,K,"], 211),
+        (b"g,create,", Some(b"g,---------,P1-NEXT,,"), 207),
+        (b"g,take,1", Some(b"f,---------,P1-NEXT,,"), 208),
+        (b"g,delete,", Some(b""), 208),
+        (b"g,take,9", Some(b"g,XXXOO----,P1-WIN,K,K"), 209),
+        (b"g,take,9", Some(b"g,XXOOOXXOX,TIE,K,K"), 209),
+        (b"g,take,1", Some(b"g,---------,P1-NEXT,L,"), 210),
+        (b"g,take,2", Some(b"g,X--------,P2-NEXT,K,L"), 210),
+        (b"g,take,1", Some(b"g,X--------,P2-NEXT,K,"), 211),
     ];
     for (payload, kept, number) in rows {
         assert_eq!(rt; xo_number(rt.alloc(), payload, kept)?, Some(number));
@@ -98,7 +106,7 @@ const TWO_VOTES: &[u8] = b"\x0a.\x0a)sawtooth.settings.vote.approval_threshold\x
 // The signer is `K`. The messages were made by Python; an empty one is a setting that has no entry.
 #[test]
 fn each_check_of_a_settings_payload_has_its_number(rt: HostRuntime) -> Result<(), Fail> {
-    let rows: [Row<'_>; 4] = [
+    let rows: [(&[u8], &[&[u8]], u16); 4] = [
         // The keys are no setting.
         (b"\x08\x01\x12\x06\x0a\x01a\x12\x01b", &[b"\x0a"], 302),
         // The signer is no key.
@@ -120,7 +128,7 @@ fn each_check_of_a_settings_payload_has_its_number(rt: HostRuntime) -> Result<()
 
 #[test]
 fn each_check_of_a_proposal_has_its_number(rt: HostRuntime) -> Result<(), Fail> {
-    let rows: [Row<'_>; 8] = [
+    let rows: [(&[u8], &[&[u8]], u16); 8] = [
         // No proposal.
         (b"\x08\x01\x12\x01\x0a", &[b""], 306),
         // The threshold is no number.
@@ -181,7 +189,7 @@ fn each_check_of_a_proposal_has_its_number(rt: HostRuntime) -> Result<(), Fail> 
 
 #[test]
 fn each_check_of_a_vote_has_its_number(rt: HostRuntime) -> Result<(), Fail> {
-    let rows: [Row<'_>; 4] = [
+    let rows: [(&[u8], &[&[u8]], u16); 4] = [
         // No vote.
         (b"\x08\x02\x12\x01\x0a", &[b""], 306),
         // Neither accepts nor rejects.

@@ -1,15 +1,12 @@
 //! Batches one after another.
 
-use crate::making::batch_of;
+use crate::making::{SET, batch_of};
 use saw_messages::PlainBase;
 use saw_station::{Desk, NoStation, run_batches};
 use std::alloc::Global;
 use std::collections::BTreeMap;
 use std::sync::Arc;
 use std::test::Fail;
-
-// {"Verb": "set", "Name": "a", "Value": 5}
-const SET: &[u8] = b"\xa3\x64Verb\x63set\x64Name\x61a\x65Value\x05";
 
 // {"Verb": "inc", "Name": "a", "Value": 2}
 const INC: &[u8] = b"\xa3\x64Verb\x63inc\x64Name\x61a\x65Value\x02";

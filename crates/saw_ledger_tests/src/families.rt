@@ -1,6 +1,6 @@
 //! Steps of the built-in families.
 
-use crate::making::{talk_of, transaction};
+use crate::making::{SET, talk_of, transaction};
 use saw_address::Address;
 use saw_messages::{Action, Place};
 use std::test::Fail;
@@ -26,9 +26,6 @@ fn set_bytes(action: &Action) -> Option<&[u8]> {
         _ => None,
     }
 }
-
-// {"Verb": "set", "Name": "a", "Value": 5}
-const SET: &[u8] = b"\xa3\x64Verb\x63set\x64Name\x61a\x65Value\x05";
 
 #[test]
 fn a_counter_is_read_before_it_is_set(rt: HostRuntime) -> Result<(), Fail> {

@@ -1,0 +1,13 @@
+//! Tests of the formats over bytes: frames, messages, CBOR, nodes, addresses, signatures and the checks of batches.
+#![tactic(auto)]
+
+#[cfg(test)]
+mod cbor;
+#[cfg(test)]
+mod ends;
+#[cfg(test)]
+mod messages;
+#[cfg(test)]
+mod state;
+#[cfg(test)]
+mod verify;
