@@ -1,7 +1,8 @@
 //! Each reason of the built-in families, at its own check.
 
-use crate::making::{number_of, talk_of, transaction};
-use saw_messages::Transcript;
+use crate::making::{SET, number_of, talk_of, transaction};
+use saw_messages::{Action, Reply, Transcript, Turn};
+use saw_wire::Items;
 use std::alloc::{AllocError, Global};
 use std::test::Fail;
 
@@ -218,5 +219,42 @@ fn each_check_of_a_vote_has_its_number(rt: HostRuntime) -> Result<(), Fail> {
     for (payload, kept, number) in rows {
         assert_eq!(rt; settings_number(rt.alloc(), payload, kept)?, Some(number));
     }
+    Ok(())
+}
+
+/// A conversation in which the first request was refused.
+fn refused_talk(alloc: Global) -> Result<Transcript, AllocError> {
+    let mut turns = Items::new(alloc);
+    turns.push(Turn {
+        action: Action::Get(Items::new(alloc)),
+        reply: Reply::Unauthorized { index: 0 },
+    })?;
+    Ok(Transcript { turns })
+}
+
+#[test]
+fn a_counter_that_is_not_declared_has_its_number(rt: HostRuntime) -> Result<(), Fail> {
+    let alloc = rt.alloc();
+    let tx = transaction(alloc, "intkey", "", SET)?;
+    let action = saw_intkey::step(alloc, &tx, &refused_talk(alloc)?)?;
+    assert_eq!(rt; number_of(&action), Some(105));
+    Ok(())
+}
+
+#[test]
+fn a_game_that_is_not_declared_has_its_number(rt: HostRuntime) -> Result<(), Fail> {
+    let alloc = rt.alloc();
+    let tx = transaction(alloc, "xo", "", b"g,create,")?;
+    let action = saw_xo::step(alloc, &tx, &refused_talk(alloc)?)?;
+    assert_eq!(rt; number_of(&action), Some(205));
+    Ok(())
+}
+
+#[test]
+fn a_setting_that_is_not_declared_has_its_number(rt: HostRuntime) -> Result<(), Fail> {
+    let alloc = rt.alloc();
+    let tx = transaction(alloc, "sawtooth_settings", "", b"")?;
+    let action = saw_settings::step(alloc, &tx, &refused_talk(alloc)?)?;
+    assert_eq!(rt; number_of(&action), Some(301));
     Ok(())
 }
