@@ -1,4 +1,3 @@
-pub mod IdSets
 pub mod Differences
 pub mod TxTests
 pub mod TxRuns

@@ -9,7 +9,6 @@ mod fault;
 mod ids;
 mod judged;
 mod laws;
-mod seen;
 mod transactions;
 
 pub use batch::check_batch;
@@ -18,4 +17,3 @@ pub use checked::CheckedBlock;
 pub use fault::{BatchFault, StructureFault};
 pub use judged::{Judged, check_batches};
 pub use laws::{faultless_batch_is_good, faultless_block_is_good};
-pub use seen::add_id;

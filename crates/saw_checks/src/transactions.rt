@@ -5,12 +5,12 @@ ghost use Rattle.std.specs.List.{list_any};
 ghost use Rattle.std.specs.Str.{bytes_eq};
 ghost use Rattle.saw_checks.specs.Tests.{first_of};
 ghost use Rattle.saw_checks.specs.BatchFaults.{tx_tests};
-ghost use Rattle.saw_checks.specs.Seen.{HoldsIds};
+ghost use Rattle.saw_ids.specs.Seen.{HoldsIds};
 ghost use Rattle.saw_checks.specs.Parts.{Tells, unless_memory, has_digest, declares_too_many, ReadsTx, TxGives, TxsGive};
 
 use crate::fault::BatchFault;
-use crate::seen::add_id;
 use saw_address::{is_hex_text, sha512_hex};
+use saw_ids::add_id;
 use saw_messages::{MessageFault, Transaction, TransactionHeader, Tx};
 use saw_verify::Verifier;
 use saw_wire::{Items, Text};

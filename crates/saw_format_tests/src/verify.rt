@@ -1,6 +1,7 @@
 //! Verifiers, and checks of batches.
 
-use saw_checks::{BatchFault, Judged, add_id, check_batch, check_batches};
+use saw_checks::{BatchFault, Judged, check_batch, check_batches};
+use saw_ids::add_id;
 use saw_messages::Batch;
 use saw_verify::{AttestFault, AttestVerifier, DevVerifier, Verifier};
 use saw_wire::{Bytes, Items, Text};

@@ -1,14 +1,14 @@
 //! Whether batches or transactions stand in a block twice.
 
 ghost use Rattle.std.specs.Prelude.{◌≡◌, ◌++◌, [], ℕ, List, false, map, ◌&&◌, IfOk};
-ghost use Rattle.saw_checks.specs.Seen.{HoldsIds};
+ghost use Rattle.saw_ids.specs.Seen.{HoldsIds};
 ghost use Rattle.saw_station.specs.Failures.{batch_shapes};
 ghost use Rattle.saw_checks.specs.Seen.{repeats_after};
 ghost use Rattle.saw_top.specs.Parts.{read_ids};
 ghost use Rattle.saw_top.specs.Verdicts.{tx_ids_of};
 ghost use Rattle.saw_messages.specs.Distinct.{are_distinct};
 
-use saw_checks::add_id;
+use saw_ids::add_id;
 use saw_messages::{Tx, TxBatch};
 use saw_wire::Text;
 use std::alloc::{AllocError, Global};

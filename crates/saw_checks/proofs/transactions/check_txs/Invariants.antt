@@ -2,7 +2,7 @@ use Rattle.std.proofs.Common.{◌≡◌, [], take, drop, map}
 use Rattle.std.specs.Arc.{arc_value}
 use Rattle.saw_checks.specs.BatchFaults.{ids_of, txs_fault}
 use Rattle.saw_checks.specs.Readings.{AreTxsOf}
-use Rattle.saw_checks.specs.Seen.{HoldsIds}
+use Rattle.saw_ids.specs.Seen.{HoldsIds}
 use Rattle.saw_checks.proofs.transactions.check_txs.Given as goal
 
 abbrev pub invariant-loop-t : goal.invariant-loop-t

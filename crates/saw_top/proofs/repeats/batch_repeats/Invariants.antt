@@ -1,5 +1,5 @@
 use Rattle.std.proofs.Common.{[], ◌≡◌, map, take, drop}
-use Rattle.saw_checks.specs.Seen.{HoldsIds}
+use Rattle.saw_ids.specs.Seen.{HoldsIds}
 use Rattle.saw_checks.specs.Seen.{repeats_after}
 use Rattle.saw_top.proofs.repeats.batch_repeats.Given as goal
 

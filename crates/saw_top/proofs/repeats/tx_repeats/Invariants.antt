@@ -1,5 +1,5 @@
 use Rattle.std.proofs.Common.{[], ◌≡◌, take, drop}
-use Rattle.saw_checks.specs.Seen.{HoldsIds}
+use Rattle.saw_ids.specs.Seen.{HoldsIds}
 use Rattle.saw_station.specs.Failures.{batch_shapes}
 use Rattle.saw_checks.specs.Seen.{repeats_after}
 use Rattle.saw_top.specs.Verdicts.{tx_ids_of}

@@ -1,5 +1,5 @@
 use Rattle.std.proofs.Common.{◌≡◌, ◌++◌, ℕ, List, take, drop}
-use Rattle.saw_checks.specs.Seen.{HoldsIds}
+use Rattle.saw_ids.specs.Seen.{HoldsIds}
 use Rattle.saw_checks.specs.Seen.{repeats_after}
 use Rattle.saw_top.specs.Parts.{read_ids}
 use Rattle.saw_top.proofs.repeats.txs_repeat.Given as goal

@@ -1,5 +1,5 @@
-use Rattle.saw_checks.proofs.IdSets.{holds_one_more, tells_repeated}
-use Rattle.saw_checks.proofs.seen.add_id.Goals as goal
+use Rattle.saw_ids.proofs.IdSets.{holds_one_more, tells_repeated}
+use Rattle.saw_ids.proofs.seen.add_id.Goals as goal
 
 pub returns : goal.returns
 returns c = λ ids holds.

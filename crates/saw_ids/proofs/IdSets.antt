@@ -9,7 +9,7 @@ use Rattle.std.specs.BTreeSet.{BTreeSet, contains}
 use Rattle.std.specs.BTreeMap.{is_at}
 use Rattle.std.proofs.lemmas.List.Folds.{list_any-append}
 use Rattle.std.proofs.lemmas.Map.Text.{is_eq-slice_cmp}
-use Rattle.saw_checks.specs.Seen.{HoldsIds}
+use Rattle.saw_ids.specs.Seen.{HoldsIds}
 
 either : (here before : Bool) → cond here true before ≡ (before || (here || false))
 either true true = refl
