@@ -1,0 +1,3 @@
+pub mod Transactions
+pub mod Rest
+pub mod Whole

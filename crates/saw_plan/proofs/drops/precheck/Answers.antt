@@ -1,0 +1,32 @@
+use Rattle.std.proofs.Common.{[], map, arith}
+use Rattle.saw_plan.specs.Shapes.{batch_shape}
+use Rattle.saw_plan.specs.StaticRules.{batch_cause, after_batch}
+use Rattle.saw_plan.specs.Steps.{both, sorting_of}
+use Rattle.saw_plan.proofs.Rest.{begins, goes_on, ends, few}
+use Rattle.saw_plan.proofs.drops.precheck.Goals as goal
+
+pub loop-place-init : goal.loop-place-init
+loop-place-init c = λ there known.
+    (record { batches = []; transactions = [] }, c.new-kept.ensures, begins there (map batch_shape c.args.batches.now) (sorting_of c.new-sorted.result) c.new-sorted.ensures)
+
+pub sort_next-requires : goal.sort_next-requires
+sort_next-requires c =
+    omega (arith, few c.args.batches.now c.loop-place.place c.index-batches-place.result c.loop-place-test.true c.index-batches-place.is, c.requires.transactions)
+
+pub loop-place-preserved : goal.loop-place-preserved
+loop-place-preserved c = λ there known.
+    let l = c.loop-place in
+    let batch = c.index-batches-place.result in
+    let so_far = l.invariant there known in
+    let more = so_far.0 in
+    let done = c.in_ok-sort_next.ensures in (
+      after_batch (batch_cause (both there more) (batch_shape batch)) more (batch_shape batch),
+      done.ids there more known so_far.1,
+      goes_on there more c.args.batches.now l.place batch c.loop-place-test.true c.index-batches-place.is (sorting_of l.sorted) (sorting_of c.sort_next.new.sorted) (done.sorting there more known so_far.1) so_far.2,
+    )
+
+pub returns : goal.returns
+returns c = λ there known.
+    let l = c.loop-place in
+    let so_far = l.invariant there known in
+    ends there (both there so_far.0) l.place c.args.batches.now l.sorted c.loop-place-test.false so_far.2

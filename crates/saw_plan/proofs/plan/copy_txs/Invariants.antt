@@ -1,0 +1,6 @@
+use Rattle.std.proofs.Common.{◌≡◌, take}
+use Rattle.saw_plan.specs.Shapes.{shapes_of}
+use Rattle.saw_plan.proofs.plan.copy_txs.Given as goal
+
+abbrev pub invariant-loop-tx : goal.invariant-loop-tx
+invariant-loop-tx l = shapes_of l.copies ≡ shapes_of (take l.tx-index l.txs)

@@ -1,0 +1,33 @@
+-- The batches one after another.
+use Rattle.std.specs.Prelude.{ℕ, List, [], ◌∷◌, ◌++◌, map, Option, Some, None}
+use Rattle.saw_plan.specs.Shapes.{BatchShape, batch_shape}
+use Rattle.saw_plan.specs.StaticRules.{Ids}
+use Rattle.saw_plan.specs.declared.sorted.DropCause.{DropCause}
+use Rattle.saw_plan.specs.declared.sorted.Dropped.{Dropped}
+use Rattle.saw_plan.specs.declared.sorted.Sorted.{Sorted}
+
+-- the ids of both
+abbrev pub both : Ids → Ids → Ids
+both there more = record { batches = there.batches ++ more.batches; transactions = there.transactions ++ more.transactions }
+
+-- a sorting, with its batches by themselves
+pub record Sorting : Type 0 where
+  pub plan : List BatchShape
+  pub places : List ℕ
+  pub dropped : List Dropped
+
+abbrev pub sorting_of : Sorted → Sorting
+sorting_of sorted = record { plan = map batch_shape sorted.plan.batches; places = sorted.places; dropped = sorted.dropped }
+
+-- a sorting with one more batch that is kept
+abbrev pub with_kept : ℕ → BatchShape → Sorting → Sorting
+with_kept place batch sorting = record { plan = sorting.plan ++ batch ∷ []; places = sorting.places ++ place ∷ []; dropped = sorting.dropped }
+
+-- a sorting with one more batch that is dropped
+abbrev pub with_dropped : ℕ → DropCause → Sorting → Sorting
+with_dropped place cause sorting = record { plan = sorting.plan; places = sorting.places; dropped = sorting.dropped ++ record { place = place; cause = cause } ∷ [] }
+
+-- a sorting with one more batch
+abbrev pub with_batch : Option DropCause → ℕ → BatchShape → Sorting → Sorting
+with_batch None place batch sorting = with_kept place batch sorting
+with_batch (Some cause) place batch sorting = with_dropped place cause sorting

@@ -1,0 +1,15 @@
+//! Which batches of a list may be run: the static rules, whatever the state.
+#![tactic(auto)]
+
+mod causes;
+mod drops;
+mod known;
+mod laws;
+mod plan;
+mod sorted;
+
+pub use drops::precheck;
+pub use known::Known;
+pub use laws::nothing_dropped_keeps_all;
+pub use plan::Plan;
+pub use sorted::{DropCause, Dropped, Sorted};
