@@ -9,3 +9,4 @@ pub mod Sound
 pub mod Overlays
 pub mod Undos
 pub mod Origins
+pub mod Gathered

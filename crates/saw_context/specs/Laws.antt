@@ -12,8 +12,9 @@ use Rattle.saw_messages.specs.declared.receipt.Event.{Event}
 use Rattle.saw_messages.specs.declared.talk.Action.{Action}
 use Rattle.saw_messages.specs.declared.talk.Turn.{Turn}
 use Rattle.saw_messages.specs.declared.transaction.TransactionHeader.{TransactionHeader}
-use Rattle.saw_context.specs.Conversation.{are_covering}
-use Rattle.saw_context.specs.Outcome.{Processors, conversed, outcome_of}
+use Rattle.saw_context.specs.Changed.{changed_by_all}
+use Rattle.saw_context.specs.Conversation.{Overlay, are_covering}
+use Rattle.saw_context.specs.Outcome.{Processors, conversed, outcome_of, changes_of, map_after}
 use Rattle.saw_context.specs.Results.{IsOf, IsOfBase, IsSeen, IsSound, fits_dependency, is_early}
 use Rattle.saw_context.specs.Views.{Layers, over, layered}
 use Rattle.saw_context.specs.declared.reads.Read.{Read}
@@ -52,3 +53,8 @@ SoundIsOutcome = (processors : Processors) (tx : TxShape) (turns : List Turn) (r
 abbrev pub SeenIsOver : Type 0
 SeenIsOver = (m : StateMap) (layers : Layers) (reads : List Read)
     → AllByRecursion (IsSeen layers) reads → AllByRecursion (IsOfBase m) reads → AllByRecursion (IsOf (over m layers)) reads
+
+-- gathered changes leave what they leave one after another
+abbrev pub GatheredChangesShow : Type 0
+GatheredChangesShow = (m : StateMap) (gathered : Overlay) (changes : List Change)
+    → map_after m (changes_of (changed_by_all gathered changes)) ≡ map_after (map_after m (changes_of gathered)) changes

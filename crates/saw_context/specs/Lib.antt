@@ -5,4 +5,5 @@ pub mod Views
 pub mod Results
 pub mod Access
 pub mod Undo
+pub mod Changed
 pub mod Laws

@@ -1,6 +1,6 @@
 //! Laws of transactions, whatever their processors.
 
-ghost use Rattle.saw_context.specs.Laws.{OverShows, OutcomeSeesInputs, WritesAreCovered, ConversationIsNotEarly, SoundIsOutcome, SeenIsOver};
+ghost use Rattle.saw_context.specs.Laws.{OverShows, GatheredChangesShow, OutcomeSeesInputs, WritesAreCovered, ConversationIsNotEarly, SoundIsOutcome, SeenIsOver};
 
 /// What a map has with a view on top.
 pub fn over_shows()
@@ -30,4 +30,9 @@ pub fn sound_is_outcome()
 /// Reads that agree with a view and its base are what the base gives with the view on top.
 pub fn seen_is_over()
     ensures { SeenIsOver }
+{}
+
+/// Gathered changes leave what they leave one after another.
+pub fn gathered_changes_show()
+    ensures { GatheredChangesShow }
 {}

@@ -1,6 +1,7 @@
 //! What a transaction, a batch and a list of batches do to a map, and access by declaration.
 #![tactic(auto)]
 
+mod changed;
 mod context;
 mod declared;
 mod fault;
@@ -11,12 +12,14 @@ mod reads;
 mod undo;
 mod view;
 
+pub use changed::Changed;
 pub use context::Context;
 pub use fault::{AccessFault, ContextFault};
 pub use job::{Done, Job, Ticket};
 pub use laws::{
-    conversation_is_not_early, outcome_sees_inputs, over_shows, seen_is_over, sound_is_outcome,
-    writes_are_covered,
+    conversation_is_not_early, gathered_changes_show, outcome_sees_inputs, over_shows,
+    seen_is_over, sound_is_outcome, writes_are_covered,
 };
+pub use overlay::Overlay;
 pub use reads::{Changes, Origin, Read};
 pub use view::{View, ViewEntry};

@@ -1,8 +1,9 @@
 //! What a transaction has changed so far.
 
-ghost use Rattle.std.specs.Prelude.{◌≡◌, Some, None, IfOk, OnOk, OnErr, is_some};
+ghost use Rattle.std.specs.Prelude.{◌≡◌, Some, None, IfOk, OnOk, OnErr, is_some, option_copied};
 ghost use Rattle.std.specs.FinMap as finite;
 ghost use Rattle.saw_address.specs.Maps.{value_at};
+ghost use Rattle.saw_context.specs.Changed.{AreRising, changed_by, changed_by_all};
 ghost use Rattle.saw_context.specs.Conversation.{Overlay as Owned, body_of, seen_at, put_at, set_all, delete_all};
 ghost use Rattle.saw_context.specs.Outcome.{changes_of};
 ghost use Rattle.saw_context.specs.Undo.{IsOneStep, CameBy};
@@ -19,7 +20,7 @@ use std::marker::Model;
 
 /// The last change at each address, seen as a finite map: a value, or none for a deletion.
 #[derive(Drop)]
-pub(crate) struct Overlay {
+pub struct Overlay {
     changes: BTreeMap<Address, Option<Bytes>>,
 }
 
@@ -39,7 +40,7 @@ impl Model for Overlay {
 
 impl Overlay {
     /// No changes.
-    pub(crate) fn new(alloc: Global) -> Self
+    pub fn new(alloc: Global) -> Self
         ensures { result ≡ finite.empty }
     {
         Overlay {
@@ -208,9 +209,37 @@ impl Overlay {
         }
     }
 
+    /// The change at an address, if there is one.
+    pub fn get(&self, at: &Address) -> Option<&Option<Bytes>>
+        ensures { option_copied result ≡ finite.get self.now at.now }
+    {
+        self.changes.get(at)
+    }
+
+    /// Puts a change on top.
+    pub fn change(&mut self, change: Change) -> Result<(), AllocError>
+        ensures ok { OnOk result (self.new ≡ changed_by self.old change) }
+        ensures err { OnErr result (self.new ≡ self.old) }
+    {
+        let Change { address, value } = change;
+        self.put(address, value)?;
+        Ok(())
+    }
+
+    /// Copies changes on top, one after another. After an `Err` some may be there.
+    pub fn change_all(&mut self, alloc: Global, changes: &[Change]) -> Result<(), AllocError>
+        ensures { OnOk result (self.new ≡ changed_by_all self.old changes.now) }
+    {
+        for change in changes {
+            self.change(copy_of_change(alloc, change)?)?;
+        }
+        Ok(())
+    }
+
     /// The changes in address order.
-    pub(crate) fn into_changes(self, alloc: Global) -> Result<Items<Change>, AllocError>
-        ensures { IfOk result (λ changes. changes ≡ changes_of self) }
+    pub fn into_changes(self, alloc: Global) -> Result<Items<Change>, AllocError>
+        ensures changes { IfOk result (λ changes. changes ≡ changes_of self) }
+        ensures rising { IfOk result AreRising }
     {
         let mut changes = Items::new(alloc);
         for (address, value) in self.changes {
@@ -231,6 +260,19 @@ fn below<B: Base>(alloc: Global, view: &View, base: &B, at: &Address) -> Result<
             None => Ok(Bytes::new(alloc)),
         },
     }
+}
+
+fn copy_of_change(alloc: Global, change: &Change) -> Result<Change, AllocError>
+    ensures { IfOk result (λ made. made ≡ change.now) }
+{
+    let value = match &change.value {
+        Some(value) => Some(value.try_clone(alloc)?),
+        None => None,
+    };
+    Ok(Change {
+        address: change.address,
+        value,
+    })
 }
 
 fn copy_of(alloc: Global, value: &Option<Bytes>) -> Result<Bytes, AllocError>

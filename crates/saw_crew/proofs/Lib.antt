@@ -1,0 +1,4 @@
+pub mod Members
+pub mod Batches
+pub mod Leaving
+pub mod Plain

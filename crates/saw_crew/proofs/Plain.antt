@@ -1,0 +1,62 @@
+-- A map with nothing on top, and dependencies by their ids.
+use Rattle.std.proofs.Common.{◌≡◌, ℕ, ◌+◌, ◌<◌, Bool, true, List, [], ◌∷◌, ◌++◌, append_assoc, length, take, get_or, refl, ap, ◌∙◌}
+use Rattle.std.specs.Prelude.{◌||◌}
+use Rattle.std.specs.Arc.{arc_value}
+use Rattle.std.specs.declared.sync.Arc.{Arc}
+use Rattle.std.specs.Global.{Global}
+use Rattle.std.proofs.lemmas.List.{map-append, take_more}
+use Rattle.std.specs.List.{list_any}
+use Rattle.std.specs.Str.{bytes_eq}
+use Rattle.std.specs.Ordering.{nat_cmp}
+use Rattle.std.specs.Cmp.Lexicographic.{slice_cmp, nat_list_eq_equiv}
+use Rattle.std.specs.BTreeSet.{BTreeSet, contains}
+use Rattle.saw_address.specs.Maps.{StateMap}
+use Rattle.saw_ids.specs.Seen.{is_among}
+use Rattle.saw_messages.specs.Shapes.{TxShape, shape_of}
+use Rattle.saw_messages.specs.declared.outcome.Outcome.{Outcome}
+use Rattle.saw_messages.specs.declared.tx.Tx.{Tx}
+use Rattle.saw_context.specs.Outcome.{Processors, outcome_of}
+use Rattle.saw_context.specs.Views.{layers_of, over}
+use Rattle.saw_context.specs.declared.view.View.{View}
+use Rattle.saw_context.proofs.Layers.{over-empty}
+use Rattle.saw_plan.specs.Shapes.{ids_of, shapes_of}
+use Rattle.saw_crew.specs.Running.{HoldsTxs, is_told}
+
+over_nothing : (m : StateMap) (view : View) → view.entries.entries ≡ [] → over m (layers_of view) ≡ m
+over_nothing m view none = rw none (over-empty m)
+
+-- the outcome of a transaction under a view with no entries
+pub outcome_plain : (processors : Processors) (m : StateMap) (tx its : Tx) (view made : View) (failed depends : Bool) (outcome : Outcome) → tx ≡ its → view ≡ made → made.entries.entries ≡ [] → failed ≡ depends
+    → (is_told processors (shape_of tx) ≡ true → outcome ≡ outcome_of processors (shape_of tx) (over m (layers_of view)) failed)
+    → is_told processors (shape_of its) ≡ true → outcome ≡ outcome_of processors (shape_of its) m depends
+outcome_plain processors m tx its view made failed depends outcome same shows none flag is told =
+    is (ap (λ (t : Tx). is_told processors (shape_of t)) same ∙ told)
+    ∙ ap (λ (shown : StateMap). outcome_of processors (shape_of tx) shown failed) (ap (λ (v : View). over m (layers_of v)) shows ∙ over_nothing m made none)
+    ∙ ap (λ (f : Bool). outcome_of processors (shape_of tx) m f) flag
+    ∙ ap (λ (t : Tx). outcome_of processors (shape_of t) m depends) same
+
+-- ---- dependencies
+
+among-ids : (others : List TxShape) (id : List ℕ) → is_among (ids_of others) id ≡ list_any (λ other. bytes_eq id other.id) others
+among-ids [] id = refl
+among-ids (other ∷ others) id = rw (nat_list_eq_equiv.symm other.id id) (ap (λ (b : Bool). bytes_eq id other.id || b) (among-ids others id))
+
+module _ (seen : BTreeSet (List ℕ)) (others : List TxShape) (holds : HoldsTxs seen others) where
+  -- a dependency whose id is in the set is one of the transactions
+  pub held-names : (dependencies : List (List ℕ)) → list_any (λ id. contains (slice_cmp nat_cmp) seen id) dependencies ≡ list_any (λ id. list_any (λ other. bytes_eq id other.id) others) dependencies
+  held-names [] = refl
+  held-names (id ∷ ids) = rw (holds id, among-ids others id) (ap (λ (b : Bool). list_any (λ other. bytes_eq id other.id) others || b) (held-names ids))
+
+-- the ids of the transactions up to an index, with one more
+pub ids-take : (others : List TxShape) (txs : List (Arc Tx Global)) (i : ℕ) (tx : Arc Tx Global) → i < length txs → tx ≡ get_or txs i tx
+    → ids_of (others ++ shapes_of (take i txs)) ++ (arc_value tx).id ∷ [] ≡ ids_of (others ++ shapes_of (take (i + 1) txs))
+ids-take others txs i tx below is =
+    rw (
+      take_more txs i tx below,
+      ← is,
+      map-append (λ t. shape_of (arc_value t)) (take i txs) (tx ∷ []),
+      map-append (λ (t : TxShape). t.id) others (shapes_of (take i txs)),
+      map-append (λ (t : TxShape). t.id) others (shapes_of (take i txs) ++ shapes_of (tx ∷ [])),
+      map-append (λ (t : TxShape). t.id) (shapes_of (take i txs)) (shapes_of (tx ∷ [])),
+    )
+    (append_assoc (ids_of others) (ids_of (shapes_of (take i txs))) ((arc_value tx).id ∷ []))

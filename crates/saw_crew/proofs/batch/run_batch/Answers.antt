@@ -1,0 +1,63 @@
+use Rattle.std.proofs.Common.{◌≡◌, ℕ, ◌+◌, List, drop, sym, ap, subst, ◌∙◌, arith}
+use Rattle.std.specs.Arc.{arc_value}
+use Rattle.std.proofs.lemmas.List.{drop_all}
+use Rattle.saw_address.specs.Maps.{StateMap}
+use Rattle.saw_context.specs.Outcome.{Processors, map_after}
+use Rattle.saw_context.specs.Serial.{Failed}
+use Rattle.saw_messages.specs.Shapes.{TxShape, shape_of}
+use Rattle.saw_messages.specs.declared.outcome.Outcome.{Outcome}
+use Rattle.saw_messages.specs.declared.outcome.Outcome.TheVariants as outcomes
+use Rattle.saw_plan.specs.Shapes.{shapes_of}
+use Rattle.saw_station.specs.Serving.{processors_at}
+use Rattle.saw_station.specs.declared.offer.Offer.{Offer}
+use Rattle.saw_crew.specs.Running.{IsOutcome}
+use Rattle.saw_crew.proofs.Leaving.{keeps_trans}
+use Rattle.saw_crew.proofs.Members.{HasRun, run_more, run_failed, run_ended, length-push, valid-push, shapes-drop}
+use Rattle.saw_crew.proofs.batch.run_batch.Goals as goal
+
+pub returns-in-Invalid-clause-result : goal.returns-in-Invalid-clause-result
+returns-in-Invalid-clause-result g c = λ others holds told.
+    let l = c.loop-tx in
+    let at : List Offer → Processors = processors_at g.R.Station.next g.R.Station.tells in
+    let processors : Processors = at c.args.desk.now.offers in
+    let start : StateMap = g.B.Base.entry c.args.base.now in
+    let all : List TxShape = shapes_of c.args.txs.now in
+    let tx : TxShape = shape_of (arc_value c.tx-item.result) in
+    let cut = shapes-drop c.args.txs.now l.tx-index c.tx-item.result c.loop-tx-test.true c.tx-item.is in
+    let run = subst (HasRun processors others start all l.outcomes l.state) cut (l.invariant.run others holds told) in
+    let outcome = subst (λ (offers : List Offer). IsOutcome (at offers) c.args.failed.now l.state tx c.in_ok-outcome.outcome) l.invariant.desk.offers c.in_ok-outcome.ensures.outcome in
+    ap (λ (t : ℕ). Failed t c.in-Invalid.reason) (sym l.invariant.counted)
+    ∙ run_failed processors others start all l.outcomes l.state tx (shapes_of (drop (l.tx-index + 1) c.args.txs.now)) run c.in-Invalid.reason
+    (λ here. sym c.in-Invalid.is ∙ outcome others holds here)
+
+pub loop-tx-preserved : goal.loop-tx-preserved
+loop-tx-preserved g c =
+    let l = c.loop-tx in
+    let at : List Offer → Processors = processors_at g.R.Station.next g.R.Station.tells in
+    let processors : Processors = at c.args.desk.now.offers in
+    let start : StateMap = g.B.Base.entry c.args.base.now in
+    let all : List TxShape = shapes_of c.args.txs.now in
+    let tx : TxShape = shape_of (arc_value c.tx-item.result) in
+    let one : Outcome = outcomes.Ok c.in-Ok.changes c.in-Ok.events in
+    let cut = shapes-drop c.args.txs.now l.tx-index c.tx-item.result c.loop-tx-test.true c.tx-item.is in
+    let outcome = subst (λ (offers : List Offer). IsOutcome (at offers) c.args.failed.now l.state tx c.in_ok-outcome.outcome) l.invariant.desk.offers c.in_ok-outcome.ensures.outcome in
+    let changed : c.change_all.new.self ≡ map_after l.state c.in-Ok.changes = rw (← c.as_slice.ensures) c.in_ok-change_all-in-Ok.ensures in
+    rw (c.in_ok-push.ensures.ok, c.in-Ok.is) (record {
+      desk = keeps_trans g.R.Station.faults c.args.desk.now l.desk c.run_tx.new.desk l.invariant.desk c.in_ok-outcome.ensures.desk.keeps;
+      count = omega arith;
+      counted = length-push l.outcomes one l.t l.invariant.counted;
+      valid = valid-push l.outcomes one l.invariant.valid tt;
+      run = λ others holds told.
+          run_more processors others start all l.outcomes l.state tx (shapes_of (drop (l.tx-index + 1) c.args.txs.now))
+          (subst (HasRun processors others start all l.outcomes l.state) cut (l.invariant.run others holds told))
+          c.change_all.new.self c.in-Ok.changes c.in-Ok.events
+          (λ here. sym c.in-Ok.is ∙ outcome others holds here)
+          changed;
+    })
+
+pub returns-clause-result : goal.returns-clause-result
+returns-clause-result g c = λ others holds told.
+    let l = c.loop-tx in
+    let none = ap shapes_of (drop_all l.tx-index c.args.txs.now (omega arith)) in
+    run_ended (processors_at g.R.Station.next g.R.Station.tells c.args.desk.now.offers) others (g.B.Base.entry c.args.base.now) (shapes_of c.args.txs.now) l.outcomes l.state
+    (shapes_of (drop l.tx-index c.args.txs.now)) none (l.invariant.run others holds told)

@@ -1,0 +1,44 @@
+use Rattle.std.proofs.Common.{◌+◌, ◌^◌, List, drop, sym, subst}
+use Rattle.std.specs.Prelude.{map}
+use Rattle.saw_address.specs.Maps.{StateMap}
+use Rattle.saw_context.specs.Outcome.{Processors}
+use Rattle.saw_context.specs.Serial.{BatchResult, failed_with}
+use Rattle.saw_messages.specs.Shapes.{TxShape}
+use Rattle.saw_plan.specs.Shapes.{shapes_of}
+use Rattle.saw_schedule.specs.Results.{result_of}
+use Rattle.saw_station.specs.Serving.{processors_at}
+use Rattle.saw_station.specs.declared.offer.Offer.{Offer}
+use Rattle.saw_crew.specs.Running.{IsBatchResult}
+use Rattle.saw_crew.proofs.Leaving.{keeps_trans}
+use Rattle.saw_crew.proofs.Batches.{AreSoFar, HasGone, batch_within, gone_more, results-push, so_far-push, txs_in, txs_in-drop}
+use Rattle.saw_crew.proofs.execution.run_plan.Goals as goal
+
+pub run_batch-requires-clause-counted : goal.run_batch-requires-clause-counted
+run_batch-requires-clause-counted g c = λ _ _.
+    rw c.as_slice-txs.ensures (batch_within c.args.batches.now c.loop-batch.batch-index c.batch-item.result c.loop-batch-test.true c.batch-item.is (2 ^ 32) c.requires.counted)
+
+pub loop-batch-preserved : goal.loop-batch-preserved
+loop-batch-preserved g c =
+    let l = c.loop-batch in
+    let at : List Offer → Processors = processors_at g.R.Station.next g.R.Station.tells in
+    let processors : Processors = at c.args.desk.now.offers in
+    let start : StateMap = g.B.Base.entry c.args.base.now in
+    let all : List (List TxShape) = txs_in c.args.batches.now in
+    let txs : List TxShape = shapes_of c.batch-item.result.txs in
+    let rest : List (List TxShape) = txs_in (drop (l.batch-index + 1) c.args.batches.now) in
+    let before : List BatchResult = map result_of l.results in
+    let came : BatchResult = result_of c.in_ok-came.came in
+    let cut = txs_in-drop c.args.batches.now l.batch-index c.batch-item.result c.loop-batch-test.true c.batch-item.is in
+    let pushed = results-push l.results c.push.new.self c.in_ok-came.came c.in_ok-push.ensures.ok in
+    let is = subst (λ (offers : List Offer). IsBatchResult (at offers) l.failed l.state txs came) l.invariant.desk.offers (rw c.as_slice-txs.ensures at c.in_ok-came.ensures.result) in
+    let may = rw c.as_slice-txs.ensures at c.in_ok-came.ensures.whole in
+    record {
+      desk = keeps_trans g.R.Station.faults c.args.desk.now l.desk c.run_batch.new.desk l.invariant.desk c.in_ok-came.ensures.desk.keeps;
+      others = failed_with l.invariant.others txs came;
+      failed = (rw c.as_slice-txs.ensures at c.in_ok-settle.ensures.failed) l.invariant.others l.invariant.failed;
+      whole = subst (λ (results : List BatchResult). AreSoFar all results rest) (sym pushed) (so_far-push all before txs rest came (subst (AreSoFar all before) cut l.invariant.whole) may);
+      gone = λ told.
+          subst (λ (results : List BatchResult). HasGone processors start all results (failed_with l.invariant.others txs came) c.settle.new.state rest) (sym pushed)
+          (gone_more processors start all before l.invariant.others l.state txs rest (subst (HasGone processors start all before l.invariant.others l.state) cut (l.invariant.gone told)) came c.settle.new.state
+          (is l.invariant.others l.invariant.failed) c.in_ok-settle.ensures.state);
+    }

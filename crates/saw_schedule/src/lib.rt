@@ -1,0 +1,7 @@
+//! What came of the batches of a plan.
+#![tactic(auto)]
+
+mod changes;
+mod results;
+
+pub use results::{BatchResult, Results};
