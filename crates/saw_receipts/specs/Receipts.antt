@@ -1,9 +1,6 @@
 -- The receipts of applied transactions.
 use Rattle.std.specs.Prelude.{ℕ, List, [], map, Option, Some, None}
-use Rattle.std.specs.Arc.{arc_value}
-use Rattle.std.specs.Global.{Global}
 use Rattle.std.specs.List.{filter_map, zip}
-use Rattle.std.specs.declared.sync.Arc.{Arc}
 use Rattle.hex.specs.Hex.{encode_lower}
 use Rattle.saw_messages.specs.declared.outcome.Change.{Change}
 use Rattle.saw_messages.specs.declared.outcome.Outcome.{Outcome}
@@ -11,7 +8,6 @@ use Rattle.saw_messages.specs.declared.outcome.Outcome.TheVariants as outcomes
 use Rattle.saw_messages.specs.declared.receipt.Event.{Event}
 use Rattle.saw_messages.specs.declared.receipt.Receipt.{Receipt}
 use Rattle.saw_messages.specs.declared.receipt.StateChange.{StateChange}
-use Rattle.saw_messages.specs.declared.tx.Tx.{Tx}
 
 -- kind 1 sets the value; kind 2 deletes the entry and has none
 abbrev pub set_or_deleted : List ℕ → Option (List ℕ) → StateChange
@@ -31,6 +27,6 @@ abbrev pub receipt_by : List ℕ → Outcome → Option Receipt
 receipt_by id (outcomes.Ok changes events) = Some (receipt id changes events)
 receipt_by id (outcomes.Invalid reason) = None
 
--- the receipts of transactions with these outcomes, in order
-abbrev pub receipts : List (Arc Tx Global) → List Outcome → List Receipt
-receipts txs outcomes = filter_map (λ each. receipt_by (arc_value {X = Tx} {Z = Global} each.0).id each.1) (zip txs outcomes)
+-- the receipts of transactions with these ids and outcomes, in order
+abbrev pub receipts : List (List ℕ) → List Outcome → List Receipt
+receipts ids outcomes = filter_map (λ each. receipt_by each.0 each.1) (zip ids outcomes)

@@ -1,0 +1,40 @@
+//! What is kept of accepted blocks.
+
+use indexmap::IndexMap;
+use saw_messages::Receipt;
+use saw_node::NodeHash;
+use saw_wire::{Items, Text};
+
+/// An accepted block.
+#[derive(Drop)]
+pub struct BlockRecord {
+    /// Its signature's 128 hex digits.
+    pub id: Text,
+    pub number: u64,
+    /// The id of the block before it. Of a first block: sixteen characters `0`.
+    pub previous: Text,
+    /// The key of its signer.
+    pub signer: Text,
+    /// The root of the state that it leaves.
+    pub root: NodeHash,
+    pub batches: Items<BatchRecord>,
+}
+
+/// A batch of an accepted block.
+#[derive(Drop)]
+pub struct BatchRecord {
+    pub id: Text,
+    /// One for each of its transactions, in order.
+    pub receipts: Items<Receipt>,
+}
+
+/// Accepted blocks by their ids, in order of arrival.
+pub type BlockMap = IndexMap<String, BlockRecord>;
+
+/// The block that a new one is put behind.
+#[derive(Drop)]
+pub struct Parent {
+    pub number: u64,
+    pub id: Text,
+    pub root: NodeHash,
+}
