@@ -1,0 +1,164 @@
+-- Ids of branches, gathered from the latest block on.
+use Rattle.std.proofs.Common.{◌≡◌, ℕ, ◌+◌, ◌<◌, Bool, true, false, List, [], ◌∷◌, ◌++◌, length, map, take, get_or, reverse, refl, sym, ap, subst, ◌∙◌, ◌⊎◌, inl, inr, arith, ◌-◌, ◌≤◌}
+use Rattle.std.specs.Prelude.{◌||◌}
+use Rattle.std.specs.Str.{bytes_eq}
+use Rattle.std.specs.BTreeSet.{BTreeSet}
+use Rattle.std.proofs.lemmas.Grind.{flat_map-append}
+use Rattle.std.proofs.lemmas.List.{append_assoc, append-nil, map_push, reverse-append, take_more}
+use Rattle.std.proofs.lemmas.List.Concat.{flat_map-cons}
+use Rattle.std.proofs.lemmas.List.Folds.{list_any-append}
+use Rattle.saw_ids.specs.Seen.{HoldsIds, is_among}
+use Rattle.saw_messages.specs.declared.receipt.Receipt.{Receipt}
+use Rattle.saw_context.specs.Serial.{BatchResult}
+use Rattle.saw_messages.specs.declared.tx.TxBatch.{TxBatch}
+use Rattle.saw_plan.specs.Shapes.{BatchShape, batch_shape}
+use Rattle.saw_schedule.specs.Results.{result_of}
+use Rattle.saw_schedule.specs.declared.results.BatchResult as code
+use Rattle.saw_journal.specs.Judgement.{batch_records}
+use Rattle.saw_plan.specs.StaticRules.{Ids, Knows}
+use Rattle.saw_plan.specs.Steps.{both}
+use Rattle.saw_plan.specs.declared.known.Known.{Known}
+use Rattle.saw_receipts.specs.declared.block.BatchRecord.{BatchRecord}
+use Rattle.saw_receipts.specs.declared.block.BlockRecord.{BlockRecord}
+use Rattle.saw_journal.specs.Branches.{batch_ids, branch_back, ids_in}
+
+-- ---- the ids of one block
+
+pub receipt_ids_more : (receipts : List Receipt) (i : ℕ) (receipt : Receipt) → i < length receipts → receipt ≡ get_or receipts i receipt → (ids : List (List ℕ))
+    → (ids ++ map (λ receipt. receipt.transaction_id) (take i receipts)) ++ receipt.transaction_id ∷ [] ≡ ids ++ map (λ receipt. receipt.transaction_id) (take (i + 1) receipts)
+receipt_ids_more receipts i receipt more here ids =
+    let cut : take (i + 1) receipts ≡ take i receipts ++ receipt ∷ [] = take_more receipts i receipt more ∙ ap (λ one. take i receipts ++ one ∷ []) (sym here) in
+    append_assoc ids (map (λ (receipt : Receipt). receipt.transaction_id) (take i receipts)) (receipt.transaction_id ∷ [])
+    ∙ ap (λ more. ids ++ more) (sym (ap (map (λ (receipt : Receipt). receipt.transaction_id)) cut ∙ map_push (λ (receipt : Receipt). receipt.transaction_id) (take i receipts) receipt))
+
+abbrev pub one_batch : BatchRecord → Ids
+one_batch batch = record { batches = batch.id ∷ []; transactions = map (λ receipt. receipt.transaction_id) batch.receipts }
+
+ids_push : (batches : List BatchRecord) (batch : BatchRecord) → batch_ids (batches ++ batch ∷ []) ≡ both (batch_ids batches) (one_batch batch)
+ids_push batches batch =
+    rw (
+      map_push (λ (batch : BatchRecord). batch.id) batches batch,
+      flat_map-append (λ (batch : BatchRecord). map (λ (receipt : Receipt). receipt.transaction_id) batch.receipts) batches (batch ∷ []),
+      flat_map-cons (λ (batch : BatchRecord). map (λ (receipt : Receipt). receipt.transaction_id) batch.receipts) batch [],
+      append-nil (map (λ (receipt : Receipt). receipt.transaction_id) batch.receipts),
+    ) refl
+
+same_ids : {a b c d : List (List ℕ)} → a ≡ b → c ≡ d → (◌≡◌ {A = Ids} (record { batches = a; transactions = c }) (record { batches = b; transactions = d }))
+same_ids e f = rw (e, f) refl
+
+pub batch_ids_more : (batches : List BatchRecord) (i : ℕ) (batch : BatchRecord) → i < length batches → batch ≡ get_or batches i batch → (there : Ids)
+    → both (both there (batch_ids (take i batches))) (record { batches = batch.id ∷ []; transactions = map (λ receipt. receipt.transaction_id) batch.receipts }) ≡ both there (batch_ids (take (i + 1) batches))
+batch_ids_more batches i batch more here there =
+    let cut : take (i + 1) batches ≡ take i batches ++ batch ∷ [] = take_more batches i batch more ∙ ap (λ one. take i batches ++ one ∷ []) (sym here) in
+    let pushed : batch_ids (take (i + 1) batches) ≡ both (batch_ids (take i batches)) (one_batch batch) = ap batch_ids cut ∙ ids_push (take i batches) batch in
+    let before = batch_ids (take i batches) in
+    same_ids (append_assoc there.batches before.batches (batch.id ∷ [])) (append_assoc there.transactions before.transactions (one_batch batch).transactions)
+    ∙ ap (both there) (sym pushed)
+
+-- ---- the ids that are gathered, and those of the rest of the branch
+
+-- the gathered ids and those that are left are those of the whole
+abbrev pub Covers : List (List ℕ) → List (List ℕ) → List (List ℕ) → Type 0
+Covers gathered left whole = (q : List ℕ) → (is_among gathered q || is_among left q) ≡ is_among whole q
+
+pub record CoversIds (gathered left whole : Ids) : Type 0 where
+  pub batches : Covers gathered.batches left.batches whole.batches
+  pub transactions : Covers gathered.transactions left.transactions whole.transactions
+
+turned : (a b c : Bool) → ((a || b) || c) ≡ (a || (c || b))
+turned true b c = refl
+turned false true true = refl
+turned false true false = refl
+turned false false true = refl
+turned false false false = refl
+
+covers_more : (gathered more left whole : List (List ℕ)) → Covers gathered (left ++ more) whole → Covers (gathered ++ more) left whole
+covers_more gathered more left whole covers = λ q.
+    rw (list_any-append (λ x. bytes_eq x q) gathered more)
+    (turned (is_among gathered q) (is_among more q) (is_among left q)
+    ∙ ap (λ b. is_among gathered q || b) (sym (list_any-append (λ x. bytes_eq x q) left more)) ∙ covers q)
+
+none_gathered : (whole : List (List ℕ)) → Covers [] whole whole
+none_gathered whole = λ q. refl
+
+or_false : (b : Bool) → (b || false) ≡ b
+or_false true = refl
+or_false false = refl
+
+all_gathered : (seen : BTreeSet (List ℕ)) (gathered whole : List (List ℕ)) → HoldsIds seen gathered → Covers gathered [] whole → HoldsIds seen whole
+all_gathered seen gathered whole holds covers = λ q. holds q ∙ sym (or_false (is_among gathered q)) ∙ covers q
+
+abbrev pub walk : List BlockRecord → List ℕ → List BlockRecord
+walk blocks id = branch_back (λ block. block) blocks id
+
+ids_push_block : (blocks : List BlockRecord) (block : BlockRecord) → ids_in (blocks ++ block ∷ []) ≡ both (ids_in blocks) (batch_ids block.batches)
+ids_push_block blocks block =
+    rw (
+      flat_map-append (λ (block : BlockRecord). (batch_ids block.batches).batches) blocks (block ∷ []),
+      flat_map-append (λ (block : BlockRecord). (batch_ids block.batches).transactions) blocks (block ∷ []),
+      flat_map-cons (λ (block : BlockRecord). (batch_ids block.batches).batches) block [],
+      flat_map-cons (λ (block : BlockRecord). (batch_ids block.batches).transactions) block [],
+      append-nil (batch_ids block.batches).batches,
+      append-nil (batch_ids block.batches).transactions,
+    ) refl
+
+latest_first : (blocks : List BlockRecord) (i : ℕ) (block : BlockRecord) → i < length blocks → block ≡ get_or blocks i block → reverse (take (i + 1) blocks) ≡ block ∷ reverse (take i blocks)
+latest_first blocks i block more here =
+    ap reverse (take_more blocks i block more ∙ ap (λ one. take i blocks ++ one ∷ []) (sym here)) ∙ reverse-append (take i blocks) (block ∷ [])
+
+module _ (blocks : List BlockRecord) (i : ℕ) (block : BlockRecord) (more : i < length blocks) (here : block ≡ get_or blocks i block) (wanted : List ℕ) (gathered whole : Ids)
+    (covers : CoversIds gathered (ids_in (walk (reverse (take (i + 1) blocks)) wanted)) whole) where
+  -- the block is not of the branch
+  pub passed_by : bytes_eq block.id wanted ≡ false → CoversIds gathered (ids_in (walk (reverse (take i blocks)) wanted)) whole
+  passed_by other =
+      let same : walk (reverse (take (i + 1) blocks)) wanted ≡ walk (reverse (take i blocks)) wanted = rw (latest_first blocks i block more here, other) refl in
+      subst (λ (branch : List BlockRecord). CoversIds gathered (ids_in branch) whole) same covers
+
+  -- the block is the next one of the branch
+  pub taken_in : bytes_eq block.id wanted ≡ true → CoversIds (both gathered (batch_ids block.batches)) (ids_in (walk (reverse (take i blocks)) block.previous)) whole
+  taken_in it =
+      let rest = walk (reverse (take i blocks)) block.previous in
+      let same : walk (reverse (take (i + 1) blocks)) wanted ≡ rest ++ block ∷ [] = rw (latest_first blocks i block more here, it) refl in
+      let now : CoversIds gathered (both (ids_in rest) (batch_ids block.batches)) whole =
+      subst (λ (left : Ids). CoversIds gathered left whole) (ap ids_in same ∙ ids_push_block rest block) covers in
+      record {
+        batches = covers_more gathered.batches (batch_ids block.batches).batches (ids_in rest).batches whole.batches now.batches;
+        transactions = covers_more gathered.transactions (batch_ids block.batches).transactions (ids_in rest).transactions whole.transactions now.transactions;
+      }
+
+pub opens : (whole : Ids) → CoversIds (record { batches = []; transactions = [] }) whole whole
+opens whole = record { batches = none_gathered whole.batches; transactions = none_gathered whole.transactions }
+
+pub closes : (known : Known) (gathered whole : Ids) → Knows known gathered → CoversIds gathered (record { batches = []; transactions = [] }) whole → Knows known whole
+closes known gathered whole knows covers = (all_gathered known.batches gathered.batches whole.batches knows.0 covers.batches, all_gathered known.transactions gathered.transactions whole.transactions knows.1 covers.transactions)
+
+-- ---- records of batches
+
+pub no_records : (batches : List BatchShape) (results : List BatchResult) → (batches ≡ []) ⊎ (results ≡ []) → batch_records batches results ≡ []
+no_records [] results none = refl
+no_records (batch ∷ batches) [] none = refl
+no_records (batch ∷ batches) (result ∷ results) (inl is) = absurd (grind (arith, is))
+no_records (batch ∷ batches) (result ∷ results) (inr is) = absurd (grind (arith, is))
+
+pub ended : (made whole : List BatchRecord) (batches : List TxBatch) (results : List code.BatchResult) → (batches ≡ []) ⊎ (results ≡ []) → made ++ batch_records (map batch_shape batches) (map result_of results) ≡ whole → made ≡ whole
+ended made whole batches results none known =
+    sym (append-nil made) ∙ ap (λ rest. made ++ rest) (sym (no_records (map batch_shape batches) (map result_of results) (both_mapped batches results none))) ∙ known
+  where
+    both_mapped : (batches : List TxBatch) (results : List code.BatchResult) → (batches ≡ []) ⊎ (results ≡ []) → (map batch_shape batches ≡ []) ⊎ (map result_of results ≡ [])
+    both_mapped batches results (inl is) = inl (ap (map batch_shape) is)
+    both_mapped batches results (inr is) = inr (ap (map result_of) is)
+
+-- ---- a place of the walk
+
+module _ (blocks : List BlockRecord) (place : ℕ) (block : BlockRecord) (some : 0 < place) (within : place ≤ length blocks) (here : block ≡ get_or blocks (place - 1) block) (wanted : List ℕ) (gathered whole : Ids)
+    (covers : CoversIds gathered (ids_in (walk (reverse (take place blocks)) wanted)) whole) where
+  again : CoversIds gathered (ids_in (walk (reverse (take (place - 1 + 1) blocks)) wanted)) whole
+  again =
+      let same : place ≡ place - 1 + 1 = omega (arith, some) in
+      subst (λ (n : ℕ). CoversIds gathered (ids_in (walk (reverse (take n blocks)) wanted)) whole) same covers
+
+  pub passed_at : bytes_eq block.id wanted ≡ false → CoversIds gathered (ids_in (walk (reverse (take (place - 1) blocks)) wanted)) whole
+  passed_at other = passed_by blocks (place - 1) block (omega (arith, some, within)) here wanted gathered whole again other
+
+  pub taken_at : bytes_eq block.id wanted ≡ true → CoversIds (both gathered (batch_ids block.batches)) (ids_in (walk (reverse (take (place - 1) blocks)) block.previous)) whole
+  taken_at it = taken_in blocks (place - 1) block (omega (arith, some, within)) here wanted gathered whole again it

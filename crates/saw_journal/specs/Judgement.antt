@@ -1,0 +1,88 @@
+-- What comes of a block: the first fault, or the record that is kept of it and the map that it leaves.
+use Rattle.std.specs.Prelude.{ℕ, Bool, List, [], map, Option, Some, None, Result, Ok, Err}
+use Rattle.std.specs.List.{zip}
+use Rattle.saw_address.specs.Maps.{StateMap}
+use Rattle.saw_checks.specs.BlockFaults.{structure_fault}
+use Rattle.saw_checks.specs.declared.fault.StructureFault.{StructureFault}
+use Rattle.saw_checks.specs.declared.fault.StructureFault.TheVariants.{Undecodable}
+use Rattle.saw_context.specs.Serial.{BatchResult, Applied, Failed, left_after}
+use Rattle.saw_messages.specs.Blocks.{block, block_header}
+use Rattle.saw_messages.specs.Shapes.{TxShape}
+use Rattle.saw_messages.specs.declared.block.Block.{Block}
+use Rattle.saw_messages.specs.declared.block.BlockHeader.{BlockHeader}
+use Rattle.saw_messages.specs.declared.outcome.Outcome.{Outcome}
+use Rattle.saw_node.specs.Trees.{root_of_map}
+use Rattle.saw_plan.specs.Shapes.{BatchShape, ids_of, txs_of}
+use Rattle.saw_receipts.specs.Receipts.{receipts}
+use Rattle.saw_receipts.specs.declared.block.BatchRecord.{BatchRecord}
+use Rattle.saw_receipts.specs.declared.block.BlockRecord.{BlockRecord}
+use Rattle.saw_receipts.specs.declared.verdict.BlockFault.{BlockFault}
+use Rattle.saw_receipts.specs.declared.verdict.BlockFault.TheVariants.{Structure}
+use Rattle.saw_wire.specs.declared.fault.MessageFault.{MessageFault}
+use Rattle.saw_journal.specs.BlockFaults.{fault_by, parent_of}
+use Rattle.saw_journal.specs.Parts.{Parts, parts_of}
+
+-- what is kept of a block without fault
+pub record Kept : Type 0 where
+  pub block : BlockRecord
+  pub batches : List (List TxShape)
+  pub left : StateMap
+
+-- the outcomes of an applied batch
+abbrev pub outcomes_in : BatchResult → List Outcome
+outcomes_in (Applied outcomes) = outcomes
+outcomes_in (Failed t reason) = []
+
+abbrev pub batch_record : BatchShape → BatchResult → BatchRecord
+batch_record batch result = record { id = batch.id; receipts = receipts (ids_of batch.txs) (outcomes_in result) }
+
+abbrev pub batch_records : List BatchShape → List BatchResult → List BatchRecord
+batch_records batches results = map (λ each. batch_record each.0 each.1) (zip batches results)
+
+abbrev pub unless : {A : Type 0} → Option BlockFault → A → Result A BlockFault
+unless None kept = Ok kept
+unless (Some fault) kept = Err fault
+
+-- how batches are run over a map
+abbrev pub Runs : Type 0
+Runs = StateMap → List (List TxShape) → List BatchResult
+
+module _ (hash : List ℕ → List ℕ) where
+  abbrev pub kept_of : Parts → StateMap → List BatchResult → Kept
+  kept_of parts before results = record {
+    block = record {
+      id = parts.id;
+      number = parts.header.block_num;
+      previous = parts.header.previous_block_id;
+      signer = parts.header.signer_public_key;
+      root = root_of_map hash (left_after before results);
+      batches = batch_records parts.batches results;
+    };
+    batches = txs_of parts.batches;
+    left = left_after before results;
+  }
+
+  abbrev pub judged_with : List BlockRecord → StateMap → List BatchResult → Parts → Result Kept BlockFault
+  judged_with blocks before results parts = unless (fault_by hash blocks before results parts) (kept_of parts before results)
+
+  module _ (runs : Runs) (map_behind : Option BlockRecord → StateMap) where
+    -- of a block whose structure has no fault: its batches are run over the map behind its parent
+    abbrev pub judged_parts : List BlockRecord → Parts → Result Kept BlockFault
+    judged_parts blocks parts =
+        judged_with blocks (map_behind (parent_of blocks parts.header)) (runs (map_behind (parent_of blocks parts.header)) (txs_of parts.batches)) parts
+
+    abbrev pub judged_header : List BlockRecord → Block → Result BlockHeader MessageFault → Result Kept BlockFault
+    judged_header blocks b (Ok header) = judged_parts blocks (parts_of b header)
+    judged_header blocks b (Err e) = Err (Structure (Undecodable e))
+
+    abbrev pub judged_block : List BlockRecord → Result Block MessageFault → Result Kept BlockFault
+    judged_block blocks (Ok b) = judged_header blocks b (block_header b.header)
+    judged_block blocks (Err e) = Err (Structure (Undecodable e))
+
+    abbrev pub judged_unless : List BlockRecord → List ℕ → Option StructureFault → Result Kept BlockFault
+    judged_unless blocks content (Some fault) = Err (Structure fault)
+    judged_unless blocks content None = judged_block blocks (block content)
+
+    -- what comes of the bytes of a block behind accepted ones
+    unfoldable pub judged : (List ℕ → List ℕ → List ℕ → Bool) → List BlockRecord → List ℕ → Result Kept BlockFault
+    judged accepts blocks content = judged_unless blocks content (structure_fault accepts content)

@@ -1,0 +1,9 @@
+pub mod Faults
+pub mod Branches
+pub mod Heads
+pub mod Parts
+pub mod BlockFaults
+pub mod Judgement
+pub mod Ledger
+pub mod Standing
+pub mod Parted

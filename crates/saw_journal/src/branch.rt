@@ -1,0 +1,94 @@
+//! The ids of a branch.
+
+ghost use Rattle.std.specs.Prelude.{◌≡◌, ◌<◌, ◌++◌, ◌∷◌, [], ℕ, List, length, get_or, map, OnOk, IfOk};
+ghost use Rattle.indexmap.specs.IndexMap.{values};
+ghost use Rattle.saw_ids.specs.Seen.{HoldsIds};
+ghost use Rattle.saw_journal.specs.BlockFaults.{ids_before};
+ghost use Rattle.saw_journal.specs.Branches.{batch_ids, branch_of, ids_in};
+ghost use Rattle.saw_plan.specs.StaticRules.{Ids, Knows};
+ghost use Rattle.saw_plan.specs.Steps.{both};
+
+use crate::place::is_first;
+use saw_ids::add_id;
+use saw_messages::{BlockHeader, Receipt};
+use saw_plan::Known;
+use saw_receipts::{BatchRecord, BlockMap, BlockRecord};
+use saw_wire::Text;
+use std::alloc::{AllocError, Global};
+use std::collections::BTreeSet;
+
+fn add_receipts(
+    seen: &mut BTreeSet<Text>,
+    alloc: Global,
+    receipts: &[Receipt],
+) -> Result<(), AllocError>
+    ensures { OnOk result ((ids : List (List ℕ)) → HoldsIds seen.old ids
+        → HoldsIds seen.new (ids ++ map (λ receipt. receipt.transaction_id) receipts.now)) }
+{
+    for receipt in receipts {
+        add_id(seen, alloc, &receipt.transaction_id)?;
+    }
+    Ok(())
+}
+
+fn add_batch(known: &mut Known, alloc: Global, batch: &BatchRecord) -> Result<(), AllocError>
+    ensures { OnOk result ((there : Ids) → Knows known.old there → Knows known.new (both there (record {
+      batches = batch.now.id ∷ [];
+      transactions = map (λ receipt. receipt.transaction_id) batch.now.receipts;
+    }))) }
+{
+    add_id(&mut known.batches, alloc, &batch.id)?;
+    add_receipts(&mut known.transactions, alloc, batch.receipts.as_slice())
+}
+
+fn add_batches(known: &mut Known, alloc: Global, batches: &[BatchRecord]) -> Result<(), AllocError>
+    ensures { OnOk result ((there : Ids) → Knows known.old there → Knows known.new (both there (batch_ids batches.now))) }
+{
+    for batch in batches {
+        add_batch(known, alloc, batch)?;
+    }
+    Ok(())
+}
+
+fn block_in(blocks: &BlockMap, place: usize) -> &BlockRecord
+    requires { place < length (values blocks.now) }
+    ensures { result.now ≡ get_or (values blocks.now) place result.now }
+{
+    match blocks.get_index(place) {
+        Some((_, block)) => block,
+        None => unreachable!(),
+    }
+}
+
+/// The ids of the branch that ends with the block of this id.
+pub(crate) fn known_in(alloc: Global, blocks: &BlockMap, id: &Text) -> Result<Known, AllocError>
+    ensures { IfOk result (λ known. Knows known (ids_in (branch_of (λ block. block) (values blocks.now) id.now))) }
+{
+    let mut known = Known::new(alloc);
+    let mut wanted = id;
+    let mut place = blocks.len();
+    while place > 0 {
+        place -= 1;
+        let block = block_in(blocks, place);
+        if block.id != *wanted {
+            continue;
+        }
+        add_batches(&mut known, alloc, block.batches.as_slice())?;
+        wanted = &block.previous;
+    }
+    Ok(known)
+}
+
+/// The ids that are there before a block.
+pub(crate) fn known_before(
+    alloc: Global,
+    blocks: &BlockMap,
+    header: &BlockHeader,
+) -> Result<Known, AllocError>
+    ensures { IfOk result (λ known. Knows known (ids_before (values blocks.now) header.now)) }
+{
+    if is_first(header) {
+        return Ok(Known::new(alloc));
+    }
+    known_in(alloc, blocks, &header.previous_block_id)
+}

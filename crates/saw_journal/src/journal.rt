@@ -1,0 +1,233 @@
+//! The journal of accepted blocks.
+
+ghost use Rattle.std.specs.Prelude.{◌≡◌, ◌<◌, ◌^◌, ◌++◌, ◌∷◌, [], false, map, length, string_bytes, option_copied, option_map, IfOk, IfErr, OnOk, OnErr, IsErrOf, IsSome};
+ghost use Rattle.std.specs.FinMap as finite;
+ghost use Rattle.std.specs.List.{AllByRecursion};
+ghost use Rattle.indexmap.specs.IndexMap.{keys, spare, values};
+ghost use Rattle.saw_address.specs.Maps.{no_entries};
+ghost use Rattle.saw_context.specs.Changed.{AreRising};
+ghost use Rattle.saw_context.specs.Outcome.{map_after};
+ghost use Rattle.saw_crew.specs.Desks.{Failed, HaveSameOffers, KeepsDesks, offers_at};
+ghost use Rattle.saw_journal.specs.Branches.{has_block, ids_in};
+ghost use Rattle.saw_journal.specs.Heads.{as_parent, head_branch, head_of, is_new_head};
+ghost use Rattle.saw_journal.specs.Judgement.{Runs};
+ghost use Rattle.saw_journal.specs.Ledger.{IsFull, RunsBy, Says, map_at};
+ghost use Rattle.saw_journal.specs.Parted.{JoinsAs, MayJoin};
+ghost use Rattle.saw_plan.specs.StaticRules.{Knows};
+ghost use Rattle.saw_receipts.specs.States.{knows, state_at};
+ghost use Rattle.saw_station.specs.Serving.{processors_at};
+
+use crate::branch::known_in;
+use crate::checked::{Checked, check};
+use crate::fault::JournalFault;
+use crate::head::choose;
+use crate::judge::{Judged, New, judge};
+use indexmap::IndexMap;
+use saw_node::NodeHasher;
+use saw_plan::Known;
+use saw_receipts::{BlockFault, BlockMap, BlockRecord, Parent, State, Verdict};
+use saw_station::{Desk, Station};
+use saw_verify::Verifier;
+use std::alloc::{AllocError, Global};
+use std::marker::Model;
+
+/// The accepted blocks, the maps that they leave, and the head.
+#[derive(Drop)]
+pub struct Journal<H: NodeHasher> {
+    alloc: Global,
+    blocks: BlockMap,
+    head: Option<usize>,
+    state: State<H>,
+    limit: u32,
+}
+
+impl<H: NodeHasher> Model for Journal<H> {
+    ghost use Rattle.std.specs.Coded.{codes};
+    ghost use Rattle.std.specs.FinMap as finite;
+    ghost use Rattle.std.specs.Prelude.{map, string_bytes};
+    ghost use Rattle.indexmap.specs.IndexMap.{keys, values};
+    ghost use Rattle.saw_journal.specs.Ledger.{Ledger};
+
+    ghost Value = { Ledger };
+
+    ghost coded = { Prim.hlevel (codes, finite.code) };
+
+    ghost use Rattle.saw_journal.specs.Standing.{IsStanding};
+
+    ghost view = { λ j. record { blocks = values j.blocks; states = j.state; limit = j.limit } };
+
+    ghost invariant = { λ j. IsStanding H.hash_of (map string_bytes (keys j.blocks)) (values j.blocks) j.head j.state j.limit };
+}
+
+// The block is put last, under its id; there is room for it.
+fn put_last(blocks: &mut BlockMap, key: String, block: BlockRecord)
+    requires room { 0 < spare blocks.old }
+    requires fresh { has_block (values blocks.old) (string_bytes key) ≡ false }
+    requires ids { map string_bytes (keys blocks.old) ≡ map (λ block. block.id) (values blocks.old) }
+    ensures values { values blocks.new ≡ values blocks.old ++ block ∷ [] }
+    ensures keys { map string_bytes (keys blocks.new) ≡ map string_bytes (keys blocks.old) ++ string_bytes key ∷ [] }
+{
+    let _ = blocks.insert(key, block);
+}
+
+// A fault leaves the blocks and the states.
+fn put<H: NodeHasher>(
+    alloc: Global,
+    blocks: &mut BlockMap,
+    state: &mut State<H>,
+    new: New,
+) -> Result<(), JournalFault>
+    requires fresh { has_block (values blocks.old) new.block.id ≡ false }
+    requires ids { map string_bytes (keys blocks.old) ≡ map (λ block. block.id) (values blocks.old) }
+    requires known { IsSome (state_at state.old new.before) }
+    requires rising { AreRising new.changes }
+    ensures joined { OnOk result (values blocks.new ≡ values blocks.old ++ new.block ∷ []) }
+    ensures ids { OnOk result (map string_bytes (keys blocks.new) ≡ map (λ block. block.id) (values blocks.new)) }
+    ensures state { OnOk result (state.new ≡ knows H.hash_of state.old (map_after (map_at state.old new.before) new.changes)) }
+    ensures err_blocks { OnErr result ((values blocks.new ≡ values blocks.old) × (map string_bytes (keys blocks.new) ≡ map string_bytes (keys blocks.old))) }
+    ensures err_state { OnErr result (state.new ≡ state.old) }
+    ensures fault { IfErr result (λ e. e ≡ JournalFault.OutOfMemory) }
+{
+    let New {
+        block,
+        before,
+        changes,
+    } = new;
+    let key = String::from_str(alloc, block.id.as_str())?;
+    blocks.reserve(1)?;
+    state.update(&before, changes.as_slice(), 1)?;
+    put_last(blocks, key, block);
+    Ok(())
+}
+
+impl<H: NodeHasher> Journal<H> {
+    /// A journal with no blocks, which accepts so many.
+    pub fn new(alloc: Global, limit: u32) -> Result<Self, AllocError>
+        ensures { IfOk result (λ j. j ≡ record { blocks = []; states = knows H.hash_of finite.empty no_entries; limit = limit }) }
+    {
+        let state = State::new(alloc)?;
+        Ok(Journal {
+            alloc,
+            blocks: IndexMap::new(alloc),
+            head: None,
+            state,
+            limit,
+        })
+    }
+
+    /// The head: the accepted block that was chosen.
+    pub fn head(&self) -> Option<&BlockRecord>
+        ensures { option_copied result ≡ head_of self.now.blocks }
+    {
+        match self.head {
+            None => None,
+            Some(place) => match self.blocks.get_index(place) {
+                None => None,
+                Some((_, block)) => Some(block),
+            },
+        }
+    }
+
+    /// The accepted blocks by their ids, in order of arrival.
+    pub fn blocks(&self) -> &BlockMap
+        ensures blocks { values result.now ≡ self.now.blocks }
+        ensures ids { map string_bytes (keys result.now) ≡ map (λ block. block.id) (values result.now) }
+    {
+        &self.blocks
+    }
+
+    /// The map of each known root. The root of each accepted block is known.
+    pub fn state(&self) -> &State<H>
+        ensures state { result.now ≡ self.now.states }
+        ensures known { AllByRecursion (λ block. IsSome (state_at result.now block.root)) self.now.blocks }
+    {
+        &self.state
+    }
+
+    /// The ids of the batches and transactions of the head's branch.
+    pub fn known(&self) -> Result<Known, AllocError>
+        ensures { IfOk result (λ known. Knows known (ids_in (head_branch self.now.blocks))) }
+    {
+        match self.head() {
+            None => Ok(Known::new(self.alloc)),
+            Some(head) => known_in(self.alloc, &self.blocks, &head.id),
+        }
+    }
+
+    /// The head, as the block that a new one is put behind.
+    pub fn parent(&self) -> Result<Option<Parent>, AllocError>
+        ensures { IfOk result (λ parent. parent ≡ option_map as_parent (head_of self.now.blocks)) }
+    {
+        match self.head() {
+            None => Ok(None),
+            Some(head) => Ok(Some(Parent {
+                number: head.number,
+                id: head.id.try_clone(self.alloc)?,
+                root: head.root,
+            })),
+        }
+    }
+
+    // Whether a block becomes the head.
+    fn is_new_head(&self, new: &BlockRecord) -> bool
+        ensures { result ≡ is_new_head (head_of self.now.blocks) new.now }
+    {
+        match self.head() {
+            None => true,
+            Some(head) => choose(head, new),
+        }
+    }
+
+    // Lets a block without fault join.
+    fn join(&mut self, new: New) -> Result<Verdict, JournalFault>
+        requires { MayJoin H.hash_of self.old new }
+        ensures ok { IfOk result (λ verdict. JoinsAs H.hash_of self.old new verdict self.new) }
+        ensures full { IsErrOf result JournalFault.Full → length self.old.blocks ≡ self.old.limit }
+        ensures peer { IsErrOf result JournalFault.PeerFailed → ⊥ }
+        ensures err { OnErr result (self.new ≡ self.old) }
+    {
+        if self.blocks.len() >= self.limit as usize {
+            return Err(JournalFault::Full);
+        }
+        let place = self.blocks.len();
+        let is_head = self.is_new_head(&new.block);
+        put(self.alloc, &mut self.blocks, &mut self.state, new)?;
+        if is_head {
+            self.head = Some(place);
+            return Ok(Verdict::Committed);
+        }
+        Ok(Verdict::Stored)
+    }
+
+    /// Judges the bytes of a block. It is accepted exactly where it has no fault. After a fault of this call the journal is
+    /// as before. The desks keep their offers and their remotes.
+    pub fn accept<V: Verifier, R: Station>(
+        &mut self,
+        bytes: &[u8],
+        verifier: &V,
+        desks: &mut [Desk<R>],
+    ) -> Result<Verdict, JournalFault>
+        requires small { length bytes.now < 2 ^ 32 }
+        requires some { 0 < length desks.old }
+        requires alike { HaveSameOffers desks.old }
+        ensures says { IfOk result (λ verdict. (runs : Runs) × RunsBy (processors_at R.next R.tells (offers_at desks.old)) runs
+            × Says H.hash_of (V.accepts verifier.now) runs self.old bytes.now verdict self.new) }
+        ensures full { IsErrOf result JournalFault.Full → (runs : Runs) × RunsBy (processors_at R.next R.tells (offers_at desks.old)) runs
+            × IsFull H.hash_of (V.accepts verifier.now) runs self.old bytes.now }
+        ensures err { OnErr result (self.new ≡ self.old) }
+        ensures desks { KeepsDesks R.faults desks.old desks.new }
+        ensures cause { IsErrOf result JournalFault.PeerFailed → Failed R.faults desks.old desks.new }
+    {
+        match check(self.alloc, bytes, verifier)? {
+            Checked::Bad(fault) => Ok(Verdict::Refused {
+                fault: BlockFault::Structure(fault),
+            }),
+            Checked::Good(checked) => {
+                match judge(self.alloc, &self.blocks, &self.state, checked, desks)? {
+                    Judged::Bad(fault) => Ok(Verdict::Refused { fault }),
+                    Judged::Good(new) => self.join(new),
+                }
+            }
+        }
+    }
+}

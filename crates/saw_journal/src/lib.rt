@@ -1,0 +1,17 @@
+//! Accepted blocks: what is said of each one that comes, their branches and the head.
+#![tactic(auto)]
+
+mod branch;
+mod checked;
+mod fault;
+mod head;
+mod journal;
+mod judge;
+mod place;
+mod planned;
+mod results;
+mod run;
+
+pub use fault::JournalFault;
+pub use head::choose;
+pub use journal::Journal;

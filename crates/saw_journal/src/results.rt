@@ -1,0 +1,68 @@
+//! What the results of a block's batches say.
+
+ghost use Rattle.std.specs.Prelude.{◌≡◌, ◌<◌, ◌^◌, length, map, IfOk};
+ghost use Rattle.saw_journal.specs.BlockFaults.{failure_fault};
+ghost use Rattle.saw_journal.specs.Judgement.{batch_record, batch_records, outcomes_in};
+ghost use Rattle.saw_plan.specs.Shapes.{batch_shape};
+ghost use Rattle.saw_schedule.specs.Results.{result_of, results_of};
+
+use saw_messages::{Outcome, TxBatch};
+use saw_receipts::{BatchRecord, BlockFault, batch_receipts};
+use saw_schedule::{BatchResult, Results};
+use saw_wire::Items;
+use std::alloc::{AllocError, Global};
+
+/// The fault of the first failed batch.
+pub(crate) fn failure_fault(results: &Results) -> Option<BlockFault>
+    requires { length results.now.batches < 2 ^ 32 }
+    ensures { result ≡ failure_fault (results_of results.now) }
+{
+    for (k, batch) in results.batches.as_slice().iter().enumerate() {
+        if let BatchResult::Failed { t, reason } = batch {
+            return Some(BlockFault::BatchInvalid {
+                k: k as u32,
+                t: *t,
+                reason: *reason,
+            });
+        }
+    }
+    None
+}
+
+fn outcomes_in(done: &BatchResult) -> &[Outcome]
+    ensures { result.now ≡ outcomes_in (result_of done.now) }
+{
+    match done {
+        BatchResult::Applied { outcomes } => outcomes.as_slice(),
+        BatchResult::Failed { .. } => &[],
+    }
+}
+
+fn batch_record(
+    alloc: Global,
+    batch: &TxBatch,
+    done: &BatchResult,
+) -> Result<BatchRecord, AllocError>
+    ensures { IfOk result (λ made. made ≡ batch_record (batch_shape batch.now) (result_of done.now)) }
+{
+    let receipts = batch_receipts(alloc, batch, outcomes_in(done))?;
+    Ok(BatchRecord {
+        id: batch.id.try_clone(alloc)?,
+        receipts: Items::from_vec(receipts),
+    })
+}
+
+/// What is kept of batches with these results.
+pub(crate) fn batch_records(
+    alloc: Global,
+    batches: &[TxBatch],
+    results: &Results,
+) -> Result<Items<BatchRecord>, AllocError>
+    ensures { IfOk result (λ made. made ≡ batch_records (map batch_shape batches.now) (results_of results.now)) }
+{
+    let mut made = Items::new(alloc);
+    for (batch, done) in batches.iter().zip(results.batches.as_slice()) {
+        made.push(batch_record(alloc, batch, done)?)?;
+    }
+    Ok(made)
+}

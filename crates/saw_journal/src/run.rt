@@ -1,0 +1,141 @@
+//! A block's batches over the map before it.
+
+ghost use Rattle.std.specs.Prelude.{◌≡◌, ◌<◌, ◌^◌, List, true, map, length, IfOk, IsErrOf, IsSome};
+ghost use Rattle.saw_context.specs.Serial.{BatchResult, serial};
+ghost use Rattle.saw_crew.specs.Desks.{Failed, HaveSameOffers, KeepsDesks, are_told, offers_at};
+ghost use Rattle.saw_journal.specs.BlockFaults.{root_fault};
+ghost use Rattle.saw_journal.specs.Judgement.{batch_records};
+ghost use Rattle.saw_journal.specs.Ledger.{map_at};
+ghost use Rattle.saw_journal.specs.Parted.{RanAs};
+ghost use Rattle.saw_journal.specs.Parts.{parts_in};
+ghost use Rattle.saw_plan.specs.Shapes.{batch_shape, transactions_in, txs_of};
+ghost use Rattle.saw_receipts.specs.States.{state_at};
+ghost use Rattle.saw_schedule.specs.Results.{AreResultsFor, results_of};
+ghost use Rattle.saw_station.specs.Serving.{processors_at};
+
+use crate::fault::JournalFault;
+use crate::judge::{Judged, New};
+use crate::results::{batch_records, failure_fault};
+use saw_checks::CheckedBlock;
+use saw_crew::execute;
+use saw_messages::BlockHeader;
+use saw_node::{NodeHash, NodeHasher};
+use saw_plan::Plan;
+use saw_receipts::{BlockFault, BlockRecord, State};
+use saw_schedule::Results;
+use saw_station::{Desk, Station};
+use std::alloc::{AllocError, Global};
+use std::sync::Arc;
+
+fn execute_over<H: NodeHasher, R: Station>(
+    alloc: Global,
+    state: &State<H>,
+    before: NodeHash,
+    plan: Plan,
+    desks: &mut [Desk<R>],
+) -> Result<Results, JournalFault>
+    requires known { IsSome (state_at state.now before) }
+    requires counted { transactions_in (map batch_shape plan.batches) < 2 ^ 32 }
+    requires some { 0 < length desks.old }
+    requires alike { HaveSameOffers desks.old }
+    ensures results { let processors = processors_at R.next R.tells (offers_at desks.old) in let batches = txs_of (map batch_shape plan.batches) in
+        IfOk result (λ results. are_told processors batches ≡ true → results_of results ≡ serial processors (map_at state.now before) batches) }
+    ensures whole { IfOk result (λ results. AreResultsFor (txs_of (map batch_shape plan.batches)) (results_of results)) }
+    ensures room { IsErrOf result JournalFault.Full → ⊥ }
+    ensures desks { KeepsDesks R.faults desks.old desks.new }
+    ensures cause { IsErrOf result JournalFault.PeerFailed → Failed R.faults desks.old desks.new }
+{
+    match state.tree(&before) {
+        None => unreachable!(),
+        Some(tree) => {
+            let plan = Arc::new(alloc, plan)?;
+            Ok(execute(alloc, plan, &tree, desks)?)
+        }
+    }
+}
+
+fn root_fault(
+    alloc: Global,
+    header: &BlockHeader,
+    root: NodeHash,
+) -> Result<Option<BlockFault>, AllocError>
+    ensures { IfOk result (λ found. found ≡ root_fault header.now root) }
+{
+    if header.state_root_hash.as_str().as_bytes() == root.to_hex().as_slice() {
+        return Ok(None);
+    }
+    Ok(Some(BlockFault::Root {
+        stated: header.state_root_hash.try_clone(alloc)?,
+        computed: root,
+    }))
+}
+
+fn record_of(
+    alloc: Global,
+    checked: CheckedBlock,
+    root: NodeHash,
+    results: &Results,
+) -> Result<BlockRecord, AllocError>
+    ensures { IfOk result (λ block. block ≡ record {
+      id = checked.id;
+      number = checked.header.block_num;
+      previous = checked.header.previous_block_id;
+      signer = checked.header.signer_public_key;
+      root = root;
+      batches = batch_records (map batch_shape checked.batches) (results_of results.now);
+    }) }
+{
+    let batches = batch_records(alloc, checked.batches.as_slice(), results)?;
+    let CheckedBlock {
+        id,
+        header,
+        batches: _,
+    } = checked;
+    Ok(BlockRecord {
+        id,
+        number: header.block_num,
+        previous: header.previous_block_id,
+        signer: header.signer_public_key,
+        root,
+        batches,
+    })
+}
+
+/// Runs the planned batches of a block over the map under the root `before`, and makes the tests that need their results.
+pub(crate) fn run<H: NodeHasher, R: Station>(
+    alloc: Global,
+    state: &State<H>,
+    before: NodeHash,
+    checked: CheckedBlock,
+    plan: Plan,
+    desks: &mut [Desk<R>],
+) -> Result<Judged, JournalFault>
+    requires known { IsSome (state_at state.now before) }
+    requires plan { map batch_shape plan.batches ≡ map batch_shape checked.batches }
+    requires counted { transactions_in (map batch_shape plan.batches) < 2 ^ 32 }
+    requires few { length checked.batches < 2 ^ 32 }
+    requires some { 0 < length desks.old }
+    requires alike { HaveSameOffers desks.old }
+    ensures ran { let processors = processors_at R.next R.tells (offers_at desks.old) in let batches = txs_of (map batch_shape checked.batches) in
+        IfOk result (λ judged. (results : List BatchResult) × (are_told processors batches ≡ true → results ≡ serial processors (map_at state.now before) batches)
+        × RanAs H.hash_of state.now before (parts_in checked) results judged) }
+    ensures room { IsErrOf result JournalFault.Full → ⊥ }
+    ensures desks { KeepsDesks R.faults desks.old desks.new }
+    ensures cause { IsErrOf result JournalFault.PeerFailed → Failed R.faults desks.old desks.new }
+{
+    let results = execute_over(alloc, state, before, plan, desks)?;
+    if let Some(fault) = failure_fault(&results) {
+        return Ok(Judged::Bad(fault));
+    }
+    let changes = results.changes(alloc)?;
+    let root = state.root_after(&before, changes.as_slice(), 1)?;
+    if let Some(fault) = root_fault(alloc, &checked.header, root)? {
+        return Ok(Judged::Bad(fault));
+    }
+    let block = record_of(alloc, checked, root, &results)?;
+    Ok(Judged::Good(New {
+        block,
+        before,
+        changes,
+    }))
+}
