@@ -1,0 +1,115 @@
+-- The lines of the answer. Each ends with a line feed, and one space parts its words.
+use Rattle.std.specs.Prelude.{ℕ, List, [], ◌∷◌, ◌++◌, length, sum_by, Bool, true, false, Option, Some, None, codes}
+use Rattle.std.specs.Fmt.{decimal}
+use Rattle.hex.specs.Hex.{encode_lower}
+use Rattle.saw_checks.specs.declared.fault.BatchFault.{BatchFault}
+use Rattle.saw_checks.specs.declared.fault.BatchFault.TheVariants as batches
+use Rattle.saw_checks.specs.declared.fault.StructureFault.{StructureFault}
+use Rattle.saw_checks.specs.declared.fault.StructureFault.TheVariants as blocks
+use Rattle.saw_messages.specs.declared.outcome.Reason.{Reason}
+use Rattle.saw_messages.specs.declared.outcome.Reason.TheVariants as reasons
+use Rattle.saw_plan.specs.declared.sorted.DropCause.{DropCause}
+use Rattle.saw_plan.specs.declared.sorted.DropCause.TheVariants as causes
+use Rattle.saw_receipts.specs.declared.block.BlockRecord.{BlockRecord}
+use Rattle.saw_receipts.specs.declared.plain_state.Listed.{Listed}
+use Rattle.saw_receipts.specs.declared.verdict.BlockFault.{BlockFault}
+use Rattle.saw_receipts.specs.declared.verdict.BlockFault.TheVariants as faults
+use Rattle.saw_receipts.specs.declared.verdict.Verdict.{Verdict}
+use Rattle.saw_receipts.specs.declared.verdict.Verdict.TheVariants.{Committed, Stored, Refused}
+
+abbrev pub spaced : ℕ → List ℕ
+spaced n = codes " " ++ decimal n
+
+-- number, id and root of a block
+abbrev pub record_text : BlockRecord → List ℕ
+record_text block = decimal block.number ++ codes " " ++ block.id ++ codes " " ++ encode_lower block.root
+
+-- how many transactions it has: each has a receipt
+abbrev pub transactions_of : BlockRecord → ℕ
+transactions_of block = sum_by (λ batch. length batch.receipts) block.batches
+
+-- the number of a batch fault, and the place that it has
+abbrev pub batch_fault_text : BatchFault → List ℕ
+batch_fault_text batches.Header = decimal 1
+batch_fault_text batches.IdText = decimal 2
+batch_fault_text batches.KeyText = decimal 3
+batch_fault_text batches.Empty = decimal 4
+batch_fault_text (batches.IdsDiffer index) = decimal 5 ++ spaced index
+batch_fault_text (batches.TxHeader t) = decimal 6 ++ spaced t
+batch_fault_text (batches.TxIdText t) = decimal 7 ++ spaced t
+batch_fault_text (batches.TxKeyText t) = decimal 8 ++ spaced t
+batch_fault_text (batches.PayloadHash t) = decimal 9 ++ spaced t
+batch_fault_text (batches.BatcherKey t) = decimal 10 ++ spaced t
+batch_fault_text (batches.TxSignature t) = decimal 11 ++ spaced t
+batch_fault_text (batches.RepeatedTx t) = decimal 12 ++ spaced t
+batch_fault_text (batches.TooManyDeclared t) = decimal 13 ++ spaced t
+batch_fault_text batches.Signature = decimal 14
+batch_fault_text batches.OutOfMemory = []
+
+-- the number of a fault, and what it says; want of memory is no fault of a block
+abbrev pub structure_text : StructureFault → List ℕ
+structure_text (blocks.Undecodable e) = codes "1 Undecodable"
+structure_text blocks.IdText = codes "2 IdText"
+structure_text blocks.KeyText = codes "3 KeyText"
+structure_text (blocks.TooManyTransactions count) = codes "4 TooManyTransactions" ++ spaced count
+structure_text (blocks.BatchIds index) = codes "5 BatchIds" ++ spaced index
+structure_text (blocks.Batch k fault) = codes "6 Batch" ++ spaced k ++ codes " " ++ batch_fault_text fault
+structure_text blocks.Signature = codes "7 Signature"
+structure_text blocks.OutOfMemory = []
+
+-- the number of a cause, and the transaction that it has
+abbrev pub cause_text : DropCause → List ℕ
+cause_text causes.DuplicateBatch = decimal 1
+cause_text (causes.DuplicateTransaction t) = decimal 2 ++ spaced t
+cause_text (causes.MissingDependency t id) = decimal 3 ++ spaced t
+
+-- the number of a reason; a family's reason is its own number
+abbrev pub reason_number : Reason → ℕ
+reason_number reasons.BadDeclared = 1
+reason_number reasons.NoProcessor = 2
+reason_number reasons.DependencyFailed = 3
+reason_number reasons.TooManyRequests = 4
+reason_number reasons.Remote = 5
+reason_number (reasons.Family number) = number
+
+abbrev pub fault_text : BlockFault → List ℕ
+fault_text (faults.Structure fault) = structure_text fault
+fault_text faults.Known = codes "8 Known"
+fault_text faults.GenesisAgain = codes "9 GenesisAgain"
+fault_text faults.PreviousUnknown = codes "10 PreviousUnknown"
+fault_text (faults.BlockNumber stated due) = codes "11 BlockNumber" ++ spaced stated ++ spaced due
+fault_text faults.Consensus = codes "12 Consensus"
+fault_text (faults.Static k cause) = codes "13 Static" ++ spaced k ++ codes " " ++ cause_text cause
+fault_text (faults.BatchInvalid k t reason) = codes "14 BatchInvalid" ++ spaced k ++ spaced t ++ spaced (reason_number reason)
+fault_text (faults.Root stated computed) = codes "15 Root " ++ encode_lower computed
+
+-- whether a verdict accepts its block
+abbrev pub is_accepted : Verdict → Bool
+is_accepted Committed = true
+is_accepted Stored = true
+is_accepted (Refused fault) = false
+
+-- of an accepted block besides the numbers of its batches and transactions
+abbrev pub accepted_text : Option BlockRecord → List ℕ
+accepted_text None = []
+accepted_text (Some block) = codes " " ++ record_text block ++ spaced (length block.batches) ++ spaced (transactions_of block)
+
+abbrev pub verdict_text : Verdict → Option BlockRecord → List ℕ
+verdict_text Committed block = codes " committed" ++ accepted_text block
+verdict_text Stored block = codes " stored" ++ accepted_text block
+verdict_text (Refused fault) block = codes " refused " ++ fault_text fault
+
+-- the line of the block at a place of the stream
+abbrev pub verdict_line : ℕ → Verdict → Option BlockRecord → List ℕ
+verdict_line place verdict block = codes "block " ++ decimal place ++ verdict_text verdict block ++ 10 ∷ []
+
+abbrev pub head_text : Option BlockRecord → List ℕ
+head_text None = codes "none"
+head_text (Some block) = record_text block
+
+abbrev pub head_line : Option BlockRecord → List ℕ
+head_line head = codes "head " ++ head_text head ++ 10 ∷ []
+
+-- an entry of the state
+abbrev pub listed_line : Listed → List ℕ
+listed_line listed = encode_lower listed.address ++ codes " " ++ encode_lower listed.value ++ 10 ∷ []

@@ -1,0 +1,120 @@
+//! The lines of blocks, of the head and of entries.
+
+ghost use Rattle.std.specs.Prelude.{◌≡◌, ◌++◌, length, sum_by, option_copied, is_some, IfOk, OnOk};
+ghost use Rattle.saw_report.specs.Lines.{record_text, accepted_text, is_accepted, verdict_text, verdict_line, head_line, listed_line};
+
+use crate::fault::put_fault;
+use crate::word::{put_number, put_spaced};
+use saw_receipts::{BatchRecord, BlockRecord, Listed, Verdict};
+use std::alloc::{AllocError, Global};
+
+/// The line of the block at this place of the stream, counted from 0. The block is given where it is accepted.
+pub fn verdict_line(
+    alloc: Global,
+    place: u32,
+    verdict: &Verdict,
+    block: Option<&BlockRecord>,
+) -> Result<Vec<u8>, AllocError>
+    requires { is_some block ≡ is_accepted verdict.now }
+    ensures { IfOk result (λ line. line.items ≡ verdict_line place verdict.now (option_copied block.entry)) }
+{
+    let mut out = Vec::new(alloc);
+    out.extend_from_slice(b"block ")?;
+    put_number(alloc, &mut out, place as u64)?;
+    put_verdict(alloc, &mut out, verdict, block)?;
+    out.push(b'\n')?;
+    Ok(out)
+}
+
+/// The line of the head, at the end of the answer.
+pub fn head_line(alloc: Global, head: Option<&BlockRecord>) -> Result<Vec<u8>, AllocError>
+    ensures { IfOk result (λ line. line.items ≡ head_line (option_copied head.entry)) }
+{
+    let mut out = Vec::new(alloc);
+    out.extend_from_slice(b"head ")?;
+    match head {
+        None => out.extend_from_slice(b"none")?,
+        Some(block) => put_record(alloc, &mut out, block)?,
+    }
+    out.push(b'\n')?;
+    Ok(out)
+}
+
+/// The line of an entry of the state.
+pub fn listed_line(alloc: Global, listed: &Listed) -> Result<Vec<u8>, AllocError>
+    ensures { IfOk result (λ line. line.items ≡ listed_line listed.now) }
+{
+    let mut out = hex::encode(alloc, listed.address.as_slice())?.into_bytes();
+    out.push(b' ')?;
+    let value = hex::encode(alloc, listed.value.as_slice())?;
+    out.extend_from_slice(value.as_bytes())?;
+    out.push(b'\n')?;
+    Ok(out)
+}
+
+fn put_verdict(
+    alloc: Global,
+    out: &mut Vec<u8>,
+    verdict: &Verdict,
+    block: Option<&BlockRecord>,
+) -> Result<(), AllocError>
+    ensures { OnOk result (out.new.items ≡ out.old.items ++ verdict_text verdict.now (option_copied block.entry)) }
+{
+    match verdict {
+        Verdict::Committed => {
+            out.extend_from_slice(b" committed")?;
+            put_accepted(alloc, out, block)
+        }
+        Verdict::Stored => {
+            out.extend_from_slice(b" stored")?;
+            put_accepted(alloc, out, block)
+        }
+        Verdict::Refused { fault } => {
+            out.extend_from_slice(b" refused ")?;
+            put_fault(alloc, out, fault)
+        }
+    }
+}
+
+fn put_accepted(
+    alloc: Global,
+    out: &mut Vec<u8>,
+    block: Option<&BlockRecord>,
+) -> Result<(), AllocError>
+    ensures { OnOk result (out.new.items ≡ out.old.items ++ accepted_text (option_copied block.entry)) }
+{
+    match block {
+        None => Ok(()),
+        Some(block) => {
+            let transactions = count_transactions(block.batches.as_slice())?;
+            out.push(b' ')?;
+            put_record(alloc, out, block)?;
+            put_spaced(alloc, out, block.batches.len() as u64)?;
+            put_spaced(alloc, out, transactions as u64)
+        }
+    }
+}
+
+fn put_record(alloc: Global, out: &mut Vec<u8>, block: &BlockRecord) -> Result<(), AllocError>
+    ensures { OnOk result (out.new.items ≡ out.old.items ++ record_text block.now) }
+{
+    put_number(alloc, out, block.number)?;
+    out.push(b' ')?;
+    out.extend_from_slice(block.id.as_str().as_bytes())?;
+    out.push(b' ')?;
+    out.extend_from_slice(&block.root.to_hex())
+}
+
+// More transactions than 64 bits count would not fit any memory.
+fn count_transactions(batches: &[BatchRecord]) -> Result<usize, AllocError>
+    ensures { IfOk result (λ count. count ≡ sum_by (λ batch. length batch.receipts) batches.now) }
+{
+    let mut count: usize = 0;
+    for batch in batches {
+        match count.checked_add(batch.receipts.len()) {
+            Some(more) => count = more,
+            None => return Err(AllocError),
+        }
+    }
+    Ok(count)
+}
