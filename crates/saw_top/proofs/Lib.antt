@@ -1,8 +1,12 @@
 pub mod Histories
+pub mod Branching
+pub mod Judgements
+pub mod Alone
+pub mod Steps
 pub mod Streams
 pub mod Standings
-pub mod Checked
-pub mod Twice
+pub mod Applied
 pub mod Wholes
 pub mod Listings
+pub mod Endings
 pub mod Frames

@@ -1,53 +1,12 @@
--- Whole frames at the front of a stream, and the lines that are written for them.
-use Rattle.std.proofs.Common.{◌≡◌, ℕ, suc, ◌+◌, ◌-◌, ◌<◌, ◌≤◌, ◌==◌, Bool, true, false, cond, List, [], ◌∷◌, ◌++◌, length, Option, Some, None, Ok, Err, refl, sym, ap, ◌∙◌, append_assoc, arith}
-use Rattle.std.proofs.lemmas.List.{append-nil}
+-- Whole frames at the front of a stream.
+use Rattle.std.proofs.Common.{◌≡◌, ℕ, suc, ◌+◌, ◌-◌, ◌<◌, ◌≤◌, ◌==◌, true, false, cond, List, [], ◌∷◌, ◌++◌, length, Option, Some, None, Ok, Err, refl, sym, ap, ◌∙◌, arith}
 use Rattle.saw_io.specs.Frame.{frame_at}
 use Rattle.saw_io.specs.declared.fault.FrameFault.{FrameFault}
 use Rattle.saw_top.specs.Faults.{fault_of_frame}
-use Rattle.saw_top.specs.Lines.{verdict_line, report}
-use Rattle.saw_top.specs.Run.{report_of}
 use Rattle.saw_top.specs.Stream.{Stream, no_frames, before, by_reading, stream_from, Reads}
-use Rattle.saw_top.specs.Verdicts.{verdict_of, verdicts}
 use Rattle.saw_top.specs.declared.fault.StreamFault.{StreamFault}
 use Rattle.saw_top.specs.declared.fault.StreamFault.TheVariants.{Frames}
 use Rattle.saw_top.specs.Limits.{max_length}
-use Rattle.saw_top.specs.declared.verdict.Verdict.{Verdict}
-
--- ---- lines
-
-pub report-append : (place : ℕ) (front rest : List Verdict) → report place (front ++ rest) ≡ report place front ++ report (place + length front) rest
-report-append place [] rest = let none : place + 0 ≡ place = omega arith in rw none refl
-report-append place (first ∷ front) rest =
-    let more : place + length (first ∷ front) ≡ (place + 1) + length front = omega arith in
-    rw (more, report-append (place + 1) front rest) (sym (append_assoc (verdict_line place first) (report (place + 1) front) (report (place + 1 + length front) rest)))
-
-module _ (accepts : List ℕ → List ℕ → List ℕ → Bool) where
-  pub length-verdicts : (place : ℕ) (frames : List (List ℕ)) → length (verdicts accepts place frames) ≡ length frames
-  length-verdicts place [] = refl
-  length-verdicts place (content ∷ frames) = omega (arith, length-verdicts (place + 1) frames)
-
-  pub verdicts-append : (place : ℕ) (front rest : List (List ℕ)) → verdicts accepts place (front ++ rest) ≡ verdicts accepts place front ++ verdicts accepts (place + length front) rest
-  verdicts-append place [] rest = let none : place + 0 ≡ place = omega arith in rw none refl
-  verdicts-append place (content ∷ front) rest =
-      let more : place + length (content ∷ front) ≡ (place + 1) + length front = omega arith in
-      rw (more, verdicts-append (place + 1) front rest) refl
-
-  -- what is written for frames is a front of what is written for more of them
-  pub report_of-append : (front rest : List (List ℕ)) → report_of accepts (front ++ rest) ≡ report_of accepts front ++ report (length front) (verdicts accepts (length front) rest)
-  report_of-append front rest =
-      let begin : 0 + length front ≡ length front = omega arith in
-      let count : 0 + length (verdicts accepts 0 front) ≡ length front = omega (arith, length-verdicts 0 front) in
-      ap (report 0) (verdicts-append 0 front rest) ∙ report-append 0 (verdicts accepts 0 front) (verdicts accepts (0 + length front) rest)
-      ∙ ap (λ n. report_of accepts front ++ report n (verdicts accepts (0 + length front) rest)) count ∙ ap (λ n. report_of accepts front ++ report (length front) (verdicts accepts n rest)) begin
-
-  pub report_of-push : (front : List (List ℕ)) (content : List ℕ) → report_of accepts (front ++ content ∷ []) ≡ report_of accepts front ++ verdict_line (length front) (verdict_of accepts (length front) content)
-  report_of-push front content =
-      report_of-append front (content ∷ []) ∙ ap (λ line. report_of accepts front ++ line) (append-nil (verdict_line (length front) (verdict_of accepts (length front) content)))
-
-  pub verdicts-push : (front : List (List ℕ)) (content : List ℕ) → verdicts accepts 0 (front ++ content ∷ []) ≡ verdicts accepts 0 front ++ verdict_of accepts (length front) content ∷ []
-  verdicts-push front content =
-      let begin : 0 + length front ≡ length front = omega arith in
-      verdicts-append 0 front (content ∷ []) ∙ ap (λ n. verdicts accepts 0 front ++ verdict_of accepts n content ∷ []) begin
 
 -- ---- frames
 

@@ -6,7 +6,9 @@ use Rattle.saw_verify.specs.Lists.{attests, first_bad_line}
 use Rattle.saw_top.specs.Command.{Wish, Apply, wish_of}
 use Rattle.saw_top.specs.Faults.{is_told, status_of}
 use Rattle.saw_top.specs.Notes.{fault_line}
-use Rattle.saw_top.specs.Run.{Answer, faulty, apply_answer, ShowsAll, ShowsFront}
+use Rattle.saw_top.specs.History.{RootsTell}
+use Rattle.saw_top.specs.Run.{Answer, faulty, apply_answer}
+use Rattle.saw_top.specs.Shows.{ShowsAll, ShowsFront}
 use Rattle.saw_top.specs.declared.fault.RunFault.{RunFault}
 use Rattle.saw_top.specs.declared.fault.RunFault.TheVariants.{Words, FileMissing, FileTooLong, BadLine}
 use Rattle.saw_top.specs.Limits.{max_list}
@@ -54,14 +56,21 @@ Holding (Some files) P = P files
 abbrev pub WhereTold : Option (List ℕ) → Option Files → (List ℕ → Files → Type 0) → Type 0
 WhereTold unread held P = IfSome unread (λ bytes. Holding held (λ files. P bytes files))
 
+-- what is so of an answer where the maps of its blocks have roots that tell them apart
+abbrev pub WhereTells : Answer → Type 0 → Type 0
+WhereTells answer P = RootsTell answer.maps → P
+
 -- what was carried out of an answer: all of it, or all with its one fault; a fault of the outside leaves a front
 abbrev pub CarriedBy : Answer → Option (List ℕ) → Option (List ℕ) → RunFault → Bool → Type 0
 CarriedBy answer old new fault true = ShowsAll answer old new (status_of fault) × (answer.notes ≡ fault_line fault)
 CarriedBy answer old new fault false = ShowsFront answer old new
 
+abbrev pub CarriedOut : Answer → Option (List ℕ) → Option (List ℕ) → Result ℕ RunFault → Type 0
+CarriedOut answer old new (Ok status) = ShowsAll answer old new status × (answer.notes ≡ [])
+CarriedOut answer old new (Err fault) = CarriedBy answer old new fault (is_told fault)
+
 abbrev pub Carries : Answer → Option (List ℕ) → Option (List ℕ) → Result ℕ RunFault → Type 0
-Carries answer old new (Ok status) = ShowsAll answer old new status × (answer.notes ≡ [])
-Carries answer old new (Err fault) = CarriedBy answer old new fault (is_told fault)
+Carries answer old new result = WhereTells answer (CarriedOut answer old new result)
 
 -- an answer was given: output, notes and status
 pub record Gives (answer : Answer) (old new told_old told_new : Option (List ℕ)) (status : ℕ) : Type 0 where

@@ -9,7 +9,7 @@ use Rattle.saw_io.specs.declared.fault.SinkFault.TheVariants as sinks
 use Rattle.saw_verify.specs.declared.attest.AttestFault.{AttestFault}
 use Rattle.saw_verify.specs.declared.attest.AttestFault.TheVariants as lists
 use Rattle.saw_top.specs.declared.fault.StreamFault.{StreamFault}
-use Rattle.saw_top.specs.declared.fault.StreamFault.TheVariants.{Truncated, TooLong, Frames, Read, Write, Memory}
+use Rattle.saw_top.specs.declared.fault.StreamFault.TheVariants.{Truncated, TooLong, Frames, Blocks, Read, Write, Memory}
 use Rattle.saw_top.specs.declared.fault.RunFault.{RunFault}
 use Rattle.saw_top.specs.declared.fault.RunFault.TheVariants as runs
 
@@ -28,6 +28,7 @@ abbrev pub fault_of_stream : StreamFault → RunFault
 fault_of_stream (Truncated have want) = runs.Truncated have want
 fault_of_stream (TooLong length) = runs.TooLong length
 fault_of_stream Frames = runs.Frames
+fault_of_stream Blocks = runs.Blocks
 fault_of_stream Read = runs.Read
 fault_of_stream Write = runs.Write
 fault_of_stream Memory = runs.Memory
@@ -48,6 +49,7 @@ status_of runs.Words = 2
 status_of (runs.Truncated have want) = 3
 status_of (runs.TooLong length) = 3
 status_of runs.Frames = 3
+status_of runs.Blocks = 10
 status_of runs.Read = 4
 status_of runs.Write = 5
 status_of runs.Memory = 7
@@ -62,6 +64,7 @@ is_told runs.Words = true
 is_told (runs.Truncated have want) = true
 is_told (runs.TooLong length) = true
 is_told runs.Frames = true
+is_told runs.Blocks = true
 is_told runs.Read = false
 is_told runs.Write = false
 is_told runs.Memory = false

@@ -1,96 +1,67 @@
--- What a run answers to a stream, and what of it was written when the run ended early.
-use Rattle.std.specs.Prelude.{◌≡◌, ◌⊎◌, ◌≤◌, ℕ, Bool, List, [], ◌++◌, length, Option, Some, None, Result, Ok, Err, if◌then◌else◌}
-use Rattle.std.specs.Io.KnownBytes.{Appends, Consumes}
-use Rattle.saw_io.specs.Frame.{frame_at, IsPart}
+-- What a run answers to a stream.
+use Rattle.std.specs.Prelude.{ℕ, Bool, List, [], ◌++◌, Option, Some, None, if◌then◌else◌}
+use Rattle.saw_address.specs.Maps.{StateMap}
+use Rattle.saw_journal.specs.Heads.{head_of}
+use Rattle.saw_report.specs.Lines.{head_line}
 use Rattle.saw_top.specs.Faults.{fault_of_stream, status_of}
+use Rattle.saw_top.specs.History.{History, history, maps_of, records_of, some_refused}
 use Rattle.saw_top.specs.Notes.{fault_line}
-use Rattle.saw_top.specs.Lines.{report, head_line}
-use Rattle.saw_top.specs.Progress.{progress_of}
-use Rattle.saw_top.specs.Stream.{stream_of, Reads}
-use Rattle.saw_top.specs.Verdicts.{verdicts}
+use Rattle.saw_top.specs.Reports.{report}
+use Rattle.saw_top.specs.Stream.{stream_of}
 use Rattle.saw_top.specs.declared.fault.RunFault.{RunFault}
 use Rattle.saw_top.specs.declared.fault.StreamFault.{StreamFault}
-use Rattle.saw_top.specs.declared.fault.StreamFault.TheVariants.{Truncated, TooLong, Frames, Read, Write, Memory}
-use Rattle.saw_top.specs.declared.progress.Progress.{Progress}
-use Rattle.saw_top.specs.Limits.{max_length}
-use Rattle.saw_top.specs.declared.verdict.Verdict.{Verdict}
+use Rattle.saw_top.specs.declared.fault.StreamFault.TheVariants.{Blocks}
+use Rattle.saw_top.specs.declared.judging.Lines.TheVariants.{All}
 
--- what a run writes, what it tells on the notes, and the status with which it ends
+-- what a run writes, what it tells on the notes, the status with which it ends, and the maps that its accepted blocks leave
 pub record Answer : Type 0 where
   pub output : List ℕ
   pub notes : List ℕ
   pub status : ℕ
+  pub maps : List StateMap
 
 -- nothing but the line of a fault
 abbrev pub faulty : RunFault → Answer
-faulty fault = record { output = []; notes = fault_line fault; status = status_of fault }
+faulty fault = record { output = []; notes = fault_line fault; status = status_of fault; maps = [] }
 
--- what follows the lines of the blocks: the head's line, and whether a block was refused
-abbrev pub ending : Progress → Answer
-ending progress = record { output = head_line progress.head; notes = []; status = if progress.refused then 1 else 0 }
+-- what ends the judging of a stream early: that one more block finds no room, or what stands behind the frames
+abbrev pub fault_in : History → Option StreamFault → Option StreamFault
+fault_in run fault = if run.is_full then Some Blocks else fault
 
--- what follows the lines of the blocks, by what stands behind the frames
-abbrev pub ending_of : List Verdict → Option StreamFault → Answer
-ending_of judged None = ending (progress_of judged)
-ending_of judged (Some fault) = faulty (fault_of_stream fault)
+-- whether a block was refused
+abbrev pub status_by : Bool → ℕ
+status_by refused = if refused then 1 else 0
 
--- a line for each block, and then the ending
-abbrev pub answer_to : List Verdict → Option StreamFault → Answer
-answer_to judged fault = record {
-  output = report 0 judged ++ (ending_of judged fault).output;
-  notes = (ending_of judged fault).notes;
-  status = (ending_of judged fault).status;
+-- what follows the lines of the blocks: the head's line
+abbrev pub last_line : History → Option StreamFault → List ℕ
+last_line run None = head_line (head_of (records_of run.accepted))
+last_line run (Some fault) = []
+
+abbrev pub notes_by : Option StreamFault → List ℕ
+notes_by None = []
+notes_by (Some fault) = fault_line (fault_of_stream fault)
+
+abbrev pub status_in : History → Option StreamFault → ℕ
+status_in run None = status_by (some_refused run.said)
+status_in run (Some fault) = status_of (fault_of_stream fault)
+
+-- a line for each block, and then the head's, unless there is a fault
+abbrev pub apply_by : History → Option StreamFault → Answer
+apply_by run fault = record {
+  output = report All 0 run.said ++ last_line run fault;
+  notes = notes_by fault;
+  status = status_in run fault;
+  maps = maps_of run.accepted;
 }
 
--- of the rest at most what comes next was taken: a part of a frame, a length, or a whole frame or the end
-abbrev pub TakesNext : List ℕ → Option (List ℕ) → Type 0
-TakesNext rest left = ((taken : List ℕ) × Consumes (Some rest) left taken × ((length taken ≤ 4) ⊎ IsPart taken))
-    ⊎ ((next : Option (List ℕ)) × (behind : List ℕ) × (frame_at max_length rest ≡ Ok (next, behind)) × (left ≡ Some behind))
-
 module _ (accepts : List ℕ → List ℕ → List ℕ → Bool) where
+  -- what a stream comes to
+  abbrev pub run_of : List ℕ → History
+  run_of bytes = history accepts (stream_of bytes).frames []
+
+  abbrev pub fault_of : List ℕ → Option StreamFault
+  fault_of bytes = fault_in (run_of bytes) (stream_of bytes).fault
+
   -- the answer of the command `apply`
   abbrev pub apply_answer : List ℕ → Answer
-  apply_answer bytes = answer_to (verdicts accepts 0 (stream_of bytes).frames) (stream_of bytes).fault
-
-  -- what is written for whole frames
-  abbrev pub report_of : List (List ℕ) → List ℕ
-  report_of frames = report 0 (verdicts accepts 0 frames)
-
-  -- All that was taken of the input is whole frames, whose lines were written, and less than a frame: each line is
-  -- written before more of the input is asked for.
-  pub record IsUpToDate (bytes : List ℕ) (left old new : Option (List ℕ)) : Type 0 where
-    pub frames : List (List ℕ)
-    pub rest : List ℕ
-    pub reads : Reads frames bytes rest
-    pub taken : List ℕ
-    pub consumed : Consumes (Some rest) left taken
-    pub part : IsPart taken
-    pub written : Appends old new (report_of frames)
-
-  -- Each frame but the last that was taken has its line, and of what comes next a part was written.
-  pub record IsPrompt (bytes : List ℕ) (left old new : Option (List ℕ)) : Type 0 where
-    pub frames : List (List ℕ)
-    pub rest : List ℕ
-    pub reads : Reads frames bytes rest
-    pub next : TakesNext rest left
-    pub part : List ℕ
-    pub written : Appends old new (report_of frames ++ part)
-
--- all of the output was written, and the run ended with the answer's status
-pub record ShowsAll (answer : Answer) (old new : Option (List ℕ)) (status : ℕ) : Type 0 where
-  pub output : Appends old new answer.output
-  pub code : status ≡ answer.status
-
--- a front of the output was written
-abbrev pub ShowsFront : Answer → Option (List ℕ) → Option (List ℕ) → Type 0
-ShowsFront answer old new = (written : List ℕ) × (more : List ℕ) × (answer.output ≡ written ++ more) × Appends old new written
-
--- what was written by the command `apply`, by how it ended
-abbrev pub Shows : (List ℕ → List ℕ → List ℕ → Bool) → List ℕ → Option (List ℕ) → Option (List ℕ) → Option (List ℕ) → Result ℕ StreamFault → Type 0
-Shows accepts bytes left old new (Ok status) = ((stream_of bytes).fault ≡ None) × ShowsAll (apply_answer accepts bytes) old new status
-Shows accepts bytes left old new (Err (Truncated have want)) = ((stream_of bytes).fault ≡ Some (Truncated have want)) × ShowsAll (apply_answer accepts bytes) old new 3
-Shows accepts bytes left old new (Err (TooLong size)) = ((stream_of bytes).fault ≡ Some (TooLong size)) × ShowsAll (apply_answer accepts bytes) old new 3
-Shows accepts bytes left old new (Err Frames) = ((stream_of bytes).fault ≡ Some Frames) × ShowsAll (apply_answer accepts bytes) old new 3
-Shows accepts bytes left old new (Err Read) = ShowsFront (apply_answer accepts bytes) old new × IsUpToDate accepts bytes left old new
-Shows accepts bytes left old new (Err Write) = ShowsFront (apply_answer accepts bytes) old new × IsPrompt accepts bytes left old new
-Shows accepts bytes left old new (Err Memory) = ShowsFront (apply_answer accepts bytes) old new × IsPrompt accepts bytes left old new
+  apply_answer bytes = apply_by (run_of bytes) (fault_of bytes)

@@ -16,6 +16,8 @@ pub(crate) enum StreamFault {
     TooLong { length: u32 },
     /// One frame too many begins.
     Frames,
+    /// As many blocks are accepted as may be, and one more has no fault.
+    Blocks,
     Read,
     Write,
     Memory,
@@ -70,6 +72,8 @@ pub(crate) enum RunFault {
     TooLong { length: u32 },
     /// One frame too many begins.
     Frames,
+    /// As many blocks are accepted as may be, and one more has no fault.
+    Blocks,
     Read,
     Write,
     Memory,
@@ -92,6 +96,7 @@ impl From<StreamFault> for RunFault {
             StreamFault::Truncated { have, want } => RunFault::Truncated { have, want },
             StreamFault::TooLong { length } => RunFault::TooLong { length },
             StreamFault::Frames => RunFault::Frames,
+            StreamFault::Blocks => RunFault::Blocks,
             StreamFault::Read => RunFault::Read,
             StreamFault::Write => RunFault::Write,
             StreamFault::Memory => RunFault::Memory,

@@ -5,7 +5,7 @@ ghost use Rattle.std.specs.Io.KnownBytes.{Appends};
 ghost use Rattle.arrayvec.specs.ArrayVec.{array_vec_len};
 ghost use Rattle.saw_faults.specs.Counts.{Rose};
 ghost use Rattle.saw_top.specs.Faults.{status_of};
-ghost use Rattle.saw_top.specs.Lines.{spaced};
+ghost use Rattle.saw_report.specs.Lines.{spaced};
 ghost use Rattle.saw_top.specs.Notes.{fault_words, fault_line};
 
 use crate::Status;
@@ -53,6 +53,7 @@ fn put_words(line: &mut Line, fault: RunFault)
             put_spaced(line, length);
         }
         RunFault::Frames => put(line, b" frames"),
+        RunFault::Blocks => put(line, b" blocks"),
         RunFault::Read => put(line, b" read"),
         RunFault::Write => put(line, b" write"),
         RunFault::Memory => put(line, b" memory"),
@@ -75,6 +76,7 @@ pub(crate) fn status_of(fault: RunFault) -> Status
         RunFault::Truncated { have: _, want: _ } => 3,
         RunFault::TooLong { length: _ } => 3,
         RunFault::Frames => 3,
+        RunFault::Blocks => 10,
         RunFault::Read => 4,
         RunFault::Write => 5,
         RunFault::Memory => 7,

@@ -1,5 +1,5 @@
 use Rattle.std.proofs.Common.{map, string_bytes, sym, ap, ◌∙◌, Some}
-use Rattle.saw_top.proofs.Listings.{wordless, given, given_up_to_date, given_prompt, asked_prompt}
+use Rattle.saw_top.proofs.Listings.{wordless, given, given_up_to_date, given_prompt, asked, asked_up_to_date, asked_prompt}
 use Rattle.saw_top.proofs.top.carry_out.Goals as goal
 
 pub returns-in_default-clause-carries : goal.returns-in_default-clause-carries
@@ -30,3 +30,15 @@ returns-in-Some-attest_of-clause-prompt g c = λ which.
     asked_prompt (g.V.Verifier.accepts c.args.verifier.now) (g.S.Source.unread c.args.input.now) (g.F.Shelf.files c.args.shelf.now) (map string_bytes c.args.words.now)
     (g.O.Sink.written c.args.output.now) (g.O.Sink.written c.apply_listed.new.output) (g.S.Source.unread c.apply_listed.new.input) c.in-Some-attest_of.name.now
     (sym c.in-Some.ensures ∙ ap Some (sym c.in-Some-attest_of.ensures)) (c.apply_listed.ensures.prompt which)
+
+pub returns-in-Some-attest_of-clause-carries : goal.returns-in-Some-attest_of-clause-carries
+returns-in-Some-attest_of-clause-carries g c =
+    asked (g.V.Verifier.accepts c.args.verifier.now) (g.S.Source.unread c.args.input.now) (g.F.Shelf.files c.args.shelf.now) (map string_bytes c.args.words.now)
+    (g.O.Sink.written c.args.output.now) (g.O.Sink.written c.apply_listed.new.output) (g.S.Source.unread c.apply_listed.new.input) c.apply_listed.result c.in-Some-attest_of.name.now
+    (sym c.in-Some.ensures ∙ ap Some (sym c.in-Some-attest_of.ensures)) c.apply_listed.ensures.carries
+
+pub returns-in-Some-attest_of-clause-up_to_date : goal.returns-in-Some-attest_of-clause-up_to_date
+returns-in-Some-attest_of-clause-up_to_date g c = λ is.
+    asked_up_to_date (g.V.Verifier.accepts c.args.verifier.now) (g.S.Source.unread c.args.input.now) (g.F.Shelf.files c.args.shelf.now) (map string_bytes c.args.words.now)
+    (g.O.Sink.written c.args.output.now) (g.O.Sink.written c.apply_listed.new.output) (g.S.Source.unread c.apply_listed.new.input) c.in-Some-attest_of.name.now
+    (sym c.in-Some.ensures ∙ ap Some (sym c.in-Some-attest_of.ensures)) (c.apply_listed.ensures.up_to_date is)
