@@ -16,6 +16,7 @@ struct Case<'a> {
     list: Option<&'a [u8]>,
     reads: &'a [u64],
     writes: &'a [u64],
+    notes: &'a [u64],
     fetches: &'a [u64],
 }
 
@@ -35,6 +36,7 @@ fn apply<'a>(input: &'a [u8]) -> Case<'a> {
         list: None,
         reads: &[],
         writes: &[],
+        notes: &[],
         fetches: &[],
     }
 }
@@ -51,7 +53,7 @@ fn answer_of(alloc: Global, case: &Case<'_>) -> Result<Answer, AllocError> {
     let mut shelf = MemoryShelf::new(files, case.fetches.to_vec(alloc)?);
     let mut source = MemorySource::new(case.input.to_vec(alloc)?, case.reads.to_vec(alloc)?);
     let mut output = MemorySink::new(alloc, case.writes.to_vec(alloc)?);
-    let mut notes = MemorySink::new(alloc, Vec::new(alloc));
+    let mut notes = MemorySink::new(alloc, case.notes.to_vec(alloc)?);
     let status = run(
         alloc,
         &words,
@@ -71,7 +73,7 @@ fn answer_of(alloc: Global, case: &Case<'_>) -> Result<Answer, AllocError> {
 #[test]
 fn other_words_are_refused_and_nothing_is_read(rt: HostRuntime) -> Result<(), Fail> {
     let none: [&str; 0] = [];
-    let forms: [&[&str]; 8] = [
+    let forms: [&[&str]; 15] = [
         &none,
         &["applyx"],
         &["APPLY"],
@@ -80,6 +82,13 @@ fn other_words_are_refused_and_nothing_is_read(rt: HostRuntime) -> Result<(), Fa
         &["apply", "--attest"],
         &["apply", "--attest="],
         &["apply", "--attest", "list", "list"],
+        &["apply", "--attest", "list", "--attest=list"],
+        &["apply", "--prefix", "1c"],
+        &["state", "--prefix", "1"],
+        &["state", "--prefix", "1C"],
+        &["state", "--prefix="],
+        &["state", "--prefix", "1c", "--prefix", "1c"],
+        &["state", "1c"],
     ];
     for words in forms {
         let case = Case {
@@ -187,6 +196,53 @@ fn an_empty_list_and_stream_have_no_head(rt: HostRuntime) -> Result<(), Fail> {
         assert_eq!(rt; answer.output.bytes(), b"head none\n".as_slice());
         assert_eq!(rt; answer.notes.bytes(), b"".as_slice());
         assert_eq!(rt; answer.status, 0);
+    }
+    Ok(())
+}
+
+#[test]
+fn options_come_in_any_order_and_form(rt: HostRuntime) -> Result<(), Fail> {
+    let forms: [&[&str]; 4] = [
+        &["state"],
+        &["state", "--prefix", "00ff"],
+        &["state", "--prefix=1c", "--attest", "list"],
+        &["state", "--attest=list", "--prefix", "1c"],
+    ];
+    for words in forms {
+        let case = Case {
+            words,
+            list: Some(b""),
+            ..apply(b"")
+        };
+        let answer = answer_of(rt.alloc(), &case)?;
+        assert_eq!(rt; answer.output.bytes(), b"".as_slice());
+        assert_eq!(rt; answer.notes.bytes(), b"".as_slice());
+        assert_eq!(rt; answer.status, 8);
+    }
+    Ok(())
+}
+
+#[test]
+fn refused_blocks_are_noted_before_the_next_is_read(rt: HostRuntime) -> Result<(), Fail> {
+    let first = "block 0 refused 2 IdText\n";
+    // Which read and which write of the notes fail, and what the notes have then.
+    let fails: [(&[u64], &[u64], &str, &str, u8); 3] = [
+        (&[1], &[], first, "fault 4 read\n", 4),
+        (&[], &[0], "", "fault 5 write\n", 5),
+        (&[], &[1], first, "fault 5 write\n", 5),
+    ];
+    for (reads, tells, lines, fault, status) in fails {
+        let case = Case {
+            words: &["state"],
+            reads,
+            notes: tells,
+            ..apply(b"\0\0\0\0\0\0\0\0")
+        };
+        let answer = answer_of(rt.alloc(), &case)?;
+        let wanted = format!(in rt.alloc(); "{lines}{fault}")?;
+        assert_eq!(rt; answer.output.bytes(), b"".as_slice());
+        assert_eq!(rt; answer.notes.bytes(), wanted.as_bytes());
+        assert_eq!(rt; answer.status, status);
     }
     Ok(())
 }

@@ -6,7 +6,13 @@ pub mod Steps
 pub mod Streams
 pub mod Standings
 pub mod Applied
+pub mod Listed
+pub mod Stated
 pub mod Wholes
+pub mod OptionLists
+pub mod OptionSlots
+pub mod OptionWords
+pub mod Wishing
 pub mod Listings
 pub mod Endings
 pub mod Frames

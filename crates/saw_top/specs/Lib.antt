@@ -2,7 +2,9 @@ pub mod Limits
 pub mod History
 pub mod Standing
 pub mod Reports
+pub mod Listing
 pub mod Command
+pub mod Options
 pub mod Wishes
 pub mod Faults
 pub mod Notes

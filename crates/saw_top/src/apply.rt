@@ -1,13 +1,14 @@
 //! The command `apply`: a line for each block, and then the head's.
 
-ghost use Rattle.std.specs.Prelude.{◌≡◌, ◌≤◌, ◌⊎◌, ℕ, take, IfOk, IfErr, IfSome, OnErr, IsErrOf};
+ghost use Rattle.std.specs.Prelude.{◌≡◌, ◌≤◌, ◌⊎◌, ℕ, List, Option, take, IfOk, IfErr, IfSome, OnErr, IsErrOf};
 ghost use Rattle.std.specs.Io.KnownBytes.{Appends};
 ghost use Rattle.saw_faults.specs.Counts.{Rose};
 ghost use Rattle.saw_journal.specs.Heads.{head_of};
 ghost use Rattle.saw_report.specs.Lines.{head_line};
 ghost use Rattle.saw_top.specs.Judging.{WhereRootsTell};
 ghost use Rattle.saw_top.specs.Run.{status_by};
-ghost use Rattle.saw_top.specs.Shows.{Shows};
+ghost use Rattle.saw_top.specs.Shows.{Shows, sides};
+ghost use Rattle.saw_top.specs.Command.{Apply};
 
 use crate::Status;
 use crate::fault::StreamFault;
@@ -39,15 +40,15 @@ fn finish<O: Sink>(
     Ok(Status::new(if refused { 1 } else { 0 }))
 }
 
-/// Answers the blocks of the input one by one, and then tells the head.
+/// Tells each block of the input, and then the head.
 pub(crate) fn apply<S: Source, O: Sink, V: Verifier>(
     alloc: Global,
     input: &mut S,
     output: &mut O,
     verifier: &V,
 ) -> Result<Status, StreamFault>
-    ensures shows { IfSome (S.unread input.old) (λ bytes. WhereRootsTell (V.accepts verifier.now) bytes
-        (Shows (V.accepts verifier.now) bytes (S.unread input.new) (O.written output.old) (O.written output.new) result)) }
+    ensures shows { (told : Option (List ℕ)) → IfSome (S.unread input.old) (λ bytes. WhereRootsTell (V.accepts verifier.now) bytes
+        (Shows (V.accepts verifier.now) Apply bytes (S.unread input.new) (sides (O.written output.old) (O.written output.new) told told) result)) }
     ensures code { IfOk result (λ status. (status ≡ 0) ⊎ (status ≡ 1)) }
     ensures input { IsErrOf result StreamFault.Read → Rose (S.faults input.old) (S.faults input.new) }
     ensures output { IsErrOf result StreamFault.Write → Rose (O.faults output.old) (O.faults output.new) }

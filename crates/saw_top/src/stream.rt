@@ -1,7 +1,7 @@
 //! Reads a block stream to its end, and judges each block before it reads the next.
 
 ghost use Rattle.std.specs.Prelude.{◌≡◌, ◌≤◌, ◌<◌, ◌==◌, [], List, ℕ, length, Err, IfOk, IfSome, OnErr, IsErrOf};
-ghost use Rattle.std.specs.Io.KnownBytes.{Consumes};
+ghost use Rattle.std.specs.Io.KnownBytes.{Appends, Consumes};
 ghost use Rattle.saw_faults.specs.Counts.{Rose};
 ghost use Rattle.saw_top.specs.Judging.{Judges, WhereRootsTell};
 ghost use Rattle.saw_top.specs.Standing.{IsAfter};
@@ -51,6 +51,7 @@ pub(crate) fn judge_stream<S: Source, O: Sink, V: Verifier>(
     requires { IsAfter [] journal.old }
     ensures judges { IfSome (S.unread input.old) (λ bytes. WhereRootsTell (V.accepts verifier.now) bytes
         (Judges (V.accepts verifier.now) lines bytes (S.unread input.new) (O.written output.old) (O.written output.new) journal.new result)) }
+    ensures wrote { (written : List ℕ) × Appends (O.written output.old) (O.written output.new) written }
     ensures input { IsErrOf result StreamFault.Read → Rose (S.faults input.old) (S.faults input.new) }
     ensures output { IsErrOf result StreamFault.Write → Rose (O.faults output.old) (O.faults output.new) }
     ensures later { O.faults output.old ≤ O.faults output.new }

@@ -1,4 +1,5 @@
-use Rattle.std.proofs.Common.{◌≡◌, Err, ap, arith}
+use Rattle.std.proofs.Common.{◌≡◌, [], ◌++◌, Err, ap, arith}
+use Rattle.std.proofs.KnownBytes.{Appends-nil, Appends-trans}
 use Rattle.std.specs.Prelude.{◌||◌, not}
 use Rattle.std.proofs.lemmas.Result.{err_from_is_err_and}
 use Rattle.saw_top.specs.declared.fault.StreamFault.TheVariants.{Read}
@@ -13,6 +14,7 @@ returns-in_err-lone_desk-clause-judges g c =
 pub loop-place-init : goal.loop-place-init
 loop-place-init g c = record {
   so_far = start (g.V.Verifier.accepts c.args.verifier.now) c.args.lines (g.S.Source.unread c.args.input.now) (g.O.Sink.written c.args.output.now) c.args.journal.now c.requires;
+  wrote = ([], Appends-nil (g.O.Sink.written c.args.output.now));
   lone = (c.in_ok-lone_desk.ensures, tt);
   input_later = omega arith;
   output_later = omega arith;
@@ -51,6 +53,7 @@ loop-place-preserved g c =
     let says = rw c.deref.ensures.value at c.in_ok-verdict-in-Some.ensures.says in
     record {
       so_far = SoFar-more _ _ _ _ _ _ _ _ _ c.in-Some.content c.loop-place-test.true told _ _ says _ _ _ c.loop-place.invariant.so_far c.in_ok-tell_block-in-Some.ensures.ok (ap (λ b. c.loop-place.refused || not b) c.is_accepted.ensures);
+      wrote = (c.loop-place.invariant.wrote.0 ++ _, Appends-trans _ _ _ c.loop-place.invariant.wrote.0 _ c.loop-place.invariant.wrote.1 c.in_ok-tell_block-in-Some.ensures.ok);
       lone = c.in_ok-verdict-in-Some.ensures.lone;
       input_later = omega arith;
       output_later = omega arith;
@@ -74,3 +77,8 @@ returns-clause-judges g c =
     let e = c.in_ok-has_ended.ensures in
     let some = rw c.if-branch.false at e.ended in
     SoFar-too_many _ _ _ _ (g.S.Source.unread c.has_ended.new.input) _ _ _ _ _ c.loop-place.invariant.so_far (omega arith) (omega arith) some
+
+pub returns-in_err-tell_block-in-Some-clause-wrote : goal.returns-in_err-tell_block-in-Some-clause-wrote
+returns-in_err-tell_block-in-Some-clause-wrote g c =
+    let cut = c.in_err-tell_block-in-Some.ensures.err in
+    (c.loop-place.invariant.wrote.0 ++ _, Appends-trans _ _ _ c.loop-place.invariant.wrote.0 _ c.loop-place.invariant.wrote.1 cut.1)
