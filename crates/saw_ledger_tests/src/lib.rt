@@ -1,10 +1,8 @@
-//! Tests of transactions: access, the three families, conversations, batches and receipts.
+//! Tests of transactions: access, the three families, conversations and receipts.
 #![tactic(auto)]
 
 #[cfg(test)]
 mod access;
-#[cfg(test)]
-mod batches;
 #[cfg(test)]
 mod families;
 #[cfg(test)]

@@ -4,5 +4,3 @@ pub mod Talks
 pub mod Replays
 pub mod Conversed
 pub mod Finished
-pub mod Members
-pub mod Plain

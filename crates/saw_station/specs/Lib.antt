@@ -1,7 +1,6 @@
 pub mod Steps
 pub mod Serving
 pub mod Spoken
-pub mod Failures
 pub mod Answers
 pub mod Desks
 pub mod Results

@@ -1,8 +1,7 @@
-//! Runs transactions by conversation with their processors, and batches one after another.
+//! Runs transactions by conversation with their processors.
 #![tactic(auto)]
 
 mod answer;
-mod batches;
 mod builtin;
 mod conversation;
 mod desk;
@@ -12,7 +11,6 @@ mod run;
 mod serving;
 mod station;
 
-pub use batches::{BatchFailure, Failure, run_batch, run_batches};
 pub use desk::Desk;
 pub use fault::StationFault;
 pub use offer::Offer;
