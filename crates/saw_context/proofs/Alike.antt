@@ -2,8 +2,8 @@
 use Rattle.std.proofs.Common.{◌≡◌, ℕ, zero, suc, Bool, true, false, not, if◌then◌else◌, List, [], ◌∷◌, ◌++◌, map, Option, Some, None, is_some, refl, ap, ap₂, ◌∙◌, arith}
 use Rattle.std.specs.FinMap as finite
 use Rattle.std.specs.List.{AllByRecursion}
-use Rattle.std.proofs.lemmas.Bool.{not-false}
-use Rattle.saw_address.specs.Maps.{StateMap, value_at}
+use Rattle.std.proofs.lemmas.Bool.{and_parts, not-false}
+use Rattle.saw_address.specs.Maps.{StateMap, is_address, value_at}
 use Rattle.saw_messages.specs.Shapes.{TxShape}
 use Rattle.saw_messages.specs.declared.talk.Action.{Action}
 use Rattle.saw_messages.specs.declared.talk.Action.TheVariants as actions
@@ -22,13 +22,13 @@ use Rattle.saw_context.proofs.Each.{all_right, all_append, all_map, all_weaker, 
 abbrev pub AreAlike : StateMap → StateMap → Asked → Type 0
 AreAlike m n asked = asked.own ≡ false → body_of (value_at m asked.address) ≡ body_of (value_at n asked.address)
 
--- the address that was asked for is covered
+-- what was asked for is an address that is covered
 abbrev pub IsCovered : List (List ℕ) → Asked → Type 0
-IsCovered texts asked = are_covering texts asked.address ≡ true
+IsCovered texts asked = is_granted texts (At asked.address) ≡ true
 
--- both maps have the same wherever these cover
+-- both maps have the same at each address that these cover
 abbrev pub AgreeWhere : List (List ℕ) → StateMap → StateMap → Type 0
-AgreeWhere texts m n = (at : List ℕ) → are_covering texts at ≡ true → value_at m at ≡ value_at n at
+AgreeWhere texts m n = (at : List ℕ) → is_granted texts (At at) ≡ true → value_at m at ≡ value_at n at
 
 -- ---- one reply
 
@@ -99,6 +99,10 @@ granted_all texts places none =
     all_weaker (λ place. not (is_granted texts place) ≡ false) (λ place. is_granted texts place ≡ true) (λ place h. not-false (is_granted texts place) h) places
     (position-None (λ place. not (is_granted texts place)) places none)
 
+-- a granted address is one that is covered
+pub granted_parts : (texts : List (List ℕ)) (at : List ℕ) → is_granted texts (At at) ≡ true → (is_address at ≡ true) × (are_covering texts at ≡ true)
+granted_parts texts at granted = and_parts (is_address at) (are_covering texts at) granted
+
 granted_is_covered : (texts : List (List ℕ)) (own : Overlay) (place : Place) → is_granted texts place ≡ true → IsCovered texts (asked_at own place)
 granted_is_covered texts own (At address) h = h
 granted_is_covered texts own Bad h = absurd (grind arith)
@@ -140,5 +144,7 @@ unfolding conversed
 conversed_agree next header m n agree = ap (decided_by next) (conversation_agree next header m n agree)
 
 -- and one outcome
-pub outcome_of_agree : (processors : Processors) (tx : TxShape) (m n : StateMap) (failed : Bool) → AgreeWhere tx.header.inputs m n → outcome_of processors tx m failed ≡ outcome_of processors tx n failed
-outcome_of_agree processors tx m n failed agree = ap (outcome_by (refusal processors tx) failed) (conversed_agree (processors.next tx) tx.header m n agree)
+pub outcome_of_agree : (processors : Processors) (tx : TxShape) (m n : StateMap) (failed : Bool) → ((at : List ℕ) → are_covering tx.header.inputs at ≡ true → value_at m at ≡ value_at n at)
+    → outcome_of processors tx m failed ≡ outcome_of processors tx n failed
+outcome_of_agree processors tx m n failed agree =
+    ap (outcome_by (refusal processors tx) failed) (conversed_agree (processors.next tx) tx.header m n (λ at granted. agree at (granted_parts tx.header.inputs at granted).1))

@@ -1,5 +1,5 @@
 -- What a conversation comes to, whatever the map.
-use Rattle.std.proofs.Common.{◌≡◌, ℕ, zero, suc, Bool, true, false, if◌then◌else◌, List, Option, Some, None, refl, ap, arith}
+use Rattle.std.proofs.Common.{◌≡◌, ◌⊎◌, inl, inr, ℕ, zero, suc, Bool, true, false, if◌then◌else◌, List, Option, Some, None, refl, sym, ap, ◌∙◌, arith}
 use Rattle.std.proofs.Math.Path.{fun_ext}
 use Rattle.std.specs.List.{AllByRecursion}
 use Rattle.saw_address.specs.Maps.{StateMap}
@@ -87,8 +87,30 @@ outcome_by-Ok (Some reason) failed others changes events e = absurd (grind arith
 outcome_by-Ok None true others changes events e = absurd (grind arith)
 outcome_by-Ok None false others changes events e = e
 
+-- the changes of an outcome that a conversation decides are those of the conversation
+pub changes_of_decided : (reason : Option Reason) (failed : Bool) (next : List Turn → Action) (header : TransactionHeader) (m : StateMap) (outcome : Outcome) (changes : List Change) (events : List Event)
+    → outcome ≡ outcome_by reason failed (conversed next header m) → outcome ≡ outcomes.Ok changes events → changes ≡ changes_of (conversation next header m).own
+changes_of_decided reason failed next header m outcome changes events is e = conversed-Ok next header m changes events (outcome_by-Ok reason failed _ changes events (sym is ∙ e))
+
 -- the changes of a transaction are those of its conversation
 pub changes_of_outcome : (processors : Processors) (tx : TxShape) (m : StateMap) (failed : Bool) (changes : List Change) (events : List Event)
     → outcome_of processors tx m failed ≡ outcomes.Ok changes events → changes ≡ changes_of (conversation (processors.next tx) tx.header m).own
-changes_of_outcome processors tx m failed changes events e =
-    conversed-Ok (processors.next tx) tx.header m changes events (outcome_by-Ok (refusal processors tx) failed _ changes events e)
+changes_of_outcome processors tx m failed changes events e = changes_of_decided (refusal processors tx) failed (processors.next tx) tx.header m _ changes events refl e
+
+-- ---- reasons of outcomes
+
+-- an action that refuses by an own reason decides that one, or that there was one request too many
+decided-Invalid : (talk : Talk) (action : Action) (reason : Reason) → has_own_reason action ≡ true → decided talk action ≡ outcomes.Invalid reason
+    → (reason ≡ TooManyRequests) ⊎ (has_own_reason (actions.Invalid reason) ≡ true)
+decided-Invalid talk (actions.Get places) reason own e = inl cc
+decided-Invalid talk (actions.Set entries) reason own e = inl cc
+decided-Invalid talk (actions.Delete places) reason own e = inl cc
+decided-Invalid talk (actions.AddEvent event) reason own e = inl cc
+decided-Invalid talk actions.Ok reason own e = absurd cc
+decided-Invalid talk (actions.Invalid other) reason own e = let same : other ≡ reason = cc in inr (ap is_own_reason (sym same) ∙ own)
+
+-- so does a whole conversation
+pub conversed-Invalid : (next : List Turn → Action) (header : TransactionHeader) (m : StateMap) (reason : Reason) → ((turns : List Turn) → has_own_reason (next turns) ≡ true) → conversed next header m ≡ outcomes.Invalid reason
+    → (reason ≡ TooManyRequests) ⊎ (has_own_reason (actions.Invalid reason) ≡ true)
+unfolding conversed
+conversed-Invalid next header m reason own e = decided-Invalid (conversation next header m) (next (conversation next header m).turns) reason (own (conversation next header m).turns) e

@@ -10,3 +10,6 @@ pub mod Overlays
 pub mod Undos
 pub mod Origins
 pub mod Gathered
+pub mod Addresses
+pub mod Kept
+pub mod Coming

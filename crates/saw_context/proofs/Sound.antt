@@ -1,16 +1,19 @@
 -- A true result is the outcome over each map that has what it was told.
-use Rattle.std.proofs.Common.{◌≡◌, Bool, true, false, List, map, Option, Some, None, inl, inr, sym, ap, subst, ◌∙◌, arith}
+use Rattle.std.proofs.Common.{◌≡◌, Bool, true, false, List, map, Option, Some, None, inl, inr, refl, sym, ap, subst, ◌∙◌, arith}
 use Rattle.std.specs.List.{AllByRecursion}
 use Rattle.std.proofs.lemmas.Bool.{both_ways}
 use Rattle.saw_address.specs.Maps.{StateMap}
+use Rattle.saw_messages.specs.Reasons.{has_own_reason}
 use Rattle.saw_messages.specs.Shapes.{TxShape}
 use Rattle.saw_messages.specs.declared.outcome.Outcome.{Outcome}
 use Rattle.saw_messages.specs.declared.outcome.Outcome.TheVariants as outcomes
 use Rattle.saw_messages.specs.declared.outcome.Reason.{Reason}
 use Rattle.saw_messages.specs.declared.outcome.Reason.TheVariants.{DependencyFailed}
+use Rattle.saw_messages.specs.declared.talk.Action.{Action}
 use Rattle.saw_messages.specs.declared.talk.Turn.{Turn}
 use Rattle.saw_context.specs.Outcome.{Processors, conversed, refusal, outcome_by, outcome_of}
-use Rattle.saw_context.specs.Results.{IsConversed, IsOf, IsSound, IsSoundBy, as_asked, fits_dependency, is_early, recorded}
+use Rattle.saw_context.specs.Possible.{MayCome, is_told}
+use Rattle.saw_context.specs.Results.{AnswersFor, IsConversed, IsOf, IsSound, IsSoundBy, as_asked, fits_dependency, is_early, recorded}
 use Rattle.saw_context.specs.declared.reads.Read.{Read}
 use Rattle.saw_context.proofs.Alike.{AreAlike, conversed_alike}
 use Rattle.saw_context.proofs.Conversations.{conversed-next, conversed_is_late}
@@ -20,13 +23,12 @@ reads_are_alike : (m n : StateMap) (reads : List Read) → AllByRecursion (IsOf 
 reads_are_alike m n reads h k =
     all_map as_asked (AreAlike m n) reads (all_both (IsOf m) (IsOf n) (λ read. AreAlike m n (as_asked read)) (λ read p q own. p own ∙ sym (q own)) reads h k)
 
--- where the processor is told, a conversation with the recorded reads is the conversation with a map that has them
-pub conversed_is_told : (processors : Processors) (tx : TxShape) (turns : List Turn) (reads : List Read) (outcome : Outcome) (m : StateMap) → IsConversed processors tx turns reads outcome
-    → processors.tells tx.header.family_name tx.header.family_version ≡ true → AllByRecursion (IsOf m) reads → outcome ≡ conversed (processors.next tx) tx.header m
-conversed_is_told processors tx turns reads outcome m is told has =
+-- a conversation with the recorded reads is the conversation with a map that has them
+conversed_over : (processors : Processors) (tx : TxShape) (turns : List Turn) (reads : List Read) (outcome : Outcome) (m : StateMap) (is : IsConversed processors tx turns reads outcome)
+    → AllByRecursion (IsOf m) reads → outcome ≡ conversed is.next tx.header m
+conversed_over processors tx turns reads outcome m is has =
     is.decided
     ∙ conversed_alike is.next tx.header (recorded reads) m (subst (AllByRecursion (AreAlike (recorded reads) m)) is.asked (reads_are_alike (recorded reads) m reads is.alike has))
-    ∙ conversed-next is.next (processors.next tx) tx.header m (is.answers.told told)
 
 -- the outcome of a conversation comes by no reason before it
 pub conversed_not_early : (processors : Processors) (tx : TxShape) (turns : List Turn) (reads : List Read) (outcome : Outcome) → IsConversed processors tx turns reads outcome → is_early outcome ≡ false
@@ -40,16 +42,30 @@ none_failed : (failed : Bool) (outcome others : Outcome) → outcome ≡ others 
 none_failed true outcome others is late fits = absurd (both_ways (is_early outcome) late fits)
 none_failed false outcome others is late fits = is
 
-outcome_is_by : (processors : Processors) (tx : TxShape) (turns : List Turn) (reads : List Read) (outcome : Outcome) (m : StateMap) (failed : Bool) (reason : Option Reason)
-    → IsSoundBy processors tx turns reads outcome reason → processors.tells tx.header.family_name tx.header.family_version ≡ true → fits_dependency failed outcome ≡ true → AllByRecursion (IsOf m) reads
-    → outcome ≡ outcome_by reason failed (conversed (processors.next tx) tx.header m)
-outcome_is_by processors tx turns reads outcome m failed (Some reason) sound told fits has = sound.refused
-outcome_is_by processors tx turns reads outcome m failed None (inl refused) told fits has = dependency_failed failed outcome _ refused.refused fits
-outcome_is_by processors tx turns reads outcome m failed None (inr conversed) told fits has =
-    none_failed failed outcome _ (conversed_is_told processors tx turns reads outcome m conversed told has) (conversed_not_early processors tx turns reads outcome conversed) fits
+-- a true result is decided by a conversation with the processors' own function, or with one that answers for them
+decided_by_one : (processors : Processors) (tx : TxShape) (turns : List Turn) (reads : List Read) (outcome : Outcome) (m : StateMap) (failed : Bool) (reason : Option Reason) (P : (List Turn → Action) → Type 0)
+    → P (processors.next tx) → ((next : List Turn → Action) → AnswersFor processors tx next → P next)
+    → IsSoundBy processors tx turns reads outcome reason → fits_dependency failed outcome ≡ true → AllByRecursion (IsOf m) reads
+    → (next : List Turn → Action) × P next × (outcome ≡ outcome_by reason failed (conversed next tx.header m))
+decided_by_one processors tx turns reads outcome m failed (Some reason) P its answers sound fits has = (processors.next tx, its, sound.refused)
+decided_by_one processors tx turns reads outcome m failed None P its answers (inl refused) fits has = (processors.next tx, its, dependency_failed failed outcome _ refused.refused fits)
+decided_by_one processors tx turns reads outcome m failed None P its answers (inr is) fits has =
+    (is.next, answers is.next is.answers, none_failed failed outcome _ (conversed_over processors tx turns reads outcome m is has) (conversed_not_early processors tx turns reads outcome is) fits)
 
--- a true result whose recorded reads are what a map gives has the outcome over that map
+-- a true result whose recorded reads are what a map gives may come over that map
+pub sound_comes : (processors : Processors) (tx : TxShape) (turns : List Turn) (reads : List Read) (outcome : Outcome) (m : StateMap) (failed : Bool)
+    → ((said : List Turn) → has_own_reason (processors.next tx said) ≡ true) → IsSound processors tx turns reads outcome → fits_dependency failed outcome ≡ true → AllByRecursion (IsOf m) reads
+    → MayCome processors tx m failed outcome
+sound_comes processors tx turns reads outcome m failed own sound fits has =
+    let one =
+    decided_by_one processors tx turns reads outcome m failed (refusal processors tx) (AnswersFor processors tx) (record { reasons = own; told = λ told said. refl }) (λ next answers. answers) sound fits has in
+    record { next = one.0; answers = one.1; decided = one.2 }
+
+-- and it has the outcome over that map, where the processor is told
 pub sound_outcome : (processors : Processors) (tx : TxShape) (turns : List Turn) (reads : List Read) (outcome : Outcome) (m : StateMap) (failed : Bool)
-    → IsSound processors tx turns reads outcome → processors.tells tx.header.family_name tx.header.family_version ≡ true → fits_dependency failed outcome ≡ true → AllByRecursion (IsOf m) reads
+    → IsSound processors tx turns reads outcome → is_told processors tx ≡ true → fits_dependency failed outcome ≡ true → AllByRecursion (IsOf m) reads
     → outcome ≡ outcome_of processors tx m failed
-sound_outcome processors tx turns reads outcome m failed sound told fits has = outcome_is_by processors tx turns reads outcome m failed (refusal processors tx) sound told fits has
+sound_outcome processors tx turns reads outcome m failed sound told fits has =
+    let one =
+    decided_by_one processors tx turns reads outcome m failed (refusal processors tx) (λ next. (said : List Turn) → next said ≡ processors.next tx said) (λ said. refl) (λ next answers. answers.told told) sound fits has in
+    one.2 ∙ ap (outcome_by (refusal processors tx) failed) (conversed-next one.0 (processors.next tx) tx.header m one.1)

@@ -5,7 +5,7 @@ use Rattle.std.specs.Cmp.Lexicographic.{slice_cmp}
 use Rattle.std.specs.List.{list_any, starts_with}
 use Rattle.std.specs.FinMap as finite
 use Rattle.hex.specs.Hex.{encode_lower}
-use Rattle.saw_address.specs.Maps.{StateMap, value_at}
+use Rattle.saw_address.specs.Maps.{StateMap, is_address, value_at}
 use Rattle.saw_address.specs.Texts.{is_prefix_text}
 use Rattle.saw_messages.specs.declared.transaction.TransactionHeader.{TransactionHeader}
 use Rattle.saw_messages.specs.declared.receipt.Event.{Event}
@@ -26,8 +26,9 @@ text_covers text address = is_prefix_text text && starts_with nat_eq (encode_low
 abbrev pub are_covering : List (List ℕ) → List ℕ → Bool
 are_covering texts address = list_any (λ text. text_covers text address) texts
 
+-- a place is granted where it is an address that one of the texts covers
 abbrev pub is_granted : List (List ℕ) → Place → Bool
-is_granted texts (At address) = are_covering texts address
+is_granted texts (At address) = is_address address && are_covering texts address
 is_granted texts Bad = false
 
 -- the index of the first place that is no address or that none of the texts covers

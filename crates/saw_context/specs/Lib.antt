@@ -3,6 +3,7 @@ pub mod Outcome
 pub mod Serial
 pub mod Views
 pub mod Results
+pub mod Possible
 pub mod Access
 pub mod Undo
 pub mod Changed

@@ -28,7 +28,11 @@ fn is_granted(texts: &[Text], place: &Place) -> bool
     ensures { result ≡ is_granted texts.now place.now }
 {
     match place {
-        Place::At(address) => are_covering(texts, address),
+        Place::At(address) => {
+            // That it is an address is a clause of this call.
+            let _ = address.as_slice();
+            are_covering(texts, address)
+        }
         Place::Bad => false,
     }
 }

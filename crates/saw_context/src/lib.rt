@@ -17,8 +17,9 @@ pub use context::Context;
 pub use fault::{AccessFault, ContextFault};
 pub use job::{Done, Job, Ticket};
 pub use laws::{
-    conversation_is_not_early, gathered_changes_show, outcome_sees_inputs, over_shows,
-    seen_is_over, sound_is_outcome, writes_are_covered,
+    access_is_kept, addresses_are_kept, conversation_is_not_early, gathered_changes_show,
+    may_come_is_told, outcome_sees_inputs, over_shows, seen_is_over, serial_may_come,
+    sound_is_outcome, sound_may_come, telling_decides, writes_are_covered,
 };
 pub use overlay::Overlay;
 pub use reads::{Changes, Origin, Read};

@@ -1,5 +1,5 @@
 -- How a list of batches goes on and ends.
-use Rattle.std.proofs.Common.{◌≡◌, ℕ, ◌+◌, ◌<◌, ◌≤◌, true, List, [], ◌∷◌, ◌++◌, append_assoc, length, drop, get_or, add-one, drop-cons, sym, ap, subst, ◌∙◌, arith}
+use Rattle.std.proofs.Common.{◌≡◌, ℕ, ◌+◌, ◌<◌, ◌≤◌, List, [], ◌∷◌, ◌++◌, append_assoc, length, drop, get_or, add-one, drop-cons, refl, sym, ap, subst, ◌∙◌, arith}
 use Rattle.std.specs.Prelude.{map}
 use Rattle.std.proofs.lemmas.List.{append-nil, length-map, map-append}
 use Rattle.std.proofs.lemmas.List.Sums.{get_or-le-sum_by}
@@ -8,13 +8,11 @@ use Rattle.saw_address.specs.Maps.{StateMap}
 use Rattle.saw_messages.specs.Shapes.{TxShape}
 use Rattle.saw_messages.specs.declared.tx.TxBatch.{TxBatch}
 use Rattle.saw_context.specs.Outcome.{Processors}
-use Rattle.saw_context.specs.Serial.{BatchResult, batch_result, failed_with, left_by, serial, serial_from}
+use Rattle.saw_context.specs.Possible.{MayComeFrom, MayComeOfAll, MayComeOfBatch}
+use Rattle.saw_context.specs.Serial.{BatchResult, failed_with, left_by}
 use Rattle.saw_plan.specs.Shapes.{BatchShape, batch_shape, shapes_of, transactions_in, txs_of}
 use Rattle.saw_schedule.specs.Results.{AreResultsFor, IsResultFor, result_of}
 use Rattle.saw_schedule.specs.declared.results.BatchResult as made
-use Rattle.saw_crew.specs.Desks.{are_told}
-use Rattle.saw_crew.specs.Running.{all_told}
-use Rattle.saw_crew.proofs.Members.{both-first, both-second}
 
 -- the transactions of batches
 abbrev pub txs_in : List TxBatch → List (List TxShape)
@@ -25,28 +23,27 @@ txs_in-drop batches i batch below is =
     let cut : drop i batches ≡ get_or batches i batch ∷ drop (i + 1) batches = rw add-one (drop-cons batches i batch below) in
     ap txs_in cut ∙ ap (λ (b : TxBatch). shapes_of b.txs ∷ txs_in (drop (i + 1) batches)) (sym is)
 
--- So far these results came of batches over the start, and they stand before what comes of the rest over the map.
+-- whatever may come of the rest over the map, these results before it may come of all over the start
 pub record HasGone (processors : Processors) (start : StateMap) (all : List (List TxShape)) (before : List BatchResult) (failed : List TxShape) (m : StateMap) (rest : List (List TxShape)) : Type 0 where
-  pub told : are_told processors rest ≡ true
-  pub so_far : before ++ serial_from processors failed m rest ≡ serial processors start all
+  pub so_far : (others : List BatchResult) → MayComeFrom processors failed m rest others → MayComeOfAll processors start all (before ++ others)
 
 module _ (processors : Processors) (start : StateMap) (all : List (List TxShape)) (before : List BatchResult) (failed : List TxShape) (m : StateMap) where
-  pub gone_more : (txs : List TxShape) (rest : List (List TxShape)) → HasGone processors start all before failed m (txs ∷ rest) → (result : BatchResult) (after : StateMap)
-      → (all_told processors txs ≡ true → result ≡ batch_result processors failed m txs) → after ≡ left_by m result
-      → HasGone processors start all (before ++ result ∷ []) (failed_with failed txs result) after rest
-  gone_more txs rest gone result after is left = record {
-    told = both-second (all_told processors txs) (are_told processors rest) gone.told;
-    so_far =
-        append_assoc before (result ∷ []) (serial_from processors (failed_with failed txs result) after rest)
-        ∙ ap (λ (n : StateMap). before ++ result ∷ serial_from processors (failed_with failed txs result) n rest) left
-        ∙ ap (λ (r : BatchResult). before ++ r ∷ serial_from processors (failed_with failed txs r) (left_by m r) rest) (is (both-first (all_told processors txs) (are_told processors rest) gone.told))
-        ∙ gone.so_far;
+  -- one more result
+  pub gone_more : (txs : List TxShape) (rest : List (List TxShape)) → HasGone processors start all before failed m (txs ∷ rest) → (result : BatchResult) (after : StateMap) → MayComeOfBatch processors failed m txs result
+      → after ≡ left_by m result → HasGone processors start all (before ++ result ∷ []) (failed_with failed txs result) after rest
+  gone_more txs rest gone result after may left = record {
+    so_far = λ others come.
+        subst (MayComeOfAll processors start all) (sym (append_assoc before (result ∷ []) others))
+        (gone.so_far (result ∷ others) (result, others, may, subst (λ (n : StateMap). MayComeFrom processors (failed_with failed txs result) n rest others) left come, refl));
   }
 
-  pub gone_all : (rest : List (List TxShape)) → rest ≡ [] → HasGone processors start all before failed m rest → before ≡ serial processors start all
-  gone_all rest none gone = sym (append-nil before) ∙ ap (λ (batches : List (List TxShape)). before ++ serial_from processors failed m batches) (sym none) ∙ gone.so_far
+  -- no more batches
+  pub gone_all : (rest : List (List TxShape)) → rest ≡ [] → HasGone processors start all before failed m rest → MayComeOfAll processors start all before
+  gone_all rest none gone =
+      subst (MayComeOfAll processors start all) (append-nil before)
+      (gone.so_far [] (subst (λ (batches : List (List TxShape)). MayComeFrom processors failed m batches []) (sym none) refl))
 
--- whatever may come of the rest, these results before it may come of all
+-- whatever results fit the rest, these before them fit all
 abbrev pub AreSoFar : List (List TxShape) → List BatchResult → List (List TxShape) → Type 0
 AreSoFar all before rest = (others : List BatchResult) → AreResultsFor rest others → AreResultsFor all (before ++ others)
 

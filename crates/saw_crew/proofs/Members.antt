@@ -1,6 +1,5 @@
 -- How a batch goes on and ends.
-use Rattle.std.proofs.Common.{◌≡◌, ℕ, ◌+◌, ◌<◌, Bool, true, false, List, [], ◌∷◌, ◌++◌, length, length-append, drop, get_or, add-one, drop-cons, refl, sym, ap, ◌∙◌}
-use Rattle.std.specs.Prelude.{◌&&◌}
+use Rattle.std.proofs.Common.{◌≡◌, ℕ, ◌+◌, ◌<◌, List, [], ◌∷◌, ◌++◌, length, length-append, drop, get_or, add-one, drop-cons, refl, sym, ap, subst, ◌∙◌}
 use Rattle.std.specs.Arc.{arc_value}
 use Rattle.std.specs.declared.sync.Arc.{Arc}
 use Rattle.std.specs.Global.{Global}
@@ -13,35 +12,13 @@ use Rattle.saw_messages.specs.declared.outcome.Outcome.TheVariants as outcomes
 use Rattle.saw_messages.specs.declared.outcome.Reason.{Reason}
 use Rattle.saw_messages.specs.declared.receipt.Event.{Event}
 use Rattle.saw_messages.specs.declared.tx.Tx.{Tx}
-use Rattle.saw_context.specs.Outcome.{Processors, map_after, outcome_of}
-use Rattle.saw_context.specs.Serial.{BatchResult, Applied, Failed, batch_result, behind, names_one}
+use Rattle.saw_context.specs.Outcome.{Processors, map_after}
+use Rattle.saw_context.specs.Possible.{MayCome, MayComeOfBatch}
+use Rattle.saw_context.specs.Serial.{BatchResult, Applied, Failed, behind, names_one}
 use Rattle.saw_plan.specs.Shapes.{shapes_of}
 use Rattle.saw_schedule.specs.Results.{IsValid}
-use Rattle.saw_crew.specs.Running.{all_told, is_told}
-
--- ---- tests of a whole list
-
-pub both-first : (a b : Bool) → (a && b) ≡ true → a ≡ true
-both-first true b h = refl
-both-first false true h = h
-both-first false false h = h
-
-pub both-second : (a b : Bool) → (a && b) ≡ true → b ≡ true
-both-second a true h = refl
-both-second true false h = h
-both-second false false h = h
 
 -- ---- a batch
-
-module _ (processors : Processors) (failed : List TxShape) (m : StateMap) (tx : TxShape) (txs : List TxShape) where
-  -- a transaction that is applied
-  pub member_applied : (changes : List Change) (events : List Event) → outcomes.Ok changes events ≡ outcome_of processors tx m (names_one tx failed)
-      → batch_result processors failed m (tx ∷ txs) ≡ behind (outcomes.Ok changes events) (batch_result processors failed (map_after m changes) txs)
-  member_applied changes events is = rw (← is) refl
-
-  -- one that is invalid ends the batch
-  pub member_failed : (reason : Reason) → outcomes.Invalid reason ≡ outcome_of processors tx m (names_one tx failed) → batch_result processors failed m (tx ∷ txs) ≡ Failed 0 reason
-  member_failed reason is = rw (← is) refl
 
 -- a result with these outcomes before it
 abbrev pub in_front : List Outcome → BatchResult → BatchResult
@@ -60,32 +37,31 @@ pub in_front-Failed : (before : List Outcome) (reason : Reason) → in_front bef
 in_front-Failed [] reason = refl
 in_front-Failed (first ∷ before) reason = ap (behind first) (in_front-Failed before reason)
 
--- So far these outcomes came of a batch over the start, and they stand before what comes of the rest over the map.
+-- whatever may come of the rest over the map, these outcomes before it may come of the batch over the start
 pub record HasRun (processors : Processors) (failed : List TxShape) (start : StateMap) (all : List TxShape) (before : List Outcome) (m : StateMap) (rest : List TxShape) : Type 0 where
-  pub told : all_told processors rest ≡ true
-  pub so_far : in_front before (batch_result processors failed m rest) ≡ batch_result processors failed start all
+  pub so_far : (result : BatchResult) → MayComeOfBatch processors failed m rest result → MayComeOfBatch processors failed start all (in_front before result)
 
 module _ (processors : Processors) (failed : List TxShape) (start : StateMap) (all : List TxShape) (before : List Outcome) (m : StateMap) where
   module _ (tx : TxShape) (txs : List TxShape) (run : HasRun processors failed start all before m (tx ∷ txs)) where
-    run_told : is_told processors tx ≡ true
-    run_told = both-first (is_told processors tx) (all_told processors txs) run.told
-
-    pub run_more : (after : StateMap) (changes : List Change) (events : List Event) → (is_told processors tx ≡ true → outcomes.Ok changes events ≡ outcome_of processors tx m (names_one tx failed)) → after ≡ map_after m changes
+    -- a transaction that is applied
+    pub run_more : (after : StateMap) (changes : List Change) (events : List Event) → MayCome processors tx m (names_one tx failed) (outcomes.Ok changes events) → after ≡ map_after m changes
         → HasRun processors failed start all (before ++ outcomes.Ok changes events ∷ []) after txs
-    run_more after changes events is changed = record {
-      told = both-second (is_told processors tx) (all_told processors txs) run.told;
-      so_far =
-          ap (λ (n : StateMap). in_front (before ++ outcomes.Ok changes events ∷ []) (batch_result processors failed n txs)) changed
-          ∙ in_front-push before (outcomes.Ok changes events) (batch_result processors failed (map_after m changes) txs)
-          ∙ ap (in_front before) (sym (member_applied processors failed m tx txs changes events (is run_told)))
-          ∙ run.so_far;
+    run_more after changes events may changed = record {
+      so_far = λ result comes.
+          subst (MayComeOfBatch processors failed start all) (sym (in_front-push before (outcomes.Ok changes events) result))
+          (run.so_far (behind (outcomes.Ok changes events) result)
+          (outcomes.Ok changes events, may, (result, subst (λ (n : StateMap). MayComeOfBatch processors failed n txs result) changed comes, refl)));
     }
 
-    pub run_failed : (reason : Reason) → (is_told processors tx ≡ true → outcomes.Invalid reason ≡ outcome_of processors tx m (names_one tx failed)) → Failed (length before) reason ≡ batch_result processors failed start all
-    run_failed reason is = sym (in_front-Failed before reason) ∙ ap (in_front before) (sym (member_failed processors failed m tx txs reason (is run_told))) ∙ run.so_far
+    -- one that is invalid ends the batch
+    pub run_failed : (reason : Reason) → MayCome processors tx m (names_one tx failed) (outcomes.Invalid reason) → MayComeOfBatch processors failed start all (Failed (length before) reason)
+    run_failed reason may = subst (MayComeOfBatch processors failed start all) (in_front-Failed before reason) (run.so_far (Failed 0 reason) (outcomes.Invalid reason, may, refl))
 
-  pub run_ended : (rest : List TxShape) → rest ≡ [] → HasRun processors failed start all before m rest → Applied before ≡ batch_result processors failed start all
-  run_ended rest none run = sym (in_front-Applied before) ∙ ap (λ (txs : List TxShape). in_front before (batch_result processors failed m txs)) (sym none) ∙ run.so_far
+  -- no more transactions
+  pub run_ended : (rest : List TxShape) → rest ≡ [] → HasRun processors failed start all before m rest → MayComeOfBatch processors failed start all (Applied before)
+  run_ended rest none run =
+      subst (MayComeOfBatch processors failed start all) (in_front-Applied before)
+      (run.so_far (Applied []) (subst (λ (txs : List TxShape). MayComeOfBatch processors failed m txs (Applied [])) (sym none) refl))
 
 pub length-push : (before : List Outcome) (outcome : Outcome) (n : ℕ) → length before ≡ n → length (before ++ outcome ∷ []) ≡ n + 1
 length-push before outcome n is = length-append before (outcome ∷ []) ∙ ap (λ (k : ℕ). k + 1) is

@@ -1,5 +1,5 @@
 -- A map with nothing on top, and dependencies by their ids.
-use Rattle.std.proofs.Common.{◌≡◌, ℕ, ◌+◌, ◌<◌, Bool, true, List, [], ◌∷◌, ◌++◌, append_assoc, length, take, get_or, refl, ap, ◌∙◌}
+use Rattle.std.proofs.Common.{◌≡◌, ℕ, ◌+◌, ◌<◌, Bool, List, [], ◌∷◌, ◌++◌, append_assoc, length, take, get_or, refl, ap, subst, ◌∙◌}
 use Rattle.std.specs.Prelude.{◌||◌}
 use Rattle.std.specs.Arc.{arc_value}
 use Rattle.std.specs.declared.sync.Arc.{Arc}
@@ -15,25 +15,24 @@ use Rattle.saw_ids.specs.Seen.{is_among}
 use Rattle.saw_messages.specs.Shapes.{TxShape, shape_of}
 use Rattle.saw_messages.specs.declared.outcome.Outcome.{Outcome}
 use Rattle.saw_messages.specs.declared.tx.Tx.{Tx}
-use Rattle.saw_context.specs.Outcome.{Processors, outcome_of}
+use Rattle.saw_context.specs.Outcome.{Processors}
+use Rattle.saw_context.specs.Possible.{MayCome}
 use Rattle.saw_context.specs.Views.{layers_of, over}
 use Rattle.saw_context.specs.declared.view.View.{View}
 use Rattle.saw_context.proofs.Layers.{over-empty}
 use Rattle.saw_plan.specs.Shapes.{ids_of, shapes_of}
-use Rattle.saw_crew.specs.Running.{HoldsTxs, is_told}
+use Rattle.saw_crew.specs.Running.{HoldsTxs}
 
 over_nothing : (m : StateMap) (view : View) → view.entries.entries ≡ [] → over m (layers_of view) ≡ m
 over_nothing m view none = rw none (over-empty m)
 
--- the outcome of a transaction under a view with no entries
+-- what may come of a transaction under a view with no entries
 pub outcome_plain : (processors : Processors) (m : StateMap) (tx its : Tx) (view made : View) (failed depends : Bool) (outcome : Outcome) → tx ≡ its → view ≡ made → made.entries.entries ≡ [] → failed ≡ depends
-    → (is_told processors (shape_of tx) ≡ true → outcome ≡ outcome_of processors (shape_of tx) (over m (layers_of view)) failed)
-    → is_told processors (shape_of its) ≡ true → outcome ≡ outcome_of processors (shape_of its) m depends
-outcome_plain processors m tx its view made failed depends outcome same shows none flag is told =
-    is (ap (λ (t : Tx). is_told processors (shape_of t)) same ∙ told)
-    ∙ ap (λ (shown : StateMap). outcome_of processors (shape_of tx) shown failed) (ap (λ (v : View). over m (layers_of v)) shows ∙ over_nothing m made none)
-    ∙ ap (λ (f : Bool). outcome_of processors (shape_of tx) m f) flag
-    ∙ ap (λ (t : Tx). outcome_of processors (shape_of t) m depends) same
+    → MayCome processors (shape_of tx) (over m (layers_of view)) failed outcome → MayCome processors (shape_of its) m depends outcome
+outcome_plain processors m tx its view made failed depends outcome same shows none flag may =
+    let shown : over m (layers_of view) ≡ m = ap (λ (v : View). over m (layers_of v)) shows ∙ over_nothing m made none in
+    subst (λ (t : Tx). MayCome processors (shape_of t) m depends outcome) same
+    (subst (λ (f : Bool). MayCome processors (shape_of tx) m f outcome) flag (subst (λ (n : StateMap). MayCome processors (shape_of tx) n failed outcome) shown may))
 
 -- ---- dependencies
 

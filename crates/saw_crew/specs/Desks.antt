@@ -1,10 +1,8 @@
 -- What desks have in common, and what stays of them.
-use Rattle.std.specs.Prelude.{◌≡◌, ◌≤◌, ◌⊎◌, ℕ, Bool, List, [], ◌∷◌, is_some}
-use Rattle.std.specs.List.{AllByRecursion, list_all}
-use Rattle.saw_context.specs.Outcome.{Processors}
+use Rattle.std.specs.Prelude.{◌≡◌, ◌≤◌, ◌⊎◌, ℕ, List, [], ◌∷◌, is_some}
+use Rattle.std.specs.List.{AllByRecursion}
 use Rattle.saw_faults.specs.Counts.{Rose}
-use Rattle.saw_messages.specs.Shapes.{TxShape}
-use Rattle.saw_station.specs.Desks.{Place, faults_by}
+use Rattle.saw_station.specs.Desks.{Place, faults_by, offered_by}
 use Rattle.saw_station.specs.declared.fault.StationFault.{StationFault}
 use Rattle.saw_station.specs.declared.fault.StationFault.TheVariants as stations
 use Rattle.saw_station.specs.declared.offer.Offer.{Offer}
@@ -24,14 +22,11 @@ offers_at (desk ∷ desks) = desk.offers
 abbrev pub HaveSameOffers : {R : Type 0} → List (Place R) → Type 0
 HaveSameOffers desks = AllByRecursion (λ desk. desk.offers ≡ offers_at desks) desks
 
--- whether each transaction goes to a processor whose actions are told
-abbrev pub are_told : Processors → List (List TxShape) → Bool
-are_told processors batches = list_all (λ txs. list_all (λ tx. processors.tells tx.header.family_name tx.header.family_version) txs) batches
-
-module _ {R : Type 0} (faults : R → ℕ) where
-  -- a desk keeps its offers and its remote, whose count of faults does not fall
+module _ {R : Type 0} (faults : R → ℕ) (offered : R → List Offer) where
+  -- a desk keeps its offers and its remote, which serves what it served; its count of faults does not fall
   pub record KeepsDesk (old new : Place R) : Type 0 where
     pub offers : new.offers ≡ old.offers
+    pub own_offers : offered_by offered new.remote ≡ offered_by offered old.remote
     pub remote : is_some new.remote ≡ is_some old.remote
     pub later : faults_by faults old.remote ≤ faults_by faults new.remote
 
@@ -42,6 +37,7 @@ module _ {R : Type 0} (faults : R → ℕ) where
   KeepsDesks (desk ∷ desks) [] = ⊥
   KeepsDesks (old ∷ olds) (new ∷ news) = KeepsDesk old new × KeepsDesks olds news
 
+module _ {R : Type 0} (faults : R → ℕ) where
   -- the count of some desk's remote rose
   abbrev pub Failed : List (Place R) → List (Place R) → Type 0
   Failed [] news = ⊥

@@ -33,7 +33,8 @@ fn holds_one(set: &BTreeSet<Text>, ids: &[Text]) -> bool
 
 // Whether the transaction depends on one of these.
 fn names_one(tx: &Tx, failed: &BTreeSet<Text>) -> bool
-    ensures { (others : List TxShape) → HoldsTxs failed.now others → result ≡ names_one (shape_of tx.now) others }
+    ensures { (others : List TxShape) → HoldsTxs failed.now others
+        → result ≡ names_one (shape_of tx.now) others }
 {
     holds_one(failed, tx.header.dependencies.as_slice())
 }
@@ -46,8 +47,9 @@ fn run_tx<B: Base, R: Station>(
     failed: &BTreeSet<Text>,
     tx: &Arc<Tx>,
 ) -> Result<Outcome, CrewFault>
-    ensures outcome { IfOk result (IsOutcome (processors_at R.next R.tells desk.old.offers) failed.now (B.entry base.now) (shape_of (arc_value tx.now))) }
-    ensures desk { Leaves R.faults desk.old desk.new (IsErrOf result CrewFault.PeerFailed) }
+    ensures outcome { IfOk result (IsOutcome (processors_at R.next R.tells desk.old.offers) failed.now
+        (B.entry base.now) (shape_of (arc_value tx.now))) }
+    ensures desk { Leaves R.faults R.offered desk.old desk.new (IsErrOf result CrewFault.PeerFailed) }
 {
     let view = View {
         entries: BTreeMap::new(alloc),
@@ -73,9 +75,10 @@ pub(crate) fn run_batch<B: Base, R: Station>(
     txs: &[Arc<Tx>],
 ) -> Result<BatchResult, CrewFault>
     requires counted { length txs.now < 2 ^ 32 }
-    ensures result { IfOk result (λ came. IsBatchResult (processors_at R.next R.tells desk.old.offers) failed.now (B.entry base.now) (shapes_of txs.now) (result_of came)) }
+    ensures result { IfOk result (λ came. IsBatchResult (processors_at R.next R.tells desk.old.offers)
+        failed.now (B.entry base.now) (shapes_of txs.now) (result_of came)) }
     ensures whole { IfOk result (λ came. IsResultFor (shapes_of txs.now) (result_of came)) }
-    ensures desk { Leaves R.faults desk.old desk.new (IsErrOf result CrewFault.PeerFailed) }
+    ensures desk { Leaves R.faults R.offered desk.old desk.new (IsErrOf result CrewFault.PeerFailed) }
 {
     let mut state = Changed::new(alloc, base);
     let mut outcomes = Items::new(alloc);

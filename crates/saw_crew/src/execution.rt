@@ -1,9 +1,10 @@
 //! The batches of a plan, one after another.
 
-ghost use Rattle.std.specs.Prelude.{◌≡◌, ◌<◌, ◌^◌, ◌++◌, true, List, length, map, IfOk, IsErrOf, OnOk};
+ghost use Rattle.std.specs.Prelude.{◌≡◌, ◌<◌, ◌^◌, ◌++◌, List, length, map, IfOk, IsErrOf, OnOk};
 ghost use Rattle.std.specs.Arc.{arc_value};
-ghost use Rattle.saw_context.specs.Serial.{failed_with, left_by, map_after_all, serial};
-ghost use Rattle.saw_crew.specs.Desks.{HaveSameOffers, KeepsDesks, Failed, offers_at, are_told};
+ghost use Rattle.saw_context.specs.Possible.{MayComeOfAll};
+ghost use Rattle.saw_context.specs.Serial.{failed_with, left_by, map_after_all};
+ghost use Rattle.saw_crew.specs.Desks.{HaveSameOffers, KeepsDesks, Failed, offers_at};
 ghost use Rattle.saw_crew.specs.Running.{HoldsTxs, Leaves};
 ghost use Rattle.saw_messages.specs.Shapes.{TxShape};
 ghost use Rattle.saw_plan.specs.Shapes.{batch_shape, ids_of, shapes_of, transactions_in, txs_of};
@@ -24,8 +25,9 @@ use std::alloc::{AllocError, Global};
 use std::collections::BTreeSet;
 use std::sync::Arc;
 
-/// Runs the batches of a plan over a base: the results are those of running them one after another, each wholly or not at
-/// all. The desks keep their offers and their remotes, also after a fault.
+/// Runs the batches of a plan over a base: the results are what may come of running them one after another,
+/// each wholly or not at all. The desks keep their offers and their remotes, which serve what they served,
+/// also after a fault.
 pub fn execute<B: Base, R: Station>(
     alloc: Global,
     plan: Arc<Plan>,
@@ -35,10 +37,12 @@ pub fn execute<B: Base, R: Station>(
     requires some { 0 < length desks.old }
     requires alike { HaveSameOffers desks.old }
     requires counted { transactions_in (map batch_shape (arc_value plan).batches) < 2 ^ 32 }
-    ensures results { let processors = processors_at R.next R.tells (offers_at desks.old) in let batches = txs_of (map batch_shape (arc_value plan).batches) in
-        IfOk result (λ results. are_told processors batches ≡ true → results_of results ≡ serial processors (B.entry base.now) batches) }
-    ensures whole { IfOk result (λ results. AreResultsFor (txs_of (map batch_shape (arc_value plan).batches)) (results_of results)) }
-    ensures desks { KeepsDesks R.faults desks.old desks.new }
+    ensures results { let processors = processors_at R.next R.tells (offers_at desks.old) in
+        let batches = txs_of (map batch_shape (arc_value plan).batches) in
+        IfOk result (λ results. MayComeOfAll processors (B.entry base.now) batches (results_of results)) }
+    ensures whole { IfOk result (λ results. AreResultsFor
+        (txs_of (map batch_shape (arc_value plan).batches)) (results_of results)) }
+    ensures desks { KeepsDesks R.faults R.offered desks.old desks.new }
     ensures cause { IsErrOf result CrewFault.PeerFailed → Failed R.faults desks.old desks.new }
 {
     run_plan(alloc, plan.batches.as_slice(), base, &mut desks[0])
@@ -52,10 +56,12 @@ fn run_plan<B: Base, R: Station>(
     desk: &mut Desk<R>,
 ) -> Result<Results, CrewFault>
     requires counted { transactions_in (map batch_shape batches.now) < 2 ^ 32 }
-    ensures results { let processors = processors_at R.next R.tells desk.old.offers in let batches = txs_of (map batch_shape batches.now) in
-        IfOk result (λ results. are_told processors batches ≡ true → results_of results ≡ serial processors (B.entry base.now) batches) }
-    ensures whole { IfOk result (λ results. AreResultsFor (txs_of (map batch_shape batches.now)) (results_of results)) }
-    ensures desk { Leaves R.faults desk.old desk.new (IsErrOf result CrewFault.PeerFailed) }
+    ensures results { let processors = processors_at R.next R.tells desk.old.offers in
+        let batches = txs_of (map batch_shape batches.now) in
+        IfOk result (λ results. MayComeOfAll processors (B.entry base.now) batches (results_of results)) }
+    ensures whole { IfOk result (λ results. AreResultsFor (txs_of (map batch_shape batches.now))
+        (results_of results)) }
+    ensures desk { Leaves R.faults R.offered desk.old desk.new (IsErrOf result CrewFault.PeerFailed) }
 {
     let mut state = Changed::new(alloc, base);
     let mut failed = BTreeSet::new(alloc);
@@ -78,7 +84,8 @@ fn settle<B: Base>(
     came: &BatchResult,
 ) -> Result<(), AllocError>
     ensures state { OnOk result (state.new ≡ left_by state.old (result_of came.now)) }
-    ensures failed { OnOk result ((others : List TxShape) → HoldsTxs failed.old others → HoldsTxs failed.new (failed_with others (shapes_of txs.now) (result_of came.now))) }
+    ensures failed { OnOk result ((others : List TxShape) → HoldsTxs failed.old others
+        → HoldsTxs failed.new (failed_with others (shapes_of txs.now) (result_of came.now))) }
 {
     match came {
         BatchResult::Applied { outcomes } => apply(alloc, state, outcomes.as_slice()),
@@ -104,7 +111,8 @@ fn apply<B: Base>(
 
 // The ids of the transactions.
 fn add_ids(alloc: Global, seen: &mut BTreeSet<Text>, txs: &[Arc<Tx>]) -> Result<(), AllocError>
-    ensures { OnOk result ((others : List TxShape) → HoldsTxs seen.old others → HoldsTxs seen.new (others ++ shapes_of txs.now)) }
+    ensures { OnOk result ((others : List TxShape) → HoldsTxs seen.old others
+        → HoldsTxs seen.new (others ++ shapes_of txs.now)) }
 {
     for tx in txs {
         add_id(seen, alloc, &tx.id)?;

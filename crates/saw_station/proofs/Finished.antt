@@ -1,5 +1,5 @@
 -- What a run comes to is a true result of its job.
-use Rattle.std.proofs.Common.{◌≡◌, Bool, true, false, List, Some, None, Result, Ok, Err, IfOk, inr, refl, sym, ap, subst}
+use Rattle.std.proofs.Common.{◌≡◌, ◌⊎◌, ◌∙◌, inl, Bool, true, false, List, Option, Some, None, Result, Ok, Err, IfOk, inr, refl, sym, ap, subst}
 use Rattle.std.specs.Arc.{arc_value}
 use Rattle.std.specs.Prelude.{is_some}
 use Rattle.saw_address.specs.Maps.{StateMap}
@@ -17,18 +17,21 @@ use Rattle.saw_messages.specs.declared.talk.Turn.{Turn}
 use Rattle.saw_messages.specs.declared.tx.Tx.{Tx}
 use Rattle.saw_messages.specs.declared.transaction.TransactionHeader.{TransactionHeader}
 use Rattle.saw_context.specs.Access.{Access, no_access}
-use Rattle.saw_context.specs.Outcome.{Processors, are_declared, outcome_of, refusal}
+use Rattle.saw_context.specs.Outcome.{Processors, are_declared, refusal}
+use Rattle.saw_context.specs.Possible.{MayCome}
 use Rattle.saw_context.specs.Results.{IsConversed, IsSound, IsSoundBy, fits_dependency}
 use Rattle.saw_context.specs.Views.{Layers, layers_of, over}
+use Rattle.saw_context.specs.declared.fault.ContextFault.{ContextFault}
+use Rattle.saw_context.specs.declared.fault.ContextFault.TheVariants as faults
 use Rattle.saw_context.specs.declared.job.Done.{Done}
 use Rattle.saw_context.specs.declared.job.Job.{Job}
 use Rattle.saw_context.specs.declared.reads.Read.{Read}
 use Rattle.saw_context.proofs.Layers.{seen_are_over}
-use Rattle.saw_context.proofs.Sound.{sound_outcome}
+use Rattle.saw_context.proofs.Sound.{sound_comes}
 use Rattle.saw_intkey.proofs.Reasons as intkey
 use Rattle.saw_xo.proofs.Reasons as xo
 use Rattle.saw_settings.proofs.Reasons as settings
-use Rattle.saw_station.specs.Results.{IsResult, IsTalk, outcome_at}
+use Rattle.saw_station.specs.Results.{IsRefusal, IsResult, IsTalk, outcome_at}
 use Rattle.saw_station.specs.Serving.{next_by, processors_at, serving, tells_by}
 use Rattle.saw_station.specs.Spoken.{IsSpoken}
 use Rattle.saw_station.specs.declared.conversation.Spoken.{Spoken}
@@ -64,6 +67,15 @@ module _ (next : TxShape → List Turn → Action) (own : (tx : TxShape) (turns 
   next_by_own tx turns served.Xo = xo.next_own tx.header.signer_public_key tx.payload turns
   next_by_own tx turns served.Settings = settings.next_own tx.header.signer_public_key tx.payload turns
   next_by_own tx turns served.Remote = own tx turns
+
+  -- whoever serves refuses by own reasons, or nobody does
+  next_own : (tx : TxShape) (turns : List Turn) (by : Option Served) → has_own_reason (next_by next tx turns by) ≡ true
+  next_own tx turns (Some by) = next_by_own tx turns by
+  next_own tx turns None = own tx turns
+
+  -- the processors refuse by their own reasons
+  pub processors_own : (tells : Bool) (offers : List Offer) (tx : TxShape) (turns : List Turn) → has_own_reason ((processors_at next tells offers).next tx turns) ≡ true
+  processors_own tells offers tx turns = next_own tx turns (serving offers tx.header.family_name tx.header.family_version)
 
   module _ (tells : Bool) (offers : List Offer) (base : StateMap) where
     -- what was spoken with who serves it is a conversation with the processors
@@ -117,20 +129,34 @@ module _ (next : TxShape → List Turn → Action) (own : (tx : TxShape) (turns 
 
 -- ---- the outcome
 
--- where it is told, the outcome is that over the base with the view on top
-outcome_told : (processors : Processors) (base : StateMap) (job : Job) (done : Done) → IsResult processors base job done
-    → processors.tells (arc_value job.tx).header.family_name (arc_value job.tx).header.family_version ≡ true
-    → done.outcome ≡ outcome_of processors (shape_of (arc_value job.tx)) (over base (layers_of (arc_value job.view))) job.dependency_failed
-outcome_told processors base job done is told =
-    sound_outcome processors (shape_of (arc_value job.tx)) done.talk.turns done.reads done.outcome (over base (layers_of (arc_value job.view))) job.dependency_failed
-    (subst (λ tx. IsSound processors tx done.talk.turns done.reads done.outcome) is.agrees.tx is.sound) told is.agrees.dependency
+-- the outcome may come over the base with the view on top
+outcome_comes : (processors : Processors) (base : StateMap) (job : Job) (done : Done) → ((turns : List Turn) → has_own_reason (processors.next (shape_of (arc_value job.tx)) turns) ≡ true) → IsResult processors base job done
+    → MayCome processors (shape_of (arc_value job.tx)) (over base (layers_of (arc_value job.view))) job.dependency_failed done.outcome
+outcome_comes processors base job done own is =
+    sound_comes processors (shape_of (arc_value job.tx)) done.talk.turns done.reads done.outcome (over base (layers_of (arc_value job.view))) job.dependency_failed own
+    (subst (λ tx. IsSound processors tx done.talk.turns done.reads done.outcome) is.agrees.tx is.sound) is.agrees.dependency
     (seen_are_over base (layers_of (arc_value job.view)) done.reads is.agrees.seen is.of_base)
 
 -- the same, of a base that is the context's
-pub outcome_in : (processors : Processors) (access : Access) (header : TransactionHeader) (base : StateMap) (layers : Layers) (job : Job) (done : Done) → access ≡ no_access header base layers → IsResult processors access.base job done
-    → processors.tells (arc_value job.tx).header.family_name (arc_value job.tx).header.family_version ≡ true
-    → done.outcome ≡ outcome_of processors (shape_of (arc_value job.tx)) (over base (layers_of (arc_value job.view))) job.dependency_failed
-outcome_in processors access header base layers job done new is = outcome_told processors base job done (subst (λ (b : StateMap). IsResult processors b job done) (ap (λ (a : Access). a.base) new) is)
+pub outcome_in : (processors : Processors) (access : Access) (header : TransactionHeader) (base : StateMap) (layers : Layers) (job : Job) (done : Done)
+    → ((turns : List Turn) → has_own_reason (processors.next (shape_of (arc_value job.tx)) turns) ≡ true) → access ≡ no_access header base layers → IsResult processors access.base job done
+    → MayCome processors (shape_of (arc_value job.tx)) (over base (layers_of (arc_value job.view))) job.dependency_failed done.outcome
+outcome_in processors access header base layers job done own new is = outcome_comes processors base job done own (subst (λ (b : StateMap). IsResult processors b job done) (ap (λ (a : Access). a.base) new) is)
+
+-- what no context was made for is not declared
+undeclared : (fault : ContextFault) (tx its : Tx) → tx ≡ its → fault ≡ faults.BadDeclared → (fault ≡ faults.OutOfMemory) ⊎ ((fault ≡ faults.BadDeclared) × (are_declared tx.header ≡ false)) → are_declared its.header ≡ false
+undeclared fault tx its same is (inl memory) = absurd cc
+undeclared fault tx its same is (inr bad) = ap (λ (t : Tx). are_declared t.header) (sym same) ∙ bad.1
+
+-- it is refused before any conversation
+pub undeclared_comes : (processors : Processors) (job : Job) (done : Done) (m : StateMap) (fault : ContextFault) (tx : Tx) → ((turns : List Turn) → has_own_reason (processors.next (shape_of (arc_value job.tx)) turns) ≡ true)
+    → tx ≡ arc_value job.tx → fault ≡ faults.BadDeclared → (fault ≡ faults.OutOfMemory) ⊎ ((fault ≡ faults.BadDeclared) × (are_declared tx.header ≡ false))
+    → IsRefusal job BadDeclared done → MayCome processors (shape_of (arc_value job.tx)) m job.dependency_failed done.outcome
+undeclared_comes processors job done m fault tx own same is why refused = record {
+  next = processors.next (shape_of (arc_value job.tx));
+  answers = record { reasons = own; told = λ told turns. refl };
+  decided = rw (undeclared fault tx (arc_value job.tx) same is why) refused.outcome;
+}
 
 -- ---- results of calls
 

@@ -21,3 +21,8 @@ faults_by faults (Some remote) = faults remote
 abbrev pub talking_by : {R : Type 0} → (R → Bool) → Option R → Bool
 talking_by talking None = false
 talking_by talking (Some remote) = talking remote
+
+-- what the remote serves
+abbrev pub offered_by : {R : Type 0} → (R → List Offer) → Option R → List Offer
+offered_by offered None = []
+offered_by offered (Some remote) = offered remote

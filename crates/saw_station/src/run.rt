@@ -4,12 +4,13 @@ ghost use Rattle.std.specs.Prelude.{◌≡◌, ◌≤◌, false, true, is_some, 
 ghost use Rattle.std.specs.Arc.{arc_value};
 ghost use Rattle.std.specs.List.{AllByRecursion};
 ghost use Rattle.saw_context.specs.Access.{no_access};
-ghost use Rattle.saw_context.specs.Outcome.{are_declared, outcome_of};
+ghost use Rattle.saw_context.specs.Outcome.{are_declared};
+ghost use Rattle.saw_context.specs.Possible.{MayCome};
 ghost use Rattle.saw_context.specs.Results.{Agrees, IsOfBase, IsSoundDone};
 ghost use Rattle.saw_context.specs.Views.{layers_of, over};
 ghost use Rattle.saw_faults.specs.Counts.{Rose};
 ghost use Rattle.saw_messages.specs.Shapes.{shape_of};
-ghost use Rattle.saw_station.specs.Desks.{faults_by, talking_by};
+ghost use Rattle.saw_station.specs.Desks.{faults_by, offered_by, talking_by};
 ghost use Rattle.saw_station.specs.Results.{IsRefusal, IsResult, IsTalk, outcome_at};
 ghost use Rattle.saw_station.specs.Serving.{next_by, processors_at, serving, tells_by};
 ghost use Rattle.saw_station.specs.Spoken.{IsSpoken};
@@ -27,7 +28,7 @@ use saw_wire::Items;
 use std::alloc::{AllocError, Global};
 
 /// Runs a transaction over the base with the job's view on top, and leaves no conversation open. A fault leaves the desk
-/// with its offers and its remote.
+/// with its offers and its remote, which serves what it served.
 pub fn run_one<R: Station, B: Base>(
     alloc: Global,
     desk: &mut Desk<R>,
@@ -38,10 +39,13 @@ pub fn run_one<R: Station, B: Base>(
     ensures sound { IfOk result (IsSoundDone (processors_at R.next R.tells desk.old.offers)) }
     ensures agrees { IfOk result (Agrees job.now) }
     ensures base { IfOk result (λ done. AllByRecursion (IsOfBase (B.entry base.now)) done.reads) }
-    ensures outcome { let processors = processors_at R.next R.tells desk.old.offers in let tx = shape_of (arc_value job.now.tx) in
-        IfOk result (λ done. processors.tells tx.header.family_name tx.header.family_version ≡ true
-        → done.outcome ≡ outcome_of processors tx (over (B.entry base.now) (layers_of (arc_value job.now.view))) job.now.dependency_failed) }
+    ensures outcome { let processors = processors_at R.next R.tells desk.old.offers in
+        let tx = shape_of (arc_value job.now.tx) in
+        IfOk result (λ done. MayCome processors tx
+        (over (B.entry base.now) (layers_of (arc_value job.now.view)))
+        job.now.dependency_failed done.outcome) }
     ensures offers { desk.new.offers ≡ desk.old.offers }
+    ensures own_offers { offered_by R.offered desk.new.remote ≡ offered_by R.offered desk.old.remote }
     ensures remote { is_some desk.new.remote ≡ is_some desk.old.remote }
     ensures closed { OnOk result (talking_by R.talking desk.old.remote ≡ false → talking_by R.talking desk.new.remote ≡ false) }
     ensures later { faults_by R.faults desk.old.remote ≤ faults_by R.faults desk.new.remote }
@@ -66,6 +70,7 @@ fn run_in<R: Station, B: Base>(
     requires declared { are_declared (arc_value job.now.tx).header ≡ true }
     ensures done { IfOk result (IsResult (processors_at R.next R.tells desk.old.offers) context.entry.base job.now) }
     ensures offers { desk.new.offers ≡ desk.old.offers }
+    ensures own_offers { offered_by R.offered desk.new.remote ≡ offered_by R.offered desk.old.remote }
     ensures remote { is_some desk.new.remote ≡ is_some desk.old.remote }
     ensures closed { OnOk result (talking_by R.talking desk.old.remote ≡ false → talking_by R.talking desk.new.remote ≡ false) }
     ensures later { faults_by R.faults desk.old.remote ≤ faults_by R.faults desk.new.remote }
@@ -100,6 +105,7 @@ fn speak<R: Station, B: Base>(
     ensures spoken { IfOk result (λ spoken. IsSpoken (tells_by R.tells (Some served)) (λ turns. next_by R.next (shape_of tx.now) turns (Some served)) tx.now.header
         context.entry.base context.entry.layers spoken.talk.turns spoken.last spoken.done.changes spoken.done.events spoken.done.reads) }
     ensures offers { desk.new.offers ≡ desk.old.offers }
+    ensures own_offers { offered_by R.offered desk.new.remote ≡ offered_by R.offered desk.old.remote }
     ensures remote { is_some desk.new.remote ≡ is_some desk.old.remote }
     ensures closed { OnOk result (talking_by R.talking desk.old.remote ≡ false → talking_by R.talking desk.new.remote ≡ false) }
     ensures later { faults_by R.faults desk.old.remote ≤ faults_by R.faults desk.new.remote }

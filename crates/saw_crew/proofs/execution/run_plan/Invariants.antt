@@ -1,20 +1,19 @@
-use Rattle.std.proofs.Common.{◌≡◌, true, List, drop}
+use Rattle.std.proofs.Common.{List, drop}
 use Rattle.std.specs.Prelude.{map}
 use Rattle.saw_messages.specs.Shapes.{TxShape}
 use Rattle.saw_schedule.specs.Results.{result_of}
 use Rattle.saw_station.specs.Serving.{processors_at}
-use Rattle.saw_crew.specs.Desks.{KeepsDesk, are_told}
+use Rattle.saw_crew.specs.Desks.{KeepsDesk}
 use Rattle.saw_crew.specs.Running.{HoldsTxs}
 use Rattle.saw_crew.proofs.Batches.{AreSoFar, HasGone, txs_in}
 use Rattle.saw_crew.proofs.execution.run_plan.Given as goal
 
--- the results so far stand before those of the rest, and the set has the ids of the failed batches
+-- whatever may come of the rest, the results so far before it may come of all; the set has the ids of the failed batches
 abbrev pub invariant-loop-batch : goal.invariant-loop-batch
 invariant-loop-batch g l = record {
-  desk : KeepsDesk g.R.Station.faults l.fn.desk l.desk;
+  desk : KeepsDesk g.R.Station.faults g.R.Station.offered l.fn.desk l.desk;
   others : List TxShape;
   failed : HoldsTxs l.failed others;
   whole : AreSoFar (txs_in l.batches) (map result_of l.results) (txs_in (drop l.batch-index l.batches));
-  gone : are_told (processors_at g.R.Station.next g.R.Station.tells l.fn.desk.offers) (txs_in l.batches) ≡ true
-      → HasGone (processors_at g.R.Station.next g.R.Station.tells l.fn.desk.offers) (g.B.Base.entry l.base) (txs_in l.batches) (map result_of l.results) others l.state (txs_in (drop l.batch-index l.batches));
+  gone : HasGone (processors_at g.R.Station.next g.R.Station.tells l.fn.desk.offers) (g.B.Base.entry l.base) (txs_in l.batches) (map result_of l.results) others l.state (txs_in (drop l.batch-index l.batches));
 }
