@@ -1,11 +1,12 @@
 -- A state for each known root.
-use Rattle.std.specs.Prelude.{◌≡◌, ℕ, List, map, Option, IfSome}
+use Rattle.std.specs.Prelude.{◌≡◌, ℕ, true, List, map, Option, IfSome}
 use Rattle.std.specs.Ordering.{nat_cmp}
 use Rattle.std.specs.Cmp.Lexicographic.{slice_cmp}
 use Rattle.std.specs.BTreeMap.{BTreeMap}
 use Rattle.std.specs.Coded.{Coded, coded_list, coded_ℕ}
 use Rattle.std.specs.FinMap as finite
-use Rattle.saw_address.specs.Maps.{StateMap, map_of}
+use Rattle.std.specs.List.{list_all}
+use Rattle.saw_address.specs.Maps.{AreAddresses, StateMap, is_address, map_of}
 use Rattle.saw_context.specs.Outcome.{map_after}
 use Rattle.saw_messages.specs.declared.outcome.Change.{Change}
 use Rattle.saw_node.specs.Trees.{root_of_map}
@@ -21,6 +22,19 @@ states_code = finite.code (coded_list coded_ℕ) (finite.code (coded_list coded_
 -- the map of a root, if it is known
 abbrev pub state_at : States → List ℕ → Option StateMap
 state_at states root = finite.get states root
+
+-- a root is that of its map, which has only addresses
+pub record IsRooted (hash : List ℕ → List ℕ) (root : List ℕ) (m : StateMap) : Type 0 where
+  pub root_is : root_of_map hash m ≡ root
+  pub addresses : AreAddresses (finite.entries m)
+
+-- so is each known root
+abbrev pub AreRooted : (List ℕ → List ℕ) → States → Type 0
+AreRooted hash states = (root : List ℕ) → IfSome (state_at states root) (IsRooted hash root)
+
+-- each change is at an address
+abbrev pub AreAtAddresses : List Change → Type 0
+AreAtAddresses changes = list_all (λ change. is_address change.address) changes ≡ true
 
 -- a map is known under its root
 abbrev pub knows : (List ℕ → List ℕ) → States → StateMap → States

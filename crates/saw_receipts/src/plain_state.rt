@@ -1,14 +1,14 @@
 //! The states of a journal: one whole map for each known root.
 
-ghost use Rattle.std.specs.Prelude.{◌≡◌, ◌≤◌, map, IfOk, IfSome, IsSome, OnErr, OnOk};
+ghost use Rattle.std.specs.Prelude.{◌≡◌, ◌≤◌, true, map, IfOk, IfSome, IsSome, OnErr, OnOk};
 ghost use Rattle.std.specs.FinMap as finite;
 ghost use Rattle.std.specs.List.{filter};
-ghost use Rattle.saw_address.specs.Maps.{changed_at, map_of, no_entries};
+ghost use Rattle.saw_address.specs.Maps.{changed_at, is_address, map_of, no_entries};
 ghost use Rattle.saw_address.specs.Prefixes.{covers};
 ghost use Rattle.saw_context.specs.Changed.{AreRising};
 ghost use Rattle.saw_context.specs.Outcome.{map_after};
 ghost use Rattle.saw_node.specs.Trees.{root_of_map};
-ghost use Rattle.saw_receipts.specs.States.{Updates, knows, listed_as, state_at};
+ghost use Rattle.saw_receipts.specs.States.{AreAtAddresses, AreRooted, IsRooted, Updates, knows, listed_as, state_at};
 
 use saw_address::{Address, Base, Prefix};
 use saw_messages::Change;
@@ -48,7 +48,8 @@ impl<T: Drop> From<AllocFailed<T>> for StoreFault {
     }
 }
 
-/// The map of each known root, seen as a finite map from roots to maps. Each root is that of its map.
+/// The map of each known root, seen as a finite map from roots to maps. Each root is that of its map, which has only
+/// addresses.
 #[derive(Drop)]
 pub struct State<H: NodeHasher> {
     alloc: Global,
@@ -57,13 +58,15 @@ pub struct State<H: NodeHasher> {
 }
 
 impl<H: NodeHasher> Model for State<H> {
-    ghost use Rattle.saw_receipts.specs.States.{States, states_code, shown};
+    ghost use Rattle.saw_receipts.specs.States.{AreRooted, States, states_code, shown};
 
     ghost Value = { States };
 
     ghost coded = { states_code };
 
     ghost view = { λ s. shown s.maps.entries };
+
+    ghost invariant = { λ s. AreRooted H.hash_of (shown s.maps.entries) };
 }
 
 impl<H: NodeHasher> State<H> {
@@ -82,9 +85,17 @@ impl<H: NodeHasher> State<H> {
         })
     }
 
+    /// That each known root is the root of its map, which has only addresses.
+    pub fn rooted(&self)
+        ensures { AreRooted H.hash_of self.now }
+    {
+        let _ = &self.maps;
+    }
+
     /// The map of a known root. `None`: the root is not known.
     pub fn tree(&self, root: &NodeHash) -> Option<Tree<'_, H>>
-        ensures { result ≡ state_at self.now root.now }
+        ensures is { result ≡ state_at self.now root.now }
+        ensures rooted { IfSome result (IsRooted H.hash_of root.now) }
     {
         match self.maps.get(root) {
             None => None,
@@ -139,7 +150,9 @@ impl<H: NodeHasher> State<H> {
         changes: &[Change],
     ) -> Result<BTreeMap<Address, Bytes>, AllocError>
         requires { IsSome (state_at self.now root.now) }
-        ensures { IfOk result (λ after. IfSome (state_at self.now root.now) (λ m. map_of after.entries ≡ map_after m changes.now)) }
+        ensures is { IfOk result (λ after.
+            IfSome (state_at self.now root.now) (λ m. map_of after.entries ≡ map_after m changes.now)) }
+        ensures addresses { OnOk result (AreAtAddresses changes.now) }
     {
         match self.maps.get(root) {
             None => unreachable!(),
@@ -228,7 +241,8 @@ fn apply_all(
     map: &mut BTreeMap<Address, Bytes>,
     changes: &[Change],
 ) -> Result<(), AllocError>
-    ensures { OnOk result (map_of map.new.entries ≡ map_after (map_of map.old.entries) changes.now) }
+    ensures is { OnOk result (map_of map.new.entries ≡ map_after (map_of map.old.entries) changes.now) }
+    ensures addresses { OnOk result (AreAtAddresses changes.now) }
 {
     for change in changes {
         apply(alloc, map, change)?;
@@ -241,8 +255,11 @@ fn apply(
     map: &mut BTreeMap<Address, Bytes>,
     change: &Change,
 ) -> Result<(), AllocError>
-    ensures { OnOk result (map_of map.new.entries ≡ changed_at (map_of map.old.entries) change.now.address change.now.value) }
+    ensures is { OnOk result
+        (map_of map.new.entries ≡ changed_at (map_of map.old.entries) change.now.address change.now.value) }
+    ensures address { is_address change.now.address ≡ true }
 {
+    let _ = change.address.as_slice();
     match &change.value {
         Some(value) => {
             map.insert(change.address, value.try_clone(alloc)?)?;
