@@ -19,16 +19,14 @@ use Rattle.saw_receipts.specs.declared.block.BlockRecord.{BlockRecord}
 use Rattle.saw_journal.specs.Branches.{has_block, has_first, no_block}
 use Rattle.saw_journal.specs.Heads.{head_after, head_of, is_new_head}
 use Rattle.saw_journal.specs.Standing.{IsFounded, IsStanding, has_any, head_at}
+use Rattle.saw_journal.specs.Linked.{StandsBehind}
+use Rattle.saw_journal.proofs.Linking.{all_push, either_false, linked_push}
 use Rattle.saw_journal.proofs.Lookups.{heads}
 
 -- ---- the last entry
 
 apart : (k a b : List ℕ) → a ≡ b → bytes_eq b k ≡ false → bytes_eq k a ≡ false
 apart k a b same other = ap (bytes_eq k) same ∙ nat_list_eq_equiv.symm k b ∙ other
-
-either_false : (a b : Bool) → (a || b) ≡ false → (a ≡ false) × (b ≡ false)
-either_false true b e = absurd cc
-either_false false b e = (refl, e)
 
 pub put_behind : (es : List (String Global × BlockRecord)) (key : String Global) (block : BlockRecord) → map string_bytes (keys_of es) ≡ map (λ block. block.id) (values_of es) → has_block (values_of es) (string_bytes key) ≡ false
     → insert_entry (λ a b. bytes_eq (string_bytes a) (string_bytes b)) es key block ≡ es ++ (key, block) ∷ []
@@ -52,10 +50,6 @@ all_still_known : (states : States) (root : List ℕ) (m : StateMap) (blocks : L
 all_still_known states root m [] known = tt
 all_still_known states root m (block ∷ blocks) known = (still_known states root m block.root known.0, all_still_known states root m blocks known.1)
 
-all_push : {X : Type 0} (P : X → Type 0) (xs : List X) (x : X) → AllByRecursion P xs → P x → AllByRecursion P (xs ++ x ∷ [])
-all_push P [] x all last = (last, tt)
-all_push P (y ∷ xs) x all last = (all.0, all_push P xs x all.1 last)
-
 head_push : (head : Option BlockRecord) (blocks : List BlockRecord) (new : BlockRecord) → head_after head (blocks ++ new ∷ []) ≡ (if is_new_head (head_after head blocks) new then Some new else head_after head blocks)
 head_push head [] new = refl
 head_push head (block ∷ blocks) new = head_push (if is_new_head head block then Some block else head) blocks new
@@ -73,14 +67,31 @@ not_empty : {X : Type 0} (xs : List X) (x : X) → (◌≡◌ {A = List X} (xs +
 not_empty [] x e = absurd cc
 not_empty (y ∷ xs) x e = absurd cc
 
+any_from : (blocks : List BlockRecord) (id : List ℕ) → has_block blocks id ≡ true → has_any blocks ≡ true
+any_from [] id e = absurd (grind (arith, e))
+any_from (block ∷ blocks) id e = refl
+
+or_true : (b : Bool) → (b || true) ≡ true
+or_true true = refl
+or_true false = refl
+
+-- a first block, or one came before
+some_first : (blocks : List BlockRecord) (new : BlockRecord) → has_first blocks ≡ has_any blocks → (bytes_eq new.previous no_block || has_block blocks new.previous) ≡ true
+    → (first : Bool) → bytes_eq new.previous no_block ≡ first → (has_first blocks || bytes_eq new.previous no_block) ≡ true
+some_first blocks new opened known true is = ap (λ b. has_first blocks || b) is ∙ or_true (has_first blocks)
+some_first blocks new opened known false is =
+    let before = ap (λ b. b || has_block blocks new.previous) (sym is) ∙ known in
+    ap (λ b. b || bytes_eq new.previous no_block) (opened ∙ any_from blocks new.previous before)
+
 module _ (hash : List ℕ → List ℕ) (ids : List (List ℕ)) (blocks : List BlockRecord) (head : Option ℕ) (states : States) (limit : ℕ) (stands : IsStanding hash ids blocks head states limit)
-    (new : BlockRecord) (m : StateMap) (root : new.root ≡ root_of_map hash m) (firsts : (has_first blocks || bytes_eq new.previous no_block) ≡ true) (room : length blocks < limit) where
+    (new : BlockRecord) (m : StateMap) (root : new.root ≡ root_of_map hash m) (behind : StandsBehind blocks new) (room : length blocks < limit) where
   founded_more : (more : List (List ℕ)) → more ≡ map (λ block. block.id) (blocks ++ new ∷ []) → IsFounded hash more (blocks ++ new ∷ []) (knows hash states m)
   founded_more more ids_are = record {
     ids_are = ids_are;
+    linked = linked_push blocks new stands.founded.linked behind;
     known = all_push (λ (block : BlockRecord). IsSome (state_at (knows hash states m) block.root)) blocks new (all_still_known states (root_of_map hash m) m blocks stands.founded.known)
         (subst (λ found. IsSome found) (sym (ap (state_at (knows hash states m)) root ∙ finite.get-insert nat_list_cmp_total states (root_of_map hash m) m (root_of_map hash m) ∙ ap (λ b. cond b (Some m) (state_at states (root_of_map hash m))) (own (root_of_map hash m)))) refl);
-    first = list_any-append (λ (block : BlockRecord). bytes_eq block.previous no_block) blocks (new ∷ []) ∙ or_nil (has_first blocks) (bytes_eq new.previous no_block) ∙ firsts ∙ sym (some_length blocks);
+    first = list_any-append (λ (block : BlockRecord). bytes_eq block.previous no_block) blocks (new ∷ []) ∙ or_nil (has_first blocks) (bytes_eq new.previous no_block) ∙ some_first blocks new stands.founded.first behind.known (bytes_eq new.previous no_block) refl ∙ sym (some_length blocks);
     opening = λ e. absurd (not_empty blocks new e);
   }
     where
@@ -118,17 +129,17 @@ module _ (hash : List ℕ → List ℕ) (ids : List (List ℕ)) (blocks : List B
         (still_at head (head_of blocks) stands.chosen head_is ∙ sym (head_push None blocks new ∙ ap (λ b. if b then Some new else head_of blocks) (sym head_is)))
 
 module _ (hash : List ℕ → List ℕ) (ids : List (List ℕ)) (blocks : List BlockRecord) (head : Option ℕ) (states : States) (limit : ℕ) (stands : IsStanding hash ids blocks head states limit)
-    (new : BlockRecord) (m : StateMap) (root : new.root ≡ root_of_map hash m) (firsts : (has_first blocks || bytes_eq new.previous no_block) ≡ true) (room : length blocks < limit)
+    (new : BlockRecord) (m : StateMap) (root : new.root ≡ root_of_map hash m) (behind : StandsBehind blocks new) (room : length blocks < limit)
     (more : List (List ℕ)) (all : List BlockRecord) (later : States) (put : all ≡ blocks ++ new ∷ []) (ids_are : more ≡ map (λ block. block.id) all) (known : later ≡ knows hash states m) where
   ids_put : more ≡ map (λ block. block.id) (blocks ++ new ∷ [])
   ids_put = ids_are ∙ ap (map (λ (block : BlockRecord). block.id)) put
 
   pub head_joins : (place : ℕ) → place ≡ length blocks → true ≡ is_new_head (head_of blocks) new → IsStanding hash more all (Some place) later limit
   head_joins place is head_is =
-      rw (put, known) (new_head hash ids blocks head states limit stands new m root firsts room more ids_put place is head_is)
+      rw (put, known) (new_head hash ids blocks head states limit stands new m root behind room more ids_put place is head_is)
 
   pub other_joins : false ≡ is_new_head (head_of blocks) new → IsStanding hash more all head later limit
-  other_joins head_is = rw (put, known) (old_head hash ids blocks head states limit stands new m root firsts room more ids_put head_is)
+  other_joins head_is = rw (put, known) (old_head hash ids blocks head states limit stands new m root behind room more ids_put head_is)
 
 -- ---- the map of blocks
 

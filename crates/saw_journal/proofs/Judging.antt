@@ -1,16 +1,14 @@
 -- The tests of a block, one after another.
 use Rattle.std.proofs.Common.{◌≡◌, ℕ, Bool, true, false, List, [], ◌∷◌, map, Option, Some, None, refl, sym, ap, subst, ◌∙◌, arith, cond}
-use Rattle.std.specs.Prelude.{◌&&◌, ◌||◌, not, Err, IsSome, if◌then◌else◌, unwrap_or}
+use Rattle.std.specs.Prelude.{◌&&◌, ◌||◌, ◌==◌, not, Err, IsSome, if◌then◌else◌, unwrap_or}
 use Rattle.std.specs.FinMap as finite
-use Rattle.std.specs.List.{AllByRecursion}
 use Rattle.std.specs.Str.{bytes_eq}
 use Rattle.std.specs.Cmp.{eq_by_cmp_equiv}
 use Rattle.std.specs.Cmp.Lexicographic.{nat_list_cmp_total}
+use Rattle.std.proofs.lemmas.Bool.{eqb-true}
 use Rattle.saw_address.specs.Maps.{StateMap, no_entries}
 use Rattle.saw_checks.specs.Tests.{first_of, ◌<|>◌}
-use Rattle.saw_context.specs.Outcome.{Processors}
-use Rattle.saw_context.specs.Serial.{BatchResult, left_after, serial}
-use Rattle.saw_crew.specs.Desks.{are_told}
+use Rattle.saw_context.specs.Serial.{BatchResult, left_after}
 use Rattle.saw_messages.specs.declared.block.BlockHeader.{BlockHeader}
 use Rattle.saw_node.specs.Trees.{root_of_map}
 use Rattle.saw_messages.specs.declared.tx.TxBatch.{TxBatch}
@@ -22,34 +20,17 @@ use Rattle.saw_journal.specs.declared.planned.Planned.TheVariants.{Dropped, Whol
 use Rattle.saw_receipts.specs.States.{States, knows, state_at}
 use Rattle.saw_receipts.specs.declared.block.BlockRecord.{BlockRecord}
 use Rattle.saw_receipts.specs.declared.verdict.BlockFault.{BlockFault}
-use Rattle.saw_journal.specs.BlockFaults.{failure_fault, ids_before, is_first, parent_of, place_tests, root_fault, static_fault}
-use Rattle.saw_journal.specs.Branches.{block_at, has_block, has_first}
+use Rattle.saw_journal.specs.BlockFaults.{due_behind, failure_fault, ids_before, is_first, parent_of, place_tests, root_fault, static_fault}
+use Rattle.saw_journal.specs.Branches.{block_at, has_block, has_first, no_block}
 use Rattle.saw_journal.specs.Judgement.{Kept, Runs, judged_parts, kept_of, unless}
-use Rattle.saw_journal.specs.Ledger.{RunsBy, map_at, map_under}
+use Rattle.saw_journal.specs.Ledger.{map_at, map_under}
+use Rattle.saw_journal.specs.Linked.{StandsBehind, parent_in}
 use Rattle.saw_journal.specs.Parted.{JudgedAs, Plans, RanAs, root_before, run_fault}
 use Rattle.saw_journal.specs.Parts.{Parts}
 use Rattle.saw_journal.specs.Standing.{IsFounded, has_any}
 use Rattle.saw_journal.specs.declared.judge.Judged.{Judged}
 use Rattle.saw_journal.specs.declared.judge.Judged.TheVariants.{Bad, Good}
-
--- ---- ways to run batches
-
-abbrev pub by_serial : Processors → Runs
-by_serial processors = λ m batches. serial processors m batches
-
-pub is_by_serial : (processors : Processors) → RunsBy processors (by_serial processors)
-is_by_serial processors = record { told = λ m batches told. refl }
-
--- serial where all are told, and else these results
-abbrev pub or_these : Processors → List BatchResult → Runs
-or_these processors results = λ m batches. if are_told processors batches then serial processors m batches else results
-
-pub is_or_these : (processors : Processors) (results : List BatchResult) → RunsBy processors (or_these processors results)
-is_or_these processors results = record { told = λ m batches told. ap (λ b. if b then serial processors m batches else results) told }
-
-pub either_way : (told : Bool) (these results : List BatchResult) → (told ≡ true → results ≡ these) → (if told then these else results) ≡ results
-either_way true these results same = sym (same refl)
-either_way false these results same = refl
+use Rattle.saw_journal.proofs.Linking.{holds_at}
 
 -- ---- the tests in order
 
@@ -95,13 +76,21 @@ module _ (hash : List ℕ → List ℕ) (runs : Runs) (blocks : List BlockRecord
 
 -- ---- the map before a block
 
-first_not : {F : Type 0} (b : Bool) (fault : F) (others : Option F) → None ≡ (if b then Some fault else others) → b ≡ false
+pub first_not : {F : Type 0} (b : Bool) (fault : F) (others : Option F) → None ≡ (if b then Some fault else others) → b ≡ false
 first_not true fault others e = absurd cc
 first_not false fault others e = refl
 
 then_rest : {F : Type 0} (b : Bool) (fault : F) (others : Option F) → None ≡ (if b then Some fault else others) → None ≡ others
 then_rest true fault others e = absurd cc
 then_rest false fault others e = e
+
+pub not_not : (b : Bool) → not b ≡ false → b ≡ true
+not_not true e = refl
+not_not false e = absurd (grind (arith, e))
+
+either_true : (a b : Bool) → (not a && not b) ≡ false → (a || b) ≡ true
+either_true true b e = refl
+either_true false b e = not_not b e
 
 module _ (blocks : List BlockRecord) (id : List ℕ) (header : BlockHeader) (placed : None ≡ first_of (place_tests blocks id header)) where
   pub is_fresh : has_block blocks id ≡ false
@@ -112,6 +101,22 @@ module _ (blocks : List BlockRecord) (id : List ℕ) (header : BlockHeader) (pla
 
   pub previous_known : (not (is_first header) && not (has_block blocks header.previous_block_id)) ≡ false
   previous_known = first_not (not (is_first header) && not (has_block blocks header.previous_block_id)) _ _ (then_rest (is_first header && has_first blocks) _ _ (then_rest (has_block blocks id) _ _ placed))
+
+  pub number_due : header.block_num ≡ due_behind (parent_of blocks header)
+  number_due =
+      let numbered = then_rest (not (is_first header) && not (has_block blocks header.previous_block_id)) _ _ (then_rest (is_first header && has_first blocks) _ _ (then_rest (has_block blocks id) _ _ placed)) in
+      eqb-true header.block_num (due_behind (parent_of blocks header))
+      (not_not (header.block_num == due_behind (parent_of blocks header)) (first_not (not (header.block_num == due_behind (parent_of blocks header))) _ _ numbered))
+
+  -- a block with this id and header stands behind the others
+  pub stands : bytes_eq id no_block ≡ false → (block : BlockRecord) → block.id ≡ id → block.previous ≡ header.previous_block_id → block.number ≡ header.block_num → StandsBehind blocks block
+  stands named block id_is previous number = record {
+    named = ap (λ id. bytes_eq id no_block) id_is ∙ named;
+    fresh = ap (has_block blocks) id_is ∙ is_fresh;
+    known = ap (λ previous. bytes_eq previous no_block || has_block blocks previous) previous ∙ either_true (is_first header) (has_block blocks header.previous_block_id) previous_known;
+    once = ap (λ previous. bytes_eq previous no_block && has_first blocks) previous ∙ first_once;
+    number = number ∙ number_due ∙ ap (λ previous. due_behind (parent_in blocks previous)) (sym previous);
+  }
 
 no_block_yet : (blocks : List BlockRecord) → has_any blocks ≡ false → blocks ≡ []
 no_block_yet [] none = refl
@@ -125,21 +130,11 @@ opening_map hash states is =
 at_opening : (found : Option StateMap) → found ≡ Some no_entries → (no_entries ≡ unwrap_or found no_entries) × IsSome found
 at_opening found is = rw is (refl, refl)
 
-found_here : (states : States) (b : Bool) (block parent : BlockRecord) (others : Option BlockRecord) → IsSome (state_at states block.root) → (others ≡ Some parent → IsSome (state_at states parent.root)) → (if b then Some block else others) ≡ Some parent
-    → IsSome (state_at states parent.root)
-found_here states true block parent others known later e =
-    let same : block ≡ parent = grind (arith, e) in subst (λ (one : BlockRecord). IsSome (state_at states one.root)) same known
-found_here states false block parent others known later e = later e
-
-found_known : (states : States) (blocks : List BlockRecord) (id : List ℕ) → AllByRecursion (λ block. IsSome (state_at states block.root)) blocks → (parent : BlockRecord) → block_at blocks id ≡ Some parent → IsSome (state_at states parent.root)
-found_known states [] id known parent found = absurd (grind (arith, found))
-found_known states (block ∷ blocks) id known parent found = found_here states (bytes_eq block.id id) block parent (block_at blocks id) known.0 (found_known states blocks id known.1 parent) found
-
 missing_here : (b : Bool) (block : BlockRecord) (others : Option BlockRecord) (has : Bool) → (others ≡ None → has ≡ false) → (if b then Some block else others) ≡ None → (b || has) ≡ false
 missing_here true block others has later e = absurd (grind (arith, e))
 missing_here false block others has later e = later e
 
-missing_is : (blocks : List BlockRecord) (id : List ℕ) → block_at blocks id ≡ None → has_block blocks id ≡ false
+pub missing_is : (blocks : List BlockRecord) (id : List ℕ) → block_at blocks id ≡ None → has_block blocks id ≡ false
 missing_is [] id e = refl
 missing_is (block ∷ blocks) id e = missing_here (bytes_eq block.id id) block (block_at blocks id) (has_block blocks id) (missing_is blocks id) e
 
@@ -160,7 +155,7 @@ module _ (hash : List ℕ → List ℕ) (ids : List (List ℕ)) (blocks : List B
       let there = ap (λ b. not b && not (has_block blocks header.previous_block_id)) (sym first) ∙ previous_known blocks id header placed in
       let missing = missing_is blocks header.previous_block_id e in
       absurd (grind (arith, there, missing))
-  before_other first (Some parent) e = (refl, found_known states blocks header.previous_block_id founded.known parent e)
+  before_other first (Some parent) e = (refl, holds_at (λ (block : BlockRecord). IsSome (state_at states block.root)) blocks header.previous_block_id parent founded.known e)
 
   by_first : (first : Bool) → is_first header ≡ first → IsBefore (if first then None else block_at blocks header.previous_block_id)
   by_first true e = before_first e
@@ -168,28 +163,6 @@ module _ (hash : List ℕ → List ℕ) (ids : List (List ℕ)) (blocks : List B
 
   pub is_before : IsBefore (parent_of blocks header)
   is_before = by_first (is_first header) refl
-
-  -- a first block, or one came before
-  pub some_first : (has_first blocks || is_first header) ≡ true
-  some_first = here (is_first header) refl
-    where
-      any_from : (blocks : List BlockRecord) (id : List ℕ) → has_block blocks id ≡ true → has_any blocks ≡ true
-      any_from [] id e = absurd (grind (arith, e))
-      any_from (block ∷ blocks) id e = refl
-
-      or_true : (b : Bool) → (b || true) ≡ true
-      or_true true = refl
-      or_true false = refl
-
-      not_not : (b : Bool) → not b ≡ false → b ≡ true
-      not_not true e = refl
-      not_not false e = absurd (grind (arith, e))
-
-      here : (first : Bool) → is_first header ≡ first → (has_first blocks || first) ≡ true
-      here true e = or_true (has_first blocks)
-      here false e =
-          let there = ap (λ b. not b && not (has_block blocks header.previous_block_id)) (sym e) ∙ previous_known blocks id header placed in
-          ap (λ b. b || false) (founded.first ∙ any_from blocks header.previous_block_id (not_not (has_block blocks header.previous_block_id) there))
 
 -- ---- the parts together
 

@@ -1,8 +1,17 @@
 pub mod Ids
 pub mod Lookups
+pub mod Linking
+pub mod Chains
 pub mod Dropped
 pub mod Runs
 pub mod Joining
+pub mod Testing
+pub mod Ways
 pub mod Judging
 pub mod SameParts
+pub mod Named
 pub mod Accepting
+pub mod OneByOne
+pub mod Branching
+pub mod FromBytes
+pub mod Leaving

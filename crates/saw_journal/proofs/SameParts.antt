@@ -29,7 +29,7 @@ use Rattle.saw_receipts.specs.declared.block.BlockRecord.{BlockRecord}
 use Rattle.saw_receipts.specs.declared.verdict.BlockFault.TheVariants.{Structure}
 use Rattle.saw_wire.specs.declared.fault.MessageFault.{MessageFault}
 use Rattle.saw_address.specs.Maps.{StateMap}
-use Rattle.saw_journal.specs.Judgement.{Runs, judged, judged_header, judged_parts}
+use Rattle.saw_journal.specs.Judgement.{Runs, judged, judged_header, judged_parts, rules_with}
 use Rattle.saw_journal.specs.Parts.{batch_in, parts_in, parts_of, signer_by}
 
 same_shape : (id id' bytes bytes' payload payload' : List ℕ) (header header' : TransactionHeader) → id ≡ id' → header ≡ header' → bytes ≡ bytes' → payload ≡ payload'
@@ -88,13 +88,13 @@ module _ (accepts : List ℕ → List ℕ → List ℕ → Bool) where
 
   module _ (hash : List ℕ → List ℕ) (runs : Runs) (map_behind : Option BlockRecord → StateMap) (blocks : List BlockRecord) (content : List ℕ) where
     -- what comes of bytes without a structure fault is what comes of their checked block
-    pub judged_is : (checked : CheckedBlock) → structure_fault accepts content ≡ None → IsBlockOf content checked → judged hash runs map_behind accepts blocks content ≡ judged_parts hash runs map_behind blocks (parts_in checked)
+    pub judged_is : (checked : CheckedBlock) → structure_fault accepts content ≡ None → IsBlockOf content checked → judged (rules_with hash accepts runs) map_behind blocks content ≡ judged_parts hash runs map_behind blocks (parts_in checked)
     unfolding judged
     judged_is checked fine is =
-        let read : judged hash runs map_behind accepts blocks content ≡ judged_header hash runs map_behind blocks is.read (Ok checked.header) = rw (fine, is.decoded, is.header) refl in
+        let read : judged (rules_with hash accepts runs) map_behind blocks content ≡ judged_header hash runs map_behind blocks is.read (Ok checked.header) = rw (fine, is.decoded, is.header) refl in
         read ∙ ap (judged_parts hash runs map_behind blocks) (sym (same_parts content checked is fine))
 
     -- and a structure fault is its fault
-    pub judged_bad : (fault : StructureFault) → structure_fault accepts content ≡ Some fault → judged hash runs map_behind accepts blocks content ≡ Err (Structure fault)
+    pub judged_bad : (fault : StructureFault) → structure_fault accepts content ≡ Some fault → judged (rules_with hash accepts runs) map_behind blocks content ≡ Err (Structure fault)
     unfolding judged
     judged_bad fault bad = rw bad refl

@@ -54,6 +54,11 @@ first_dropped (dropped ∷ others) = Some (Static dropped.place dropped.cause)
 abbrev pub static_fault : Ids → List BatchShape → Option BlockFault
 static_fault there batches = first_dropped (dropped_by 0 (causes there batches))
 
+-- the first fault that is found before its batches are run
+abbrev pub early_fault : List BlockRecord → Parts → Option BlockFault
+early_fault blocks parts =
+    first_of (place_tests blocks parts.id parts.header) <|> static_fault (ids_before blocks parts.header) parts.batches
+
 -- the first failed batch
 abbrev pub failure_fault : List BatchResult → Option BlockFault
 failure_fault results = option_map (λ failure. BatchInvalid failure.0 failure.1 failure.2) (first_failure 0 results)

@@ -19,7 +19,7 @@ use Rattle.saw_receipts.specs.declared.block.BlockRecord.{BlockRecord}
 use Rattle.saw_receipts.specs.declared.verdict.BlockFault.{BlockFault}
 use Rattle.saw_receipts.specs.declared.verdict.BlockFault.TheVariants.{Structure}
 use Rattle.saw_wire.specs.declared.fault.MessageFault.{MessageFault}
-use Rattle.saw_journal.specs.BlockFaults.{fault_by, parent_of}
+use Rattle.saw_journal.specs.BlockFaults.{early_fault, fault_by, parent_of}
 use Rattle.saw_journal.specs.Parts.{Parts, parts_of}
 
 -- what is kept of a block without fault
@@ -46,6 +46,15 @@ unless (Some fault) kept = Err fault
 -- how batches are run over a map
 abbrev pub Runs : Type 0
 Runs = StateMap → List (List TxShape) → List BatchResult
+
+-- by what a block is judged: the hash of nodes, who vouches for signatures, and how batches are run
+pub record Rules : Type 0 where
+  pub hash : List ℕ → List ℕ
+  pub accepts : List ℕ → List ℕ → List ℕ → Bool
+  pub runs : Runs
+
+abbrev pub rules_with : (List ℕ → List ℕ) → (List ℕ → List ℕ → List ℕ → Bool) → Runs → Rules
+rules_with hash accepts runs = record { hash = hash; accepts = accepts; runs = runs }
 
 module _ (hash : List ℕ → List ℕ) where
   abbrev pub kept_of : Parts → StateMap → List BatchResult → Kept
@@ -83,6 +92,37 @@ module _ (hash : List ℕ → List ℕ) where
     judged_unless blocks content (Some fault) = Err (Structure fault)
     judged_unless blocks content None = judged_block blocks (block content)
 
-    -- what comes of the bytes of a block behind accepted ones
-    unfoldable pub judged : (List ℕ → List ℕ → List ℕ → Bool) → List BlockRecord → List ℕ → Result Kept BlockFault
-    judged accepts blocks content = judged_unless blocks content (structure_fault accepts content)
+-- what comes of the bytes of a block behind accepted ones
+unfoldable pub judged : Rules → (Option BlockRecord → StateMap) → List BlockRecord → List ℕ → Result Kept BlockFault
+judged rules map_behind blocks content =
+    judged_unless rules.hash rules.runs map_behind blocks content (structure_fault rules.accepts content)
+
+-- ---- the map that a block would leave, also where it is refused then
+
+abbrev pub unless_early : {A : Type 0} → Option BlockFault → A → Option A
+unless_early None left = Some left
+unless_early (Some fault) left = None
+
+module _ (runs : Runs) (map_behind : Option BlockRecord → StateMap) where
+  -- what its batches leave of the map behind its parent, where its place and the static rules have no fault
+  abbrev pub left_parts : List BlockRecord → Parts → Option StateMap
+  left_parts blocks parts =
+      let before = map_behind (parent_of blocks parts.header) in
+      unless_early (early_fault blocks parts) (left_after before (runs before (txs_of parts.batches)))
+
+  abbrev pub left_header : List BlockRecord → Block → Result BlockHeader MessageFault → Option StateMap
+  left_header blocks b (Ok header) = left_parts blocks (parts_of b header)
+  left_header blocks b (Err e) = None
+
+  abbrev pub left_block : List BlockRecord → Result Block MessageFault → Option StateMap
+  left_block blocks (Ok b) = left_header blocks b (block_header b.header)
+  left_block blocks (Err e) = None
+
+  abbrev pub left_unless : List BlockRecord → List ℕ → Option StructureFault → Option StateMap
+  left_unless blocks content (Some fault) = None
+  left_unless blocks content None = left_block blocks (block content)
+
+-- the map that the bytes of a block would leave behind accepted ones: none where its batches are not run
+unfoldable pub would_leave : Rules → (Option BlockRecord → StateMap) → List BlockRecord → List ℕ → Option StateMap
+would_leave rules map_behind blocks content =
+    left_unless rules.runs map_behind blocks content (structure_fault rules.accepts content)

@@ -2,8 +2,7 @@
 use Rattle.std.specs.Prelude.{◌≡◌, ◌<◌, ℕ, Bool, true, false, List, [], ◌∷◌, ◌++◌, length, Option, Some, None, Result, Ok, Err, unwrap_or}
 use Rattle.saw_address.specs.Maps.{StateMap, no_entries}
 use Rattle.saw_context.specs.Outcome.{Processors}
-use Rattle.saw_context.specs.Serial.{serial}
-use Rattle.saw_crew.specs.Desks.{are_told}
+use Rattle.saw_context.specs.Possible.{MayComeOfAll}
 use Rattle.saw_messages.specs.Shapes.{TxShape}
 use Rattle.saw_receipts.specs.States.{States, knows, state_at}
 use Rattle.saw_receipts.specs.declared.block.BlockRecord.{BlockRecord}
@@ -11,7 +10,7 @@ use Rattle.saw_receipts.specs.declared.verdict.BlockFault.{BlockFault}
 use Rattle.saw_receipts.specs.declared.verdict.Verdict.{Verdict}
 use Rattle.saw_receipts.specs.declared.verdict.Verdict.TheVariants.{Committed, Stored, Refused}
 use Rattle.saw_journal.specs.Heads.{head_of, is_new_head}
-use Rattle.saw_journal.specs.Judgement.{Kept, Runs, judged}
+use Rattle.saw_journal.specs.Judgement.{Kept, Rules, Runs, judged}
 
 -- the accepted blocks in order of arrival, the map of each known root, and how many blocks may be accepted
 pub record Ledger : Type 0 where
@@ -28,19 +27,22 @@ abbrev pub map_under : States → Option BlockRecord → StateMap
 map_under states None = no_entries
 map_under states (Some parent) = map_at states parent.root
 
--- A way to run batches: where all their processors are told it gives the results of serial execution. What a processor
--- elsewhere that tells nothing makes of a batch may be anything.
+-- A way to run batches: what it gives is what may come of them, run one after another.
 pub record RunsBy (processors : Processors) (runs : Runs) : Type 0 where
-  pub told : (m : StateMap) (batches : List (List TxShape)) → are_told processors batches ≡ true → runs m batches ≡ serial processors m batches
+  pub serial : (m : StateMap) (batches : List (List TxShape)) → MayComeOfAll processors m batches (runs m batches)
 
-module _ (hash : List ℕ → List ℕ) (accepts : List ℕ → List ℕ → List ℕ → Bool) (runs : Runs) where
+-- the ledger with one block more, whose map is known
+abbrev pub grown : (List ℕ → List ℕ) → Ledger → Kept → Ledger
+grown hash ledger kept = record {
+  blocks = ledger.blocks ++ kept.block ∷ [];
+  states = knows hash ledger.states kept.left;
+  limit = ledger.limit;
+}
+
+module _ (rules : Rules) where
   -- what comes of a block behind those of a ledger
   abbrev pub judged_in : Ledger → List ℕ → Result Kept BlockFault
-  judged_in ledger content = judged hash runs (map_under ledger.states) accepts ledger.blocks content
-
-  -- the ledger with one block more, whose map is known
-  abbrev pub grown : Ledger → Kept → Ledger
-  grown ledger kept = record { blocks = ledger.blocks ++ kept.block ∷ []; states = knows hash ledger.states kept.left; limit = ledger.limit }
+  judged_in ledger content = judged rules (map_under ledger.states) ledger.blocks content
 
   -- a block without fault is accepted; it is the new head, or not
   pub record IsAccepted (old : Ledger) (content : List ℕ) (is_head : Bool) (new : Ledger) : Type 0 where
@@ -48,7 +50,7 @@ module _ (hash : List ℕ → List ℕ) (accepts : List ℕ → List ℕ → Lis
     pub fine : judged_in old content ≡ Ok kept
     pub room : length old.blocks < old.limit
     pub head : is_new_head (head_of old.blocks) kept.block ≡ is_head
-    pub grown_by : new ≡ grown old kept
+    pub grown_by : new ≡ grown rules.hash old kept
 
   -- what a verdict says, and what it leaves
   abbrev pub Says : Ledger → List ℕ → Verdict → Ledger → Type 0

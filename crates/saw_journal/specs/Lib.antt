@@ -4,6 +4,8 @@ pub mod Heads
 pub mod Parts
 pub mod BlockFaults
 pub mod Judgement
+pub mod Linked
+pub mod Left
 pub mod Ledger
 pub mod Standing
 pub mod Parted

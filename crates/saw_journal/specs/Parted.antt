@@ -1,6 +1,5 @@
 -- What the parts of a judgement answer.
-use Rattle.std.specs.Prelude.{◌≡◌, ◌<◌, ℕ, Bool, true, false, ◌||◌, List, [], ◌∷◌, ◌++◌, length, map, Option, Some, None, IsSome, Ok, Err}
-use Rattle.std.specs.Str.{bytes_eq}
+use Rattle.std.specs.Prelude.{◌≡◌, ◌<◌, ℕ, Bool, true, false, List, [], ◌∷◌, ◌++◌, length, map, Option, Some, None, IsSome, Ok, Err}
 use Rattle.saw_address.specs.Maps.{no_entries}
 use Rattle.saw_checks.specs.BlockFaults.{structure_fault}
 use Rattle.saw_checks.specs.Readings.{IsBlockOf}
@@ -17,10 +16,10 @@ use Rattle.saw_receipts.specs.declared.verdict.BlockFault.{BlockFault}
 use Rattle.saw_receipts.specs.declared.verdict.Verdict.{Verdict}
 use Rattle.saw_receipts.specs.declared.verdict.Verdict.TheVariants.{Committed, Stored, Refused}
 use Rattle.saw_journal.specs.BlockFaults.{failure_fault, root_fault, static_fault}
-use Rattle.saw_journal.specs.Branches.{has_block, has_first, no_block}
 use Rattle.saw_journal.specs.Heads.{head_of, is_new_head}
 use Rattle.saw_journal.specs.Judgement.{Kept, Runs, judged_parts, kept_of}
 use Rattle.saw_journal.specs.Ledger.{Ledger, map_at, map_under}
+use Rattle.saw_journal.specs.Linked.{StandsBehind}
 use Rattle.saw_journal.specs.Parts.{Parts}
 use Rattle.saw_journal.specs.declared.checked.Checked.{Checked}
 use Rattle.saw_journal.specs.declared.checked.Checked.TheVariants as checks
@@ -66,11 +65,10 @@ module _ (hash : List ℕ → List ℕ) (runs : Runs) (blocks : List BlockRecord
   JudgedAs (Bad fault) = judged_parts hash runs (map_under states) blocks parts ≡ Err fault
   JudgedAs (Good new) = (kept : Kept) × (judged_parts hash runs (map_under states) blocks parts ≡ Ok kept) × IsNew states kept new
 
--- what a new block has, so that it may join: its id is new, it is a first block or one came before, and it has the root of
--- the map that it leaves
+-- what a new block has, so that it may join: it stands behind the accepted ones, and has the root of the map that
+-- it leaves
 pub record MayJoin (hash : List ℕ → List ℕ) (old : Ledger) (new : New) : Type 0 where
-  pub fresh : has_block old.blocks new.block.id ≡ false
-  pub first : (has_first old.blocks || bytes_eq new.block.previous no_block) ≡ true
+  pub behind : StandsBehind old.blocks new.block
   pub known : IsSome (state_at old.states new.before)
   pub rising : AreRising new.changes
   pub root : new.block.root ≡ root_of_map hash (map_after (map_at old.states new.before) new.changes)

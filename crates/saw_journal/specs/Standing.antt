@@ -7,6 +7,7 @@ use Rattle.saw_receipts.specs.States.{States, knows, state_at}
 use Rattle.saw_receipts.specs.declared.block.BlockRecord.{BlockRecord}
 use Rattle.saw_journal.specs.Branches.{has_first}
 use Rattle.saw_journal.specs.Heads.{head_of}
+use Rattle.saw_journal.specs.Linked.{AreLinked}
 
 -- whether some block was accepted
 abbrev pub has_any : List BlockRecord → Bool
@@ -18,10 +19,11 @@ abbrev pub head_at : List BlockRecord → Option ℕ → Option BlockRecord
 head_at blocks None = None
 head_at blocks (Some place) = slice_get blocks place
 
--- Blocks and their states: the ids that look up are those of the records, each block's root is known, a first block came
--- first, and before it only the empty map is known.
+-- Blocks and their states: the ids that look up are those of the records, each block stands behind those before it
+-- and its root is known, a first block came first, and before it only the empty map is known.
 pub record IsFounded (hash : List ℕ → List ℕ) (ids : List (List ℕ)) (blocks : List BlockRecord) (states : States) : Type 0 where
   pub ids_are : ids ≡ map (λ block. block.id) blocks
+  pub linked : AreLinked blocks
   pub known : AllByRecursion (λ block. IsSome (state_at states block.root)) blocks
   pub first : has_first blocks ≡ has_any blocks
   pub opening : blocks ≡ [] → states ≡ knows hash finite.empty no_entries

@@ -42,7 +42,8 @@ fn add_batch(known: &mut Known, alloc: Global, batch: &BatchRecord) -> Result<()
 }
 
 fn add_batches(known: &mut Known, alloc: Global, batches: &[BatchRecord]) -> Result<(), AllocError>
-    ensures { OnOk result ((there : Ids) → Knows known.old there → Knows known.new (both there (batch_ids batches.now))) }
+    ensures { OnOk result ((there : Ids) → Knows known.old there
+        → Knows known.new (both there (batch_ids batches.now))) }
 {
     for batch in batches {
         add_batch(known, alloc, batch)?;
@@ -62,7 +63,8 @@ fn block_in(blocks: &BlockMap, place: usize) -> &BlockRecord
 
 /// The ids of the branch that ends with the block of this id.
 pub(crate) fn known_in(alloc: Global, blocks: &BlockMap, id: &Text) -> Result<Known, AllocError>
-    ensures { IfOk result (λ known. Knows known (ids_in (branch_of (λ block. block) (values blocks.now) id.now))) }
+    ensures { IfOk result (λ known.
+        Knows known (ids_in (branch_of (λ block. block) (values blocks.now) id.now))) }
 {
     let mut known = Known::new(alloc);
     let mut wanted = id;

@@ -1,6 +1,6 @@
 //! The journal of accepted blocks.
 
-ghost use Rattle.std.specs.Prelude.{◌≡◌, ◌<◌, ◌^◌, ◌++◌, ◌∷◌, [], false, map, length, string_bytes, option_copied, option_map, IfOk, IfErr, OnOk, OnErr, IsErrOf, IsSome};
+ghost use Rattle.std.specs.Prelude.{◌≡◌, ◌<◌, ◌≤◌, ◌^◌, ◌++◌, ◌∷◌, [], false, map, length, string_bytes, option_copied, option_map, Some, IfOk, IfErr, IfSome, OnOk, OnErr, IsErrOf, IsSome};
 ghost use Rattle.std.specs.FinMap as finite;
 ghost use Rattle.std.specs.List.{AllByRecursion};
 ghost use Rattle.indexmap.specs.IndexMap.{keys, spare, values};
@@ -8,13 +8,14 @@ ghost use Rattle.saw_address.specs.Maps.{no_entries};
 ghost use Rattle.saw_context.specs.Changed.{AreRising};
 ghost use Rattle.saw_context.specs.Outcome.{map_after};
 ghost use Rattle.saw_crew.specs.Desks.{Failed, HaveSameOffers, KeepsDesks, offers_at};
-ghost use Rattle.saw_journal.specs.Branches.{has_block, ids_in};
+ghost use Rattle.saw_journal.specs.Branches.{block_at, has_block, ids_in};
 ghost use Rattle.saw_journal.specs.Heads.{as_parent, head_branch, head_of, is_new_head};
-ghost use Rattle.saw_journal.specs.Judgement.{Runs};
+ghost use Rattle.saw_journal.specs.Judgement.{Runs, rules_with};
 ghost use Rattle.saw_journal.specs.Ledger.{IsFull, RunsBy, Says, map_at};
+ghost use Rattle.saw_journal.specs.Linked.{AreLinked};
 ghost use Rattle.saw_journal.specs.Parted.{JoinsAs, MayJoin};
 ghost use Rattle.saw_plan.specs.StaticRules.{Knows};
-ghost use Rattle.saw_receipts.specs.States.{knows, state_at};
+ghost use Rattle.saw_receipts.specs.States.{AreRooted, knows, state_at};
 ghost use Rattle.saw_station.specs.Serving.{processors_at};
 
 use crate::branch::known_in;
@@ -56,7 +57,8 @@ impl<H: NodeHasher> Model for Journal<H> {
 
     ghost view = { λ j. record { blocks = values j.blocks; states = j.state; limit = j.limit } };
 
-    ghost invariant = { λ j. IsStanding H.hash_of (map string_bytes (keys j.blocks)) (values j.blocks) j.head j.state j.limit };
+    ghost invariant = { λ j.
+        IsStanding H.hash_of (map string_bytes (keys j.blocks)) (values j.blocks) j.head j.state j.limit };
 }
 
 // The block is put last, under its id; there is room for it.
@@ -65,7 +67,8 @@ fn put_last(blocks: &mut BlockMap, key: String, block: BlockRecord)
     requires fresh { has_block (values blocks.old) (string_bytes key) ≡ false }
     requires ids { map string_bytes (keys blocks.old) ≡ map (λ block. block.id) (values blocks.old) }
     ensures values { values blocks.new ≡ values blocks.old ++ block ∷ [] }
-    ensures keys { map string_bytes (keys blocks.new) ≡ map string_bytes (keys blocks.old) ++ string_bytes key ∷ [] }
+    ensures keys { map string_bytes (keys blocks.new) ≡ map string_bytes (keys blocks.old)
+        ++ string_bytes key ∷ [] }
 {
     let _ = blocks.insert(key, block);
 }
@@ -82,9 +85,12 @@ fn put<H: NodeHasher>(
     requires known { IsSome (state_at state.old new.before) }
     requires rising { AreRising new.changes }
     ensures joined { OnOk result (values blocks.new ≡ values blocks.old ++ new.block ∷ []) }
-    ensures ids { OnOk result (map string_bytes (keys blocks.new) ≡ map (λ block. block.id) (values blocks.new)) }
-    ensures state { OnOk result (state.new ≡ knows H.hash_of state.old (map_after (map_at state.old new.before) new.changes)) }
-    ensures err_blocks { OnErr result ((values blocks.new ≡ values blocks.old) × (map string_bytes (keys blocks.new) ≡ map string_bytes (keys blocks.old))) }
+    ensures ids { OnOk result (
+        map string_bytes (keys blocks.new) ≡ map (λ block. block.id) (values blocks.new)) }
+    ensures state { OnOk result (state.new ≡ knows H.hash_of state.old
+        (map_after (map_at state.old new.before) new.changes)) }
+    ensures err_blocks { OnErr result ((values blocks.new ≡ values blocks.old)
+        × (map string_bytes (keys blocks.new) ≡ map string_bytes (keys blocks.old))) }
     ensures err_state { OnErr result (state.new ≡ state.old) }
     ensures fault { IfErr result (λ e. e ≡ JournalFault.OutOfMemory) }
 {
@@ -103,7 +109,11 @@ fn put<H: NodeHasher>(
 impl<H: NodeHasher> Journal<H> {
     /// A journal with no blocks, which accepts so many.
     pub fn new(alloc: Global, limit: u32) -> Result<Self, AllocError>
-        ensures { IfOk result (λ j. j ≡ record { blocks = []; states = knows H.hash_of finite.empty no_entries; limit = limit }) }
+        ensures { IfOk result (λ j. j ≡ record {
+          blocks = [];
+          states = knows H.hash_of finite.empty no_entries;
+          limit = limit;
+        }) }
     {
         let state = State::new(alloc)?;
         Ok(Journal {
@@ -117,7 +127,8 @@ impl<H: NodeHasher> Journal<H> {
 
     /// The head: the accepted block that was chosen.
     pub fn head(&self) -> Option<&BlockRecord>
-        ensures { option_copied result ≡ head_of self.now.blocks }
+        ensures is { option_copied result ≡ head_of self.now.blocks }
+        ensures found { IfSome (option_copied result) (λ head. block_at self.now.blocks head.id ≡ Some head) }
     {
         match self.head {
             None => None,
@@ -132,6 +143,9 @@ impl<H: NodeHasher> Journal<H> {
     pub fn blocks(&self) -> &BlockMap
         ensures blocks { values result.now ≡ self.now.blocks }
         ensures ids { map string_bytes (keys result.now) ≡ map (λ block. block.id) (values result.now) }
+        ensures linked { AreLinked self.now.blocks }
+        ensures numbers { AllByRecursion (λ block. block.number < length self.now.blocks) self.now.blocks }
+        ensures room { length self.now.blocks ≤ self.now.limit }
     {
         &self.blocks
     }
@@ -140,7 +154,9 @@ impl<H: NodeHasher> Journal<H> {
     pub fn state(&self) -> &State<H>
         ensures state { result.now ≡ self.now.states }
         ensures known { AllByRecursion (λ block. IsSome (state_at result.now block.root)) self.now.blocks }
+        ensures rooted { AreRooted H.hash_of result.now }
     {
+        self.state.rooted();
         &self.state
     }
 
@@ -156,7 +172,10 @@ impl<H: NodeHasher> Journal<H> {
 
     /// The head, as the block that a new one is put behind.
     pub fn parent(&self) -> Result<Option<Parent>, AllocError>
-        ensures { IfOk result (λ parent. parent ≡ option_map as_parent (head_of self.now.blocks)) }
+        ensures is { IfOk result (λ parent. parent ≡ option_map as_parent (head_of self.now.blocks)) }
+        ensures number { IfOk result (λ parent. IfSome parent (λ p. p.number < length self.now.blocks)) }
+        ensures known { IfOk result (λ parent. IfSome parent
+            (λ p. IsSome (state_at self.now.states p.root))) }
     {
         match self.head() {
             None => Ok(None),
@@ -210,12 +229,14 @@ impl<H: NodeHasher> Journal<H> {
         requires small { length bytes.now < 2 ^ 32 }
         requires some { 0 < length desks.old }
         requires alike { HaveSameOffers desks.old }
-        ensures says { IfOk result (λ verdict. (runs : Runs) × RunsBy (processors_at R.next R.tells (offers_at desks.old)) runs
-            × Says H.hash_of (V.accepts verifier.now) runs self.old bytes.now verdict self.new) }
-        ensures full { IsErrOf result JournalFault.Full → (runs : Runs) × RunsBy (processors_at R.next R.tells (offers_at desks.old)) runs
-            × IsFull H.hash_of (V.accepts verifier.now) runs self.old bytes.now }
+        ensures says { IfOk result (λ verdict. (runs : Runs)
+            × RunsBy (processors_at R.next R.tells (offers_at desks.old)) runs
+            × Says (rules_with H.hash_of (V.accepts verifier.now) runs) self.old bytes.now verdict self.new) }
+        ensures full { IsErrOf result JournalFault.Full → (runs : Runs)
+            × RunsBy (processors_at R.next R.tells (offers_at desks.old)) runs
+            × IsFull (rules_with H.hash_of (V.accepts verifier.now) runs) self.old bytes.now }
         ensures err { OnErr result (self.new ≡ self.old) }
-        ensures desks { KeepsDesks R.faults desks.old desks.new }
+        ensures desks { KeepsDesks R.faults R.offered desks.old desks.new }
         ensures cause { IsErrOf result JournalFault.PeerFailed → Failed R.faults desks.old desks.new }
     {
         match check(self.alloc, bytes, verifier)? {

@@ -82,13 +82,15 @@ pub(crate) fn judge<H: NodeHasher, R: Station>(
     checked: CheckedBlock,
     desks: &mut [Desk<R>],
 ) -> Result<Judged, JournalFault>
-    requires founded { IsFounded H.hash_of (map string_bytes (keys blocks.now)) (values blocks.now) state.now }
+    requires founded { IsFounded H.hash_of (map string_bytes (keys blocks.now))
+        (values blocks.now) state.now }
     requires some { 0 < length desks.old }
     requires alike { HaveSameOffers desks.old }
-    ensures judged { IfOk result (λ judged. (runs : Runs) × RunsBy (processors_at R.next R.tells (offers_at desks.old)) runs
+    ensures judged { IfOk result (λ judged. (runs : Runs)
+        × RunsBy (processors_at R.next R.tells (offers_at desks.old)) runs
         × JudgedAs H.hash_of runs (values blocks.now) state.now (parts_in checked) judged) }
     ensures room { IsErrOf result JournalFault.Full → ⊥ }
-    ensures desks { KeepsDesks R.faults desks.old desks.new }
+    ensures desks { KeepsDesks R.faults R.offered desks.old desks.new }
     ensures cause { IsErrOf result JournalFault.PeerFailed → Failed R.faults desks.old desks.new }
 {
     if let Some(fault) = place_fault(blocks, &checked.id, &checked.header)? {

@@ -27,7 +27,8 @@ pub(crate) fn plan_all(
 ) -> Result<Planned, AllocError>
     requires batches { length batches.now < 2 ^ 32 }
     requires transactions { transactions_in (map batch_shape batches.now) < 2 ^ 32 }
-    ensures { IfOk result (λ planned. (there : Ids) → Knows known.now there → Plans there (map batch_shape batches.now) planned) }
+    ensures { IfOk result (λ planned. (there : Ids) → Knows known.now there
+        → Plans there (map batch_shape batches.now) planned) }
 {
     let Sorted {
         plan,

@@ -58,7 +58,8 @@ pub(crate) fn batch_records(
     batches: &[TxBatch],
     results: &Results,
 ) -> Result<Items<BatchRecord>, AllocError>
-    ensures { IfOk result (λ made. made ≡ batch_records (map batch_shape batches.now) (results_of results.now)) }
+    ensures { IfOk result (λ made.
+        made ≡ batch_records (map batch_shape batches.now) (results_of results.now)) }
 {
     let mut made = Items::new(alloc);
     for (batch, done) in batches.iter().zip(results.batches.as_slice()) {

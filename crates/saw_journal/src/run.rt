@@ -1,8 +1,9 @@
 //! A block's batches over the map before it.
 
-ghost use Rattle.std.specs.Prelude.{◌≡◌, ◌<◌, ◌^◌, List, true, map, length, IfOk, IsErrOf, IsSome};
-ghost use Rattle.saw_context.specs.Serial.{BatchResult, serial};
-ghost use Rattle.saw_crew.specs.Desks.{Failed, HaveSameOffers, KeepsDesks, are_told, offers_at};
+ghost use Rattle.std.specs.Prelude.{◌≡◌, ◌<◌, ◌^◌, List, map, length, IfOk, IsErrOf, IsSome};
+ghost use Rattle.saw_context.specs.Possible.{MayComeOfAll};
+ghost use Rattle.saw_context.specs.Serial.{BatchResult};
+ghost use Rattle.saw_crew.specs.Desks.{Failed, HaveSameOffers, KeepsDesks, offers_at};
 ghost use Rattle.saw_journal.specs.BlockFaults.{root_fault};
 ghost use Rattle.saw_journal.specs.Judgement.{batch_records};
 ghost use Rattle.saw_journal.specs.Ledger.{map_at};
@@ -38,11 +39,14 @@ fn execute_over<H: NodeHasher, R: Station>(
     requires counted { transactions_in (map batch_shape plan.batches) < 2 ^ 32 }
     requires some { 0 < length desks.old }
     requires alike { HaveSameOffers desks.old }
-    ensures results { let processors = processors_at R.next R.tells (offers_at desks.old) in let batches = txs_of (map batch_shape plan.batches) in
-        IfOk result (λ results. are_told processors batches ≡ true → results_of results ≡ serial processors (map_at state.now before) batches) }
-    ensures whole { IfOk result (λ results. AreResultsFor (txs_of (map batch_shape plan.batches)) (results_of results)) }
+    ensures results { let processors = processors_at R.next R.tells (offers_at desks.old) in
+        let batches = txs_of (map batch_shape plan.batches) in
+        IfOk result (λ results.
+        MayComeOfAll processors (map_at state.now before) batches (results_of results)) }
+    ensures whole { IfOk result (λ results. AreResultsFor (txs_of (map batch_shape plan.batches))
+        (results_of results)) }
     ensures room { IsErrOf result JournalFault.Full → ⊥ }
-    ensures desks { KeepsDesks R.faults desks.old desks.new }
+    ensures desks { KeepsDesks R.faults R.offered desks.old desks.new }
     ensures cause { IsErrOf result JournalFault.PeerFailed → Failed R.faults desks.old desks.new }
 {
     match state.tree(&before) {
@@ -116,11 +120,13 @@ pub(crate) fn run<H: NodeHasher, R: Station>(
     requires few { length checked.batches < 2 ^ 32 }
     requires some { 0 < length desks.old }
     requires alike { HaveSameOffers desks.old }
-    ensures ran { let processors = processors_at R.next R.tells (offers_at desks.old) in let batches = txs_of (map batch_shape checked.batches) in
-        IfOk result (λ judged. (results : List BatchResult) × (are_told processors batches ≡ true → results ≡ serial processors (map_at state.now before) batches)
+    ensures ran { let processors = processors_at R.next R.tells (offers_at desks.old) in
+        let batches = txs_of (map batch_shape checked.batches) in
+        IfOk result (λ judged. (results : List BatchResult)
+        × MayComeOfAll processors (map_at state.now before) batches results
         × RanAs H.hash_of state.now before (parts_in checked) results judged) }
     ensures room { IsErrOf result JournalFault.Full → ⊥ }
-    ensures desks { KeepsDesks R.faults desks.old desks.new }
+    ensures desks { KeepsDesks R.faults R.offered desks.old desks.new }
     ensures cause { IsErrOf result JournalFault.PeerFailed → Failed R.faults desks.old desks.new }
 {
     let results = execute_over(alloc, state, before, plan, desks)?;

@@ -1,8 +1,8 @@
-use Rattle.std.proofs.Common.{◌≡◌, true, List, Some, None, sym, subst, ◌∙◌}
+use Rattle.std.proofs.Common.{◌≡◌, List, Some, None, sym, subst, ◌∙◌}
 use Rattle.std.specs.Prelude.{IfSome}
 use Rattle.saw_messages.specs.declared.outcome.Change.{Change}
-use Rattle.saw_context.specs.Serial.{serial}
-use Rattle.saw_crew.specs.Desks.{are_told, offers_at}
+use Rattle.saw_context.specs.Possible.{MayComeOfAll}
+use Rattle.saw_crew.specs.Desks.{offers_at}
 use Rattle.saw_plan.specs.Shapes.{BatchShape, txs_of}
 use Rattle.saw_node.specs.Trees.{root_of_map}
 use Rattle.saw_context.specs.Outcome.{map_after}
@@ -21,7 +21,7 @@ returns-in-Some-clause-ran g c =
     let processors = processors_at g.R.Station.next g.R.Station.tells (offers_at c.args.desks.now) in
     let results = results_of c.in_ok-results.results in (
       results,
-      subst (λ (shapes : List BatchShape). are_told processors (txs_of shapes) ≡ true → results ≡ serial processors (map_at c.args.state.now c.args.before) (txs_of shapes)) c.requires.plan c.in_ok-results.ensures.results,
+      subst (λ (shapes : List BatchShape). MayComeOfAll processors (map_at c.args.state.now c.args.before) (txs_of shapes) results) c.requires.plan c.in_ok-results.ensures.results,
       failed_first g.H.NodeHasher.hash_of c.args.state.now c.args.before c.args.checked results c.in-Some.fault c.in-Some.ensures,
     )
 
@@ -35,9 +35,9 @@ returns-in-Some-2-clause-ran g c =
     let changes = c.in_ok-changes.changes in
     let rooted = subst (λ (changes : List Change). IfSome found (λ m. c.in_ok-root.root ≡ root_of_map hash (map_after m changes))) c.as_slice.ensures c.in_ok-root.ensures in
     let root = at_known found (λ m. c.in_ok-root.root ≡ root_of_map hash (map_after m changes)) c.requires.known rooted in
-    let told = subst (λ (shapes : List BatchShape). are_told processors (txs_of shapes) ≡ true → results ≡ serial processors before (txs_of shapes)) c.requires.plan c.in_ok-results.ensures.results in (
+    let may = subst (λ (shapes : List BatchShape). MayComeOfAll processors before (txs_of shapes) results) c.requires.plan c.in_ok-results.ensures.results in (
       results,
-      told,
+      may,
       then_root hash c.args.state.now c.args.before c.args.checked results c.in_default.ensures c.in_ok-root.root changes (c.in_ok-changes.ensures.left before) root
           (Some c.in-Some-2.fault) (sym c.in-Some-2.is ∙ c.in_ok-fault.ensures),
     )
@@ -52,9 +52,9 @@ returns-clause-ran g c =
     let changes = c.in_ok-changes.changes in
     let rooted = subst (λ (changes : List Change). IfSome found (λ m. c.in_ok-root.root ≡ root_of_map hash (map_after m changes))) c.as_slice.ensures c.in_ok-root.ensures in
     let root = at_known found (λ m. c.in_ok-root.root ≡ root_of_map hash (map_after m changes)) c.requires.known rooted in
-    let told = subst (λ (shapes : List BatchShape). are_told processors (txs_of shapes) ≡ true → results ≡ serial processors before (txs_of shapes)) c.requires.plan c.in_ok-results.ensures.results in (
+    let may = subst (λ (shapes : List BatchShape). MayComeOfAll processors before (txs_of shapes) results) c.requires.plan c.in_ok-results.ensures.results in (
       results,
-      told,
+      may,
       (
         then_root hash c.args.state.now c.args.before c.args.checked results c.in_default.ensures c.in_ok-root.root changes (c.in_ok-changes.ensures.left before) root None (sym c.in_default-2.is ∙ c.in_ok-fault.ensures),
         is_new hash c.args.state.now c.args.before c.args.checked results c.in_default.ensures c.in_ok-root.root changes (c.in_ok-changes.ensures.left before) root

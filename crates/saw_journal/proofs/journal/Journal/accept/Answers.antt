@@ -1,26 +1,25 @@
-use Rattle.std.proofs.Common.{map, refl, subst}
-use Rattle.std.specs.Prelude.{string_bytes}
+use Rattle.std.proofs.Common.{refl, subst}
 use Rattle.std.proofs.lemmas.Result.{IfOk-weaker}
-use Rattle.indexmap.specs.IndexMap.{keys}
 use Rattle.saw_crew.proofs.Leaving.{keep_all}
 use Rattle.saw_crew.specs.Desks.{offers_at}
+use Rattle.saw_station.proofs.Finished.{processors_own}
 use Rattle.saw_station.specs.Serving.{processors_at}
 use Rattle.saw_journal.specs.Ledger.{Ledger, map_under}
 use Rattle.saw_journal.specs.Parted.{ChecksAs, JudgedAs}
 use Rattle.saw_journal.specs.Parts.{parts_in}
-use Rattle.saw_journal.specs.Standing.{IsFounded}
 use Rattle.saw_journal.specs.declared.checked.Checked.{Checked}
 use Rattle.saw_journal.specs.declared.judge.Judged.{Judged}
 use Rattle.saw_journal.proofs.Accepting.{may_join, says_bad, says_full, says_good}
-use Rattle.saw_journal.proofs.Judging.{by_serial, is_by_serial}
+use Rattle.saw_journal.proofs.Named.{named_by}
 use Rattle.saw_journal.proofs.SameParts.{judged_bad}
+use Rattle.saw_journal.proofs.Ways.{by_serial, is_by_serial}
 use Rattle.saw_journal.proofs.journal.Journal.accept.Goals as goal
 
 pub returns-in_err-fault-clause-desks : goal.returns-in_err-fault-clause-desks
-returns-in_err-fault-clause-desks g c = keep_all g.R.Station.faults c.args.desks.now
+returns-in_err-fault-clause-desks g c = keep_all g.R.Station.faults g.R.Station.offered c.args.desks.now
 
 pub returns-in-Bad-clause-desks : goal.returns-in-Bad-clause-desks
-returns-in-Bad-clause-desks g c = keep_all g.R.Station.faults c.args.desks.now
+returns-in-Bad-clause-desks g c = keep_all g.R.Station.faults g.R.Station.offered c.args.desks.now
 
 pub returns-in-Bad-clause-says : goal.returns-in-Bad-clause-says
 returns-in-Bad-clause-says g c =
@@ -28,10 +27,12 @@ returns-in-Bad-clause-says g c =
     let accepts = g.V.Verifier.accepts c.args.verifier.now in
     let old = c.args.self.now in
     let content = c.args.bytes.now in
+    let laws = g.met.R.Station g.world.𝓛 g.world.𝓜 g.world.𝓡 ((λ s x. x), (λ x. x), (λ x. x), λ x. x) in
+    let own = processors_own g.R.Station.next laws.own_reasons g.R.Station.tells (offers_at c.args.desks.now) in
     let processors = processors_at g.R.Station.next g.R.Station.tells (offers_at c.args.desks.now) in
     let bad = subst (λ (told : Checked). ChecksAs accepts content told) c.in-Bad.is c.in_ok-fault.ensures in (
       by_serial processors,
-      is_by_serial processors,
+      is_by_serial processors own,
       (judged_bad accepts hash (by_serial processors) (map_under old.states) old.blocks content c.in-Bad.fault bad, refl),
     )
 
@@ -46,8 +47,7 @@ join-requires-after_bounds g c = λ κs alive.
     let came = c.in_ok-fault-in-Good.ensures.judged in
     let seen = subst (λ (j : Ledger). JudgedAs hash came.0 j.blocks j.states (parts_in checked) c.in_ok-fault-in-Good.field-0) c.self.view_is came.2 in
     let judged = subst (λ (judged : Judged). JudgedAs hash came.0 old.blocks old.states (parts_in checked) judged) c.in-Good-2.is seen in
-    let ids = map string_bytes (keys c.self.inside.blocks) in
-    may_join hash came.0 old (parts_in checked) c.in-Good-2.new judged.0 judged.1 judged.2 ids (subst (λ (j : Ledger). IsFounded hash ids j.blocks j.states) c.self.view_is c.self.invariant.founded)
+    may_join hash came.0 old (parts_in checked) c.in-Good-2.new judged.0 judged.1 judged.2 (named_by accepts content checked sound.0 sound.1)
 
 pub returns-in-Bad-2-clause-says : goal.returns-in-Bad-2-clause-says
 returns-in-Bad-2-clause-says g c =

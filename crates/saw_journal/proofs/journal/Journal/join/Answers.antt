@@ -1,13 +1,12 @@
-use Rattle.std.proofs.Common.{map, sym, ap, ◌∙◌, arith}
+use Rattle.std.proofs.Common.{map, sym, ap, subst, ◌∙◌, arith}
 use Rattle.std.proofs.lemmas.List.{length-map}
-use Rattle.std.specs.Prelude.{string_bytes, ◌||◌}
-use Rattle.std.specs.Str.{bytes_eq}
+use Rattle.std.specs.Prelude.{string_bytes}
 use Rattle.indexmap.specs.IndexMap.{keys, values}
 use Rattle.saw_context.specs.Outcome.{map_after}
 use Rattle.saw_node.specs.Trees.{root_of_map}
-use Rattle.saw_journal.specs.Branches.{has_first, no_block}
 use Rattle.saw_journal.specs.Heads.{head_of, is_new_head}
 use Rattle.saw_journal.specs.Ledger.{Ledger, map_at}
+use Rattle.saw_journal.specs.Linked.{StandsBehind}
 use Rattle.saw_journal.proofs.Joining.{head_joins, other_joins}
 use Rattle.saw_journal.proofs.journal.Journal.join.Goals as goal
 
@@ -22,7 +21,7 @@ invariant_of-self-then-is_head g c =
     head_joins hash (map string_bytes (keys inside.blocks)) (values inside.blocks) inside.head inside.state inside.limit c.self.invariant
     new.block (map_after (map_at inside.state new.before) new.changes)
     (c.requires.root ∙ ap (λ (j : Ledger). root_of_map hash (map_after (map_at j.states new.before) new.changes)) (sym view))
-    (ap (λ (j : Ledger). has_first j.blocks || bytes_eq new.block.previous no_block) view ∙ c.requires.first)
+    (subst (λ (j : Ledger). StandsBehind j.blocks new.block) (sym view) c.requires.behind)
     (omega (arith, c.if-len-self.false, c.len.ensures.len, length-map inside.blocks.entries (λ e. e.1)))
     (map string_bytes (keys c.put.new.blocks)) (values c.put.new.blocks) c.put.new.state put.joined put.ids put.state c.len-place.result count
     (c.if-is_head.ensures ∙ ap (λ (j : Ledger). is_new_head (head_of j.blocks) new.block) (sym view))
@@ -37,7 +36,7 @@ invariant_of-self-else-is_head g c =
     other_joins hash (map string_bytes (keys inside.blocks)) (values inside.blocks) inside.head inside.state inside.limit c.self.invariant
     new.block (map_after (map_at inside.state new.before) new.changes)
     (c.requires.root ∙ ap (λ (j : Ledger). root_of_map hash (map_after (map_at j.states new.before) new.changes)) (sym view))
-    (ap (λ (j : Ledger). has_first j.blocks || bytes_eq new.block.previous no_block) view ∙ c.requires.first)
+    (subst (λ (j : Ledger). StandsBehind j.blocks new.block) (sym view) c.requires.behind)
     (omega (arith, c.if-len-self.false, c.len.ensures.len, length-map inside.blocks.entries (λ e. e.1)))
     (map string_bytes (keys c.put.new.blocks)) (values c.put.new.blocks) c.put.new.state put.joined put.ids put.state
     (c.if-is_head.ensures ∙ ap (λ (j : Ledger). is_new_head (head_of j.blocks) new.block) (sym view))

@@ -1,0 +1,19 @@
+//! Laws of branches, and of what a block leaves.
+
+ghost use Rattle.saw_journal.specs.Left.{KeptIsLeft};
+ghost use Rattle.saw_journal.specs.Linked.{BranchIsChain, KeptBranchIs};
+
+/// The branch of an accepted block is the one chain by previous ids that ends with it.
+pub fn branch_is_chain()
+    ensures { BranchIsChain }
+{}
+
+/// Blocks that are kept with their maps have the branches of their records.
+pub fn kept_branch_is()
+    ensures { KeptBranchIs }
+{}
+
+/// What a block without fault leaves is its map, and one that states another root is told the root of its own.
+pub fn kept_is_left()
+    ensures { KeptIsLeft }
+{}
