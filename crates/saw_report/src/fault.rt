@@ -101,7 +101,8 @@ fn put_dropped(
     k: u64,
     cause: &DropCause,
 ) -> Result<(), AllocError>
-    ensures { OnOk result (out.new.items ≡ out.old.items ++ (word.now ++ spaced k ++ codes " " ++ cause_text cause.now)) }
+    ensures { OnOk result (out.new.items ≡ out.old.items
+        ++ (word.now ++ spaced k ++ codes " " ++ cause_text cause.now)) }
 {
     put_counted(alloc, out, word, k)?;
     out.push(b' ')?;
@@ -127,7 +128,8 @@ fn put_failure(
     t: u64,
     reason: u64,
 ) -> Result<(), AllocError>
-    ensures { OnOk result (out.new.items ≡ out.old.items ++ (word.now ++ spaced k ++ spaced t ++ spaced reason)) }
+    ensures { OnOk result (out.new.items ≡ out.old.items
+        ++ (word.now ++ spaced k ++ spaced t ++ spaced reason)) }
 {
     put_pair(alloc, out, word, k, t)?;
     put_spaced(alloc, out, reason)

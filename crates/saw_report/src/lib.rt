@@ -3,6 +3,10 @@
 
 mod fault;
 mod line;
+mod notes;
+mod run_fault;
 mod word;
 
 pub use line::{head_line, listed_line, verdict_line};
+pub use notes::{ShortLine, fault_line, short_fault_line};
+pub use run_fault::RunFault;

@@ -58,7 +58,8 @@ fn put_verdict(
     verdict: &Verdict,
     block: Option<&BlockRecord>,
 ) -> Result<(), AllocError>
-    ensures { OnOk result (out.new.items ≡ out.old.items ++ verdict_text verdict.now (option_copied block.entry)) }
+    ensures { OnOk result (out.new.items ≡ out.old.items
+        ++ verdict_text verdict.now (option_copied block.entry)) }
 {
     match verdict {
         Verdict::Committed => {

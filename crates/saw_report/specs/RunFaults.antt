@@ -1,0 +1,73 @@
+-- What ends a run before its answer is whole: the status of each fault, and its line on the notes.
+use Rattle.std.specs.Prelude.{ℕ, List, [], ◌∷◌, ◌++◌, codes}
+use Rattle.saw_io.specs.declared.fault.FrameFault.{FrameFault}
+use Rattle.saw_io.specs.declared.fault.FrameFault.TheVariants as frames
+use Rattle.saw_io.specs.declared.fault.ShelfFault.{ShelfFault}
+use Rattle.saw_io.specs.declared.fault.ShelfFault.TheVariants as shelves
+use Rattle.saw_io.specs.declared.fault.SinkFault.{SinkFault}
+use Rattle.saw_io.specs.declared.fault.SinkFault.TheVariants as sinks
+use Rattle.saw_verify.specs.declared.attest.AttestFault.{AttestFault}
+use Rattle.saw_verify.specs.declared.attest.AttestFault.TheVariants as lists
+use Rattle.saw_report.specs.Lines.{spaced}
+use Rattle.saw_report.specs.declared.run_fault.RunFault.{RunFault}
+use Rattle.saw_report.specs.declared.run_fault.RunFault.TheVariants as runs
+
+-- ---- faults of the outside and of lists, as faults of the run
+
+abbrev pub fault_of_frame : FrameFault → RunFault
+fault_of_frame (frames.Truncated have want) = runs.Truncated have want
+fault_of_frame (frames.TooLong length) = runs.TooLong length
+fault_of_frame frames.ReadFailed = runs.Read
+fault_of_frame frames.OutOfMemory = runs.Memory
+
+abbrev pub fault_of_sink : SinkFault → RunFault
+fault_of_sink sinks.Failed = runs.Write
+fault_of_sink sinks.OutOfMemory = runs.Memory
+
+abbrev pub fault_of_shelf : ShelfFault → RunFault
+fault_of_shelf shelves.Missing = runs.FileMissing
+fault_of_shelf shelves.TooLong = runs.FileTooLong
+fault_of_shelf shelves.Failed = runs.FileFailed
+fault_of_shelf shelves.OutOfMemory = runs.Memory
+
+abbrev pub fault_of_list : AttestFault → RunFault
+fault_of_list (lists.BadLine line) = runs.BadLine line
+fault_of_list lists.OutOfMemory = runs.Memory
+
+-- ---- what is told of a fault
+
+-- the status of a fault
+abbrev pub status_of : RunFault → ℕ
+status_of runs.Words = 2
+status_of (runs.Truncated have want) = 3
+status_of (runs.TooLong length) = 3
+status_of runs.Frames = 3
+status_of runs.Blocks = 10
+status_of runs.Read = 4
+status_of runs.Write = 5
+status_of runs.Peer = 6
+status_of runs.Memory = 7
+status_of runs.FileMissing = 11
+status_of runs.FileTooLong = 11
+status_of runs.FileFailed = 11
+status_of (runs.BadLine line) = 11
+
+-- the name of a fault, and its numbers
+abbrev pub fault_words : RunFault → List ℕ
+fault_words runs.Words = codes " words"
+fault_words (runs.Truncated have want) = codes " truncated" ++ spaced have ++ spaced want
+fault_words (runs.TooLong length) = codes " toolong" ++ spaced length
+fault_words runs.Frames = codes " frames"
+fault_words runs.Blocks = codes " blocks"
+fault_words runs.Read = codes " read"
+fault_words runs.Write = codes " write"
+fault_words runs.Peer = codes " peer"
+fault_words runs.Memory = codes " memory"
+fault_words runs.FileMissing = codes " missing"
+fault_words runs.FileTooLong = codes " toolong"
+fault_words runs.FileFailed = codes " failed"
+fault_words (runs.BadLine line) = codes " badline" ++ spaced line
+
+-- what tells why a run ended: its status and the fault
+abbrev pub fault_line : RunFault → List ℕ
+fault_line fault = codes "fault" ++ spaced (status_of fault) ++ fault_words fault ++ 10 ∷ []
