@@ -2,15 +2,16 @@
 use Rattle.std.proofs.Common.{◌≡◌, ℕ, suc, ◌+◌, ◌-◌, ◌<◌, ◌≤◌, ◌==◌, true, false, cond, List, [], ◌∷◌, ◌++◌, length, Option, Some, None, Ok, Err, refl, sym, ap, ◌∙◌, arith}
 use Rattle.saw_io.specs.Frame.{frame_at}
 use Rattle.saw_io.specs.declared.fault.FrameFault.{FrameFault}
-use Rattle.saw_top.specs.Faults.{fault_of_frame}
+use Rattle.saw_report.specs.RunFaults.{fault_of_frame}
 use Rattle.saw_top.specs.Stream.{Stream, no_frames, before, by_reading, stream_from, Reads}
-use Rattle.saw_top.specs.declared.fault.StreamFault.{StreamFault}
-use Rattle.saw_top.specs.declared.fault.StreamFault.TheVariants.{Frames}
+use Rattle.saw_report.specs.declared.run_fault.RunFault.{RunFault}
+use Rattle.saw_report.specs.declared.run_fault.RunFault.TheVariants.{Frames}
 use Rattle.saw_top.specs.Limits.{max_length}
 
 -- ---- frames
 
-pub Reads-push : (frames : List (List ℕ)) (bytes rest behind content : List ℕ) → Reads frames bytes rest → frame_at max_length rest ≡ Ok (Some content, behind) → Reads (frames ++ content ∷ []) bytes behind
+pub Reads-push : (frames : List (List ℕ)) (bytes rest behind content : List ℕ) → Reads frames bytes rest → frame_at max_length rest ≡ Ok (Some content, behind)
+    → Reads (frames ++ content ∷ []) bytes behind
 Reads-push [] bytes rest behind content same is = (behind, ap (frame_at max_length) same ∙ is, refl)
 Reads-push (first ∷ frames) bytes rest behind content reads is = (reads.0, reads.1, Reads-push frames reads.0 rest behind content reads.2 is)
 
@@ -18,7 +19,8 @@ Reads-push (first ∷ frames) bytes rest behind content reads is = (reads.0, rea
 abbrev pub all_before : List (List ℕ) → Stream → Stream
 all_before frames others = record { frames = frames ++ others.frames; fault = others.fault }
 
-pub stream_behind : (frames : List (List ℕ)) (more : ℕ) (bytes rest : List ℕ) → Reads frames bytes rest → stream_from (length frames + more) bytes ≡ all_before frames (stream_from more rest)
+pub stream_behind : (frames : List (List ℕ)) (more : ℕ) (bytes rest : List ℕ) → Reads frames bytes rest
+    → stream_from (length frames + more) bytes ≡ all_before frames (stream_from more rest)
 unfolding stream_from
 stream_behind [] more bytes rest same = let none : 0 + more ≡ more = omega arith in rw (none, same) refl
 stream_behind (content ∷ frames) more bytes rest reads =
@@ -63,7 +65,7 @@ module _ (max : ℕ) (frames : List (List ℕ)) (bytes rest : List ℕ) (reads :
     stream_too_many is = last ∙ ap (λ b. all_before frames (no_frames (cond b None (Some Frames)))) is
 
   -- some frames may begin still
-  pub stream_some : length frames ≤ max → (others : List (List ℕ)) × (fault : Option StreamFault) × (stream_from max bytes ≡ all_before frames (record { frames = others; fault = fault }))
+  pub stream_some : length frames ≤ max → (others : List (List ℕ)) × (fault : Option RunFault) × (stream_from max bytes ≡ all_before frames (record { frames = others; fault = fault }))
   stream_some fits =
       let more = stream_from (max - length frames) rest in
       (more.frames, more.fault, stands_behind (max - length frames) (omega arith))

@@ -1,4 +1,5 @@
 pub mod Limits
+pub mod World
 pub mod History
 pub mod Standing
 pub mod Reports
@@ -7,10 +8,15 @@ pub mod Command
 pub mod Options
 pub mod Wishes
 pub mod Faults
-pub mod Notes
 pub mod Stream
 pub mod Run
-pub mod Judging
-pub mod Shows
+pub mod Ends
 pub mod Answers
+pub mod Outside
+pub mod Judging
+pub mod Judged
+pub mod Vouching
+pub mod Headline
 pub mod Laws
+pub mod OptionLaws
+pub mod RootLaws

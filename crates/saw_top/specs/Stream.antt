@@ -1,17 +1,17 @@
 -- How a block stream is cut into frames.
 use Rattle.std.specs.Prelude.{◌≡◌, ℕ, zero, suc, List, [], ◌∷◌, length, Option, Some, None, Ok, Err, ◌==◌, if◌then◌else◌}
 use Rattle.saw_io.specs.Frame.{Reading, frame_at}
-use Rattle.saw_top.specs.Faults.{fault_of_frame}
-use Rattle.saw_top.specs.declared.fault.StreamFault.{StreamFault}
-use Rattle.saw_top.specs.declared.fault.StreamFault.TheVariants.{Frames}
+use Rattle.saw_report.specs.RunFaults.{fault_of_frame}
+use Rattle.saw_report.specs.declared.run_fault.RunFault.{RunFault}
+use Rattle.saw_report.specs.declared.run_fault.RunFault.TheVariants.{Frames}
 use Rattle.saw_top.specs.Limits.{max_length, max_frames}
 
 -- the contents of the whole frames, and what stands behind them: nothing, or what is no frame
 pub record Stream : Type 0 where
   pub frames : List (List ℕ)
-  pub fault : Option StreamFault
+  pub fault : Option RunFault
 
-abbrev pub no_frames : Option StreamFault → Stream
+abbrev pub no_frames : Option RunFault → Stream
 no_frames fault = record { frames = []; fault = fault }
 
 -- one more frame before the others

@@ -1,62 +1,54 @@
 //! The judgement of a block, and its line.
 
-ghost use Rattle.std.specs.Prelude.{◌≡◌, ◌≤◌, ◌<◌, ◌^◌, ◌-◌, ◌⊎◌, ℕ, true, length, option_copied, slice_get, take, IfOk, IfErr, OnOk, OnErr, IsErrOf};
+ghost use Rattle.std.specs.Prelude.{◌≡◌, ◌≤◌, ◌<◌, ◌^◌, ◌-◌, ◌⊎◌, ℕ, true, length, option_copied, slice_get, take, IfErr, IfOk, IsErrOf, OnErr, OnOk};
 ghost use Rattle.std.specs.Io.KnownBytes.{Appends};
-ghost use Rattle.std.specs.List.{AllByRecursion};
+ghost use Rattle.saw_crew.specs.Desks.{Failed, HaveSameOffers, KeepsDesks, offers_at};
 ghost use Rattle.saw_faults.specs.Counts.{Rose};
 ghost use Rattle.saw_journal.specs.Ledger.{IsFull, Says};
-ghost use Rattle.saw_node.specs.Hashes.{first_half};
 ghost use Rattle.saw_report.specs.Lines.{is_accepted};
-ghost use Rattle.saw_top.specs.History.{one_by_one};
-ghost use Rattle.saw_top.specs.Judging.{IsLone};
+ghost use Rattle.saw_station.specs.Serving.{processors_at};
 ghost use Rattle.saw_top.specs.Reports.{line_of, said_of};
+ghost use Rattle.saw_top.specs.World.{TellsAll, rules_by};
 
-use crate::fault::StreamFault;
+use crate::task::Lines;
 use saw_io::{Sink, write_all};
 use saw_journal::{Journal, JournalFault};
 use saw_node::Sha512Half;
 use saw_receipts::{BlockRecord, Verdict};
-use saw_report::verdict_line;
-use saw_station::{Desk, NoStation};
+use saw_report::{RunFault, verdict_line};
+use saw_station::{Desk, Station};
 use saw_verify::Verifier;
-use std::alloc::{AllocError, Global};
-use std::sync::Arc;
+use std::alloc::Global;
 
-/// Which blocks have a line.
-#[derive(Clone, Copy, Debug, PartialEq, Eq)]
-pub(crate) enum Lines {
-    All,
-    Refused,
-}
-
-/// A desk of the built-in processors alone.
-pub(crate) fn lone_desk(alloc: Global) -> Result<Desk<NoStation>, AllocError>
-    ensures { IfOk result IsLone }
-{
-    let offers = Arc::new(alloc, Vec::new(alloc))?;
-    Ok(Desk::new(None, offers))
-}
-
-/// Judges the bytes of a block. After a fault the journal is as before.
-pub(crate) fn judge<V: Verifier>(
+/// Judges the bytes of a block. After a fault the journal is as before. The desks keep their offers and their remotes.
+pub(crate) fn judge<R: Station, V: Verifier>(
     journal: &mut Journal<Sha512Half>,
-    desk: &mut [Desk<NoStation>; 1],
+    desks: &mut [Desk<R>],
     verifier: &V,
     content: &[u8],
-) -> Result<Verdict, StreamFault>
+) -> Result<Verdict, RunFault>
     requires small { length content.now < 2 ^ 32 }
-    requires lone { AllByRecursion IsLone desk.old }
-    ensures says { IfOk result (λ verdict. Says first_half (V.accepts verifier.now) one_by_one journal.old content.now verdict journal.new) }
-    ensures full { IsErrOf result StreamFault.Blocks → IsFull first_half (V.accepts verifier.now) one_by_one journal.old content.now }
+    requires some { 0 < length desks.old }
+    requires alike { HaveSameOffers desks.old }
+    ensures says { let processors = processors_at R.next R.tells (offers_at desks.old) in
+        TellsAll processors → IfOk result (λ verdict.
+        Says (rules_by (V.accepts verifier.now) processors) journal.old content.now verdict journal.new) }
+    ensures full { let processors = processors_at R.next R.tells (offers_at desks.old) in
+        TellsAll processors → IsErrOf result RunFault.Blocks
+        → IsFull (rules_by (V.accepts verifier.now) processors) journal.old content.now }
+    ensures blocks { IfOk result (λ verdict.
+        is_accepted verdict ≡ true → 0 < length journal.new.blocks) }
     ensures err { OnErr result (journal.new ≡ journal.old) }
-    ensures fault { IfErr result (λ e. (e ≡ StreamFault.Blocks) ⊎ (e ≡ StreamFault.Memory)) }
-    ensures lone { AllByRecursion IsLone desk.new }
+    ensures fault { IfErr result (λ e.
+        (e ≡ RunFault.Blocks) ⊎ ((e ≡ RunFault.Peer) ⊎ (e ≡ RunFault.Memory))) }
+    ensures desks { KeepsDesks R.faults R.offered desks.old desks.new }
+    ensures cause { IsErrOf result RunFault.Peer → Failed R.faults desks.old desks.new }
 {
-    match journal.accept(content, verifier, desk) {
+    match journal.accept(content, verifier, desks) {
         Ok(verdict) => Ok(verdict),
-        Err(JournalFault::Full) => Err(StreamFault::Blocks),
-        Err(JournalFault::PeerFailed) => unreachable!(),
-        Err(JournalFault::OutOfMemory) => Err(StreamFault::Memory),
+        Err(JournalFault::Full) => Err(RunFault::Blocks),
+        Err(JournalFault::PeerFailed) => Err(RunFault::Peer),
+        Err(JournalFault::OutOfMemory) => Err(RunFault::Memory),
     }
 }
 
@@ -89,14 +81,15 @@ pub(crate) fn tell_block<O: Sink>(
     journal: &Journal<Sha512Half>,
     place: u32,
     verdict: &Verdict,
-) -> Result<(), StreamFault>
+) -> Result<(), RunFault>
     requires { is_accepted verdict.now ≡ true → 0 < length journal.now.blocks }
-    ensures ok { OnOk result (Appends (O.written output.old) (O.written output.new) (line_of lines place (said_of verdict.now journal.now.blocks))) }
+    ensures ok { OnOk result (Appends (O.written output.old) (O.written output.new)
+        (line_of lines place (said_of verdict.now journal.now.blocks))) }
     ensures err { OnErr result ((n : ℕ) × Appends (O.written output.old) (O.written output.new)
         (take n (line_of lines place (said_of verdict.now journal.now.blocks)))) }
-    ensures fault { IfErr result (λ e. (e ≡ StreamFault.Write) ⊎ (e ≡ StreamFault.Memory)) }
+    ensures fault { IfErr result (λ e. (e ≡ RunFault.Write) ⊎ (e ≡ RunFault.Memory)) }
     ensures later { O.faults output.old ≤ O.faults output.new }
-    ensures cause { IsErrOf result StreamFault.Write → Rose (O.faults output.old) (O.faults output.new) }
+    ensures cause { IsErrOf result RunFault.Write → Rose (O.faults output.old) (O.faults output.new) }
 {
     let accepted = is_accepted(verdict);
     if accepted && lines == Lines::Refused {

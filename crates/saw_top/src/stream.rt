@@ -1,16 +1,23 @@
 //! Reads a block stream to its end, and judges each block before it reads the next.
 
-ghost use Rattle.std.specs.Prelude.{◌≡◌, ◌≤◌, ◌<◌, ◌==◌, [], List, ℕ, length, Err, IfOk, IfSome, OnErr, IsErrOf};
+ghost use Rattle.std.specs.Prelude.{◌≡◌, ◌≤◌, ◌<◌, ◌==◌, [], List, ℕ, length, Err, IfErr, IfOk, IfSome, OnErr, IsErrOf};
 ghost use Rattle.std.specs.Io.KnownBytes.{Appends, Consumes};
+ghost use Rattle.saw_crew.specs.Desks.{HaveSameOffers, KeepsDesks, offers_at};
 ghost use Rattle.saw_faults.specs.Counts.{Rose};
+ghost use Rattle.saw_station.specs.Serving.{processors_at};
+ghost use Rattle.saw_top.specs.Faults.{IsOfStream};
 ghost use Rattle.saw_top.specs.Judging.{Judges, WhereRootsTell};
-ghost use Rattle.saw_top.specs.Standing.{IsAfter};
+ghost use Rattle.saw_top.specs.Limits.{max_blocks};
+ghost use Rattle.saw_top.specs.Outside.{SomeRose, counts_of};
+ghost use Rattle.saw_top.specs.World.{TellsAll, rules_by};
 
-use crate::fault::StreamFault;
-use crate::judging::{Lines, is_accepted, judge, lone_desk, tell_block};
+use crate::judging::{is_accepted, judge, tell_block};
+use crate::task::Lines;
 use saw_io::{Sink, Source, fill, read_frame};
 use saw_journal::Journal;
 use saw_node::Sha512Half;
+use saw_report::RunFault;
+use saw_station::{Desk, Station};
 use saw_verify::Verifier;
 use std::alloc::Global;
 
@@ -24,45 +31,59 @@ pub const MAX_FRAMES: u32 = 1_000_000;
 pub const MAX_BLOCKS: u32 = 65_535;
 
 /// Whether the source is at its end. Where it is not, its next byte is taken.
-fn has_ended<S: Source>(input: &mut S) -> Result<bool, StreamFault>
-    ensures ended { IfOk result (λ ended. IfSome (S.unread input.old) (λ bytes. ended ≡ (length bytes == 0))) }
-    ensures taken { (taken : List ℕ) × Consumes (S.unread input.old) (S.unread input.new) taken × (length taken ≤ 1) }
-    ensures only { OnErr result (result ≡ Err StreamFault.Read) }
-    ensures err { OnErr result ((taken : List ℕ) × Consumes (S.unread input.old) (S.unread input.new) taken × (length taken < 1)) }
+fn has_ended<S: Source>(input: &mut S) -> Result<bool, RunFault>
+    ensures ended { IfOk result (λ ended. IfSome (S.unread input.old)
+        (λ bytes. ended ≡ (length bytes == 0))) }
+    ensures taken { (taken : List ℕ)
+        × Consumes (S.unread input.old) (S.unread input.new) taken × (length taken ≤ 1) }
+    ensures only { OnErr result (result ≡ Err RunFault.Read) }
+    ensures err { OnErr result ((taken : List ℕ)
+        × Consumes (S.unread input.old) (S.unread input.new) taken × (length taken < 1)) }
     ensures later { S.faults input.old ≤ S.faults input.new }
     ensures cause { OnErr result (Rose (S.faults input.old) (S.faults input.new)) }
 {
     let mut byte = [0u8; 1];
     match fill(input, &mut byte) {
         Ok(count) => Ok(count == 0),
-        Err(_) => Err(StreamFault::Read),
+        Err(_) => Err(RunFault::Read),
     }
 }
 
-/// Judges the blocks of the input one by one, writes their lines, and tells whether one was refused.
-pub(crate) fn judge_stream<S: Source, O: Sink, V: Verifier>(
+/// Judges the blocks of the input one by one, writes their lines, and tells whether one was refused. The desks keep their
+/// offers and their remotes.
+pub(crate) fn judge_stream<S: Source, O: Sink, V: Verifier, R: Station>(
     alloc: Global,
     input: &mut S,
     output: &mut O,
     lines: Lines,
     verifier: &V,
+    desks: &mut [Desk<R>],
     journal: &mut Journal<Sha512Half>,
-) -> Result<bool, StreamFault>
-    requires { IsAfter [] journal.old }
-    ensures judges { IfSome (S.unread input.old) (λ bytes. WhereRootsTell (V.accepts verifier.now) bytes
-        (Judges (V.accepts verifier.now) lines bytes (S.unread input.new) (O.written output.old) (O.written output.new) journal.new result)) }
+) -> Result<bool, RunFault>
+    requires fresh { journal.old.blocks ≡ [] }
+    requires limit { journal.old.limit ≡ max_blocks }
+    requires some { 0 < length desks.old }
+    requires alike { HaveSameOffers desks.old }
+    ensures judges { let processors = processors_at R.next R.tells (offers_at desks.old) in
+        let rules = rules_by (V.accepts verifier.now) processors in
+        TellsAll processors → IfSome (S.unread input.old) (λ bytes. WhereRootsTell rules bytes
+        (Judges rules lines bytes (S.unread input.new) (O.written output.old) (O.written output.new)
+        journal.new result)) }
     ensures wrote { (written : List ℕ) × Appends (O.written output.old) (O.written output.new) written }
-    ensures input { IsErrOf result StreamFault.Read → Rose (S.faults input.old) (S.faults input.new) }
-    ensures output { IsErrOf result StreamFault.Write → Rose (O.faults output.old) (O.faults output.new) }
+    ensures kind { IfErr result IsOfStream }
+    ensures input { IsErrOf result RunFault.Read → Rose (S.faults input.old) (S.faults input.new) }
+    ensures output { IsErrOf result RunFault.Write → Rose (O.faults output.old) (O.faults output.new) }
     ensures later { O.faults output.old ≤ O.faults output.new }
+    ensures desks { KeepsDesks R.faults R.offered desks.old desks.new }
+    ensures peer { IsErrOf result RunFault.Peer
+        → SomeRose (counts_of R.faults desks.old) (counts_of R.faults desks.new) }
 {
-    let mut desk = [lone_desk(alloc)?];
     let mut refused = false;
     for place in 0..MAX_FRAMES {
         match read_frame(alloc, input, MAX_LENGTH)? {
             None => return Ok(refused),
             Some(content) => {
-                let verdict = judge(journal, &mut desk, verifier, &content)?;
+                let verdict = judge(journal, desks, verifier, &content)?;
                 tell_block(alloc, output, lines, journal, place, &verdict)?;
                 refused |= !is_accepted(&verdict);
             }
@@ -71,5 +92,5 @@ pub(crate) fn judge_stream<S: Source, O: Sink, V: Verifier>(
     if has_ended(input)? {
         return Ok(refused);
     }
-    Err(StreamFault::Frames)
+    Err(RunFault::Frames)
 }

@@ -9,9 +9,6 @@ use std::io::ErrorKind;
 use std::process::ExitCode;
 use std::{env, io};
 
-/// The status of words that are of no form, as those are that are no text.
-const WORDS: u8 = 2;
-
 /// The status of want of memory.
 const MEMORY: u8 = 7;
 
@@ -24,7 +21,8 @@ fn main(rt: HostRuntime) -> ExitCode {
     let words = match words(&rt, alloc) {
         Ok(words) => words,
         Err(e) if e.kind() == ErrorKind::OutOfMemory => return ExitCode::from(MEMORY),
-        Err(_) => return ExitCode::from(WORDS),
+        // Words that are no text are of no form, as no words are.
+        Err(_) => Vec::new(alloc),
     };
     let mut input = StdSource::new(rt.reader());
     let mut output = StdSink::new(io::writer(&rt));

@@ -1,84 +1,141 @@
-use Rattle.std.proofs.Common.{◌≡◌, [], ◌++◌, Err, ap, arith}
+use Rattle.std.proofs.Common.{◌≡◌, [], ◌++◌, Err, refl, ap, arith}
 use Rattle.std.proofs.KnownBytes.{Appends-nil, Appends-trans}
 use Rattle.std.specs.Prelude.{◌||◌, not}
 use Rattle.std.proofs.lemmas.Result.{err_from_is_err_and}
-use Rattle.saw_top.specs.declared.fault.StreamFault.TheVariants.{Read}
-use Rattle.saw_top.proofs.Standings.{SoFar-ended, SoFar-full, SoFar-line_cut, SoFar-more, SoFar-not_judged, SoFar-probe_fault, SoFar-read_fault, SoFar-too_many, nothing_judged, start}
+use Rattle.saw_crew.proofs.Leaving.{failed_since, keep_all, keeps_all_trans, kept_alike, kept_offers, kept_some}
+use Rattle.saw_crew.specs.Desks.{offers_at}
+use Rattle.saw_io.specs.declared.fault.FrameFault.{FrameFault}
+use Rattle.saw_io.specs.declared.fault.FrameFault.TheVariants as frames
+use Rattle.saw_journal.proofs.OneByOne.{serial_one_by_one}
+use Rattle.saw_report.specs.RunFaults.{fault_of_frame}
+use Rattle.saw_report.specs.declared.run_fault.RunFault.TheVariants.{Peer, Read}
+use Rattle.saw_station.specs.Serving.{processors_at}
+use Rattle.saw_top.specs.Faults.{IsOfStream}
+use Rattle.saw_top.specs.World.{rules_by}
+use Rattle.saw_top.proofs.Desks.{failed_rose}
+use Rattle.saw_top.proofs.Standings.{all_there, line_cut, line_written, no_more, not_judged, probe_fault, read_fault, so_ends, so_more, start, too_many}
 use Rattle.saw_top.proofs.stream.judge_stream.Goals as goal
-
-pub returns-in_err-lone_desk-clause-judges : goal.returns-in_err-lone_desk-clause-judges
-returns-in_err-lone_desk-clause-judges g c =
-    let p = err_from_is_err_and c.from_residual.result c.from_residual.ensures.1 in
-    rw (p.1, p.2) (nothing_judged (g.V.Verifier.accepts c.args.verifier.now) c.args.lines (g.S.Source.unread c.args.input.now) (g.O.Sink.written c.args.output.now) c.args.journal.now)
 
 pub loop-place-init : goal.loop-place-init
 loop-place-init g c = record {
-  so_far = start (g.V.Verifier.accepts c.args.verifier.now) c.args.lines (g.S.Source.unread c.args.input.now) (g.O.Sink.written c.args.output.now) c.args.journal.now c.requires;
+  so_far = λ told. start (rules_by (g.V.Verifier.accepts c.args.verifier.now) (processors_at g.R.Station.next g.R.Station.tells (offers_at c.args.desks.now))) c.args.lines (g.S.Source.unread c.args.input.now) (g.O.Sink.written c.args.output.now) c.args.journal.now
+      (record { blocks = c.requires.fresh; limit = c.requires.limit; kept = tt });
   wrote = ([], Appends-nil (g.O.Sink.written c.args.output.now));
-  lone = (c.in_ok-lone_desk.ensures, tt);
+  desks = keep_all g.R.Station.faults g.R.Station.offered c.args.desks.now;
   input_later = omega arith;
   output_later = omega arith;
 }
 
 pub returns-in_err-read_frame-clause-judges : goal.returns-in_err-read_frame-clause-judges
-returns-in_err-read_frame-clause-judges g c =
-    let p = err_from_is_err_and c.from_residual-in_err-read_frame.result c.from_residual-in_err-read_frame.ensures.1 in
+returns-in_err-read_frame-clause-judges g c = λ told.
+    let failed = c.from_residual in
+    let p = err_from_is_err_and failed.result failed.ensures.1 in
     let e = c.in_err-read_frame.ensures in
-    rw (p.1, p.2) (SoFar-read_fault _ _ _ _ _ _ _ _ _ _ _ c.loop-place.invariant.so_far c.loop-place-test.true e.told e.err.0 e.err.1 e.err.2)
+    rw (p.1, p.2) (so_ends _ _ (c.loop-place.invariant.so_far told) _ _ _ _ (λ bytes at. read_fault _ c.args.lines at _ _ c.loop-place-test.true e.told e.err.0 e.err.1 e.err.2))
 
 pub returns-in-None-clause-judges : goal.returns-in-None-clause-judges
-returns-in-None-clause-judges g c =
-    let told = rw c.in-None.is at c.in_ok-read_frame.ensures.told in
-    SoFar-ended _ _ _ _ _ _ _ _ _ _ c.loop-place.invariant.so_far c.loop-place-test.true told
+returns-in-None-clause-judges g c = λ told.
+    let none = rw c.in-None.is at c.in_ok-read_frame.ensures.told in
+    so_ends _ _ (c.loop-place.invariant.so_far told) _ _ _ _ (λ bytes at. no_more _ c.args.lines at _ c.loop-place-test.true none)
 
 pub returns-in_err-verdict-in-Some-clause-judges : goal.returns-in_err-verdict-in-Some-clause-judges
-returns-in_err-verdict-in-Some-clause-judges g c =
-    let told = rw c.in-Some.is at c.in_ok-read_frame.ensures.told in
-    let p = err_from_is_err_and c.from_residual-in_err-verdict-in-Some.result c.from_residual-in_err-verdict-in-Some.ensures.1 in
+returns-in_err-verdict-in-Some-clause-judges g c = λ told.
+    let some = rw c.in-Some.is at c.in_ok-read_frame.ensures.told in
+    let failed = c.from_residual-in_err-verdict-in-Some in
+    let p = err_from_is_err_and failed.result failed.ensures.1 in
     let e = c.in_err-verdict-in-Some.ensures in
-    let full = rw c.deref.ensures.value at e.full in
-    rw (p.1, p.2) (SoFar-not_judged _ _ _ _ _ _ _ _ _ c.in-Some.content c.loop-place-test.true told _ _ c.judge.new.journal c.loop-place.invariant.so_far e.fault (λ is. full (ap Err is)))
+    let same = kept_offers _ _ c.args.desks.now c.loop-place.desks c.loop-place.invariant.desks in
+    let full = rw (same, c.deref.ensures.value) at e.full in
+    rw (p.1, p.2) (so_ends _ _ (c.loop-place.invariant.so_far told) _ _ _ _ (λ bytes at.
+    not_judged _ c.args.lines at _ c.in-Some.content c.loop-place-test.true some
+    (serial_one_by_one (processors_at g.R.Station.next g.R.Station.tells (offers_at c.args.desks.now))) _ c.judge.new.journal e.fault (λ is. full told (ap Err is))))
 
 pub returns-in_err-tell_block-in-Some-clause-judges : goal.returns-in_err-tell_block-in-Some-clause-judges
-returns-in_err-tell_block-in-Some-clause-judges g c =
-    let told = rw c.in-Some.is at c.in_ok-read_frame.ensures.told in
-    let p = err_from_is_err_and c.from_residual-in_err-tell_block-in-Some.result c.from_residual-in_err-tell_block-in-Some.ensures.1 in
-    let says = rw c.deref.ensures.value at c.in_ok-verdict-in-Some.ensures.says in
+returns-in_err-tell_block-in-Some-clause-judges g c = λ told.
+    let some = rw c.in-Some.is at c.in_ok-read_frame.ensures.told in
+    let failed = c.from_residual-in_err-tell_block-in-Some in
+    let p = err_from_is_err_and failed.result failed.ensures.1 in
+    let same = kept_offers _ _ c.args.desks.now c.loop-place.desks c.loop-place.invariant.desks in
+    let says = rw (same, c.deref.ensures.value) at c.in_ok-verdict-in-Some.ensures.says in
     let e = c.in_err-tell_block-in-Some.ensures in
-    rw (p.1, p.2) (SoFar-line_cut _ _ _ _ _ _ _ _ _ c.in-Some.content c.loop-place-test.true told _ _ says _ _ _ e.err.0 c.loop-place.invariant.so_far e.fault e.err.1)
+    rw (p.1, p.2) (so_ends _ _ (c.loop-place.invariant.so_far told) _ _ _ _ (λ bytes at.
+    line_cut _ c.args.lines at _ c.in-Some.content c.loop-place-test.true some
+    (serial_one_by_one (processors_at g.R.Station.next g.R.Station.tells (offers_at c.args.desks.now))) c.in_ok-verdict-in-Some.verdict c.judge.new.journal (says told) _ _ e.err.0 e.fault e.err.1))
 
 pub loop-place-preserved : goal.loop-place-preserved
 loop-place-preserved g c =
-    let told = rw c.in-Some.is at c.in_ok-read_frame.ensures.told in
-    let says = rw c.deref.ensures.value at c.in_ok-verdict-in-Some.ensures.says in
+    let some = rw c.in-Some.is at c.in_ok-read_frame.ensures.told in
+    let same = kept_offers _ _ c.args.desks.now c.loop-place.desks c.loop-place.invariant.desks in
+    let says = rw (same, c.deref.ensures.value) at c.in_ok-verdict-in-Some.ensures.says in
     record {
-      so_far = SoFar-more _ _ _ _ _ _ _ _ _ c.in-Some.content c.loop-place-test.true told _ _ says _ _ _ c.loop-place.invariant.so_far c.in_ok-tell_block-in-Some.ensures.ok (ap (λ b. c.loop-place.refused || not b) c.is_accepted.ensures);
+      so_far = λ told. so_more _ _ (c.loop-place.invariant.so_far told) _ _ _ _ (λ bytes at tell.
+          line_written _ c.args.lines at _ c.in-Some.content c.loop-place-test.true some
+          (serial_one_by_one (processors_at g.R.Station.next g.R.Station.tells (offers_at c.args.desks.now))) c.in_ok-verdict-in-Some.verdict c.judge.new.journal (says told) _ _ tell
+          c.in_ok-tell_block-in-Some.ensures.ok (ap (λ b. c.loop-place.refused || not b) c.is_accepted.ensures));
       wrote = (c.loop-place.invariant.wrote.0 ++ _, Appends-trans _ _ _ c.loop-place.invariant.wrote.0 _ c.loop-place.invariant.wrote.1 c.in_ok-tell_block-in-Some.ensures.ok);
-      lone = c.in_ok-verdict-in-Some.ensures.lone;
+      desks = keeps_all_trans _ _ _ _ c.judge.new.desks c.loop-place.invariant.desks c.in_ok-verdict-in-Some.ensures.desks;
       input_later = omega arith;
       output_later = omega arith;
     }
 
 pub returns-in_err-has_ended-clause-judges : goal.returns-in_err-has_ended-clause-judges
-returns-in_err-has_ended-clause-judges g c =
-    let p = err_from_is_err_and c.from_residual-in_err-has_ended.result c.from_residual-in_err-has_ended.ensures.1 in
+returns-in_err-has_ended-clause-judges g c = λ told.
+    let failed = c.from_residual-in_err-has_ended in
+    let p = err_from_is_err_and failed.result failed.ensures.1 in
     let e = c.in_err-has_ended.ensures in
     let is : c.in_err-has_ended.field-0.0 ≡ Read = cc e.only in
-    rw (p.1, p.2, is) (SoFar-probe_fault _ _ _ _ _ _ _ _ _ _ c.loop-place.invariant.so_far (omega arith) e.err.0 e.err.1 e.err.2)
+    rw (p.1, p.2, is) (so_ends _ _ (c.loop-place.invariant.so_far told) _ _ _ _ (λ bytes at. probe_fault _ c.args.lines at _ (omega arith) (omega arith) e.err.0 e.err.1 e.err.2))
 
 pub returns-then-branch-clause-judges : goal.returns-then-branch-clause-judges
-returns-then-branch-clause-judges g c =
+returns-then-branch-clause-judges g c = λ told.
     let e = c.in_ok-has_ended.ensures in
     let ended = rw c.if-branch.true at e.ended in
-    SoFar-full _ _ _ _ _ _ _ _ _ _ c.loop-place.invariant.so_far (omega arith) (omega arith) ended e.taken.0 e.taken.1 e.taken.2
+    so_ends _ _ (c.loop-place.invariant.so_far told) _ _ _ _ (λ bytes at. all_there _ c.args.lines at _ (omega arith) (omega arith) ended e.taken.0 e.taken.1 e.taken.2)
 
 pub returns-clause-judges : goal.returns-clause-judges
-returns-clause-judges g c =
+returns-clause-judges g c = λ told.
     let e = c.in_ok-has_ended.ensures in
     let some = rw c.if-branch.false at e.ended in
-    SoFar-too_many _ _ _ _ (g.S.Source.unread c.has_ended.new.input) _ _ _ _ _ c.loop-place.invariant.so_far (omega arith) (omega arith) some
+    so_ends _ _ (c.loop-place.invariant.so_far told) _ _ _ _ (λ bytes at. too_many _ c.args.lines at _ (omega arith) (omega arith) some e.taken.0 e.taken.1 e.taken.2)
 
 pub returns-in_err-tell_block-in-Some-clause-wrote : goal.returns-in_err-tell_block-in-Some-clause-wrote
 returns-in_err-tell_block-in-Some-clause-wrote g c =
     let cut = c.in_err-tell_block-in-Some.ensures.err in
     (c.loop-place.invariant.wrote.0 ++ _, Appends-trans _ _ _ c.loop-place.invariant.wrote.0 _ c.loop-place.invariant.wrote.1 cut.1)
+
+frame_kind : (e : FrameFault) → IsOfStream (fault_of_frame e)
+frame_kind (frames.Truncated have want) = refl
+frame_kind e = refl
+
+pub returns-in_err-read_frame-clause-kind : goal.returns-in_err-read_frame-clause-kind
+returns-in_err-read_frame-clause-kind g c =
+    let failed = c.from_residual in
+    let p = err_from_is_err_and failed.result failed.ensures.1 in
+    rw (p.1, p.2) (frame_kind c.in_err-read_frame.field-0.0)
+
+pub judge-requires-clause-alike : goal.judge-requires-clause-alike
+judge-requires-clause-alike g c = λ κs alive.
+    kept_alike _ _ _ _ c.loop-place.invariant.desks c.requires.alike
+
+pub judge-requires-clause-some : goal.judge-requires-clause-some
+judge-requires-clause-some g c = λ κs alive.
+    kept_some _ _ _ _ c.loop-place.invariant.desks c.requires.some
+
+pub returns-in_err-verdict-in-Some-clause-desks : goal.returns-in_err-verdict-in-Some-clause-desks
+returns-in_err-verdict-in-Some-clause-desks g c =
+    keeps_all_trans _ _ _ _ c.judge.new.desks c.loop-place.invariant.desks c.in_err-verdict-in-Some.ensures.desks
+
+pub returns-in_err-tell_block-in-Some-clause-desks : goal.returns-in_err-tell_block-in-Some-clause-desks
+returns-in_err-tell_block-in-Some-clause-desks g c =
+    keeps_all_trans _ _ _ _ c.judge.new.desks c.loop-place.invariant.desks c.in_ok-verdict-in-Some.ensures.desks
+
+pub returns-in_err-verdict-in-Some-clause-peer : goal.returns-in_err-verdict-in-Some-clause-peer
+returns-in_err-verdict-in-Some-clause-peer g c =
+    let failed = c.from_residual-in_err-verdict-in-Some in
+    let p = err_from_is_err_and failed.result failed.ensures.1 in
+    let e = c.in_err-verdict-in-Some.ensures in
+    let since = keeps_all_trans _ _ _ _ c.judge.new.desks c.loop-place.invariant.desks e.desks in
+    rw (p.1, p.2) (λ is.
+    let peer : c.in_err-verdict-in-Some.field-0.0 ≡ Peer = cc in
+    failed_rose g.R.Station.faults g.R.Station.offered c.args.desks.now c.judge.new.desks since
+    (failed_since g.R.Station.faults g.R.Station.offered c.args.desks.now c.loop-place.desks c.judge.new.desks c.loop-place.invariant.desks (e.cause (ap Err peer))))

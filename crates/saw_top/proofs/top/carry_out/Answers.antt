@@ -1,46 +1,51 @@
-use Rattle.std.proofs.Common.{map, string_bytes, sym, ap, ◌∙◌, Some}
+use Rattle.std.proofs.Common.{[], true, refl, sym}
+use Rattle.std.proofs.lemmas.Result.{err_from_is_err_and}
 use Rattle.std.specs.Prelude.{option_map}
-use Rattle.saw_top.specs.Command.{asks}
-use Rattle.saw_top.specs.Shows.{sides}
-use Rattle.saw_top.specs.Wishes.{task_in}
-use Rattle.saw_top.proofs.Listings.{asked, asked_prompt, asked_up_to_date, given, given_prompt, given_up_to_date, wordless}
+use Rattle.saw_messages.specs.declared.outcome.Reason.TheVariants.{Remote}
+use Rattle.saw_messages.specs.declared.talk.Action.TheVariants as actions
+use Rattle.saw_station.specs.Serving.{alone, processors_at}
+use Rattle.saw_station.specs.declared.station.NoStation.{NoStation}
+use Rattle.saw_top.specs.Outside.{outside, outside_with, shelf_end}
+use Rattle.saw_top.proofs.Carrying.{deskless, unasked, unprepared, with_ready, without_remotes}
+use Rattle.saw_top.proofs.Desks.{lone_counts}
 use Rattle.saw_top.proofs.top.carry_out.Goals as goal
 
-pub returns-in_default-clause-carries : goal.returns-in_default-clause-carries
-returns-in_default-clause-carries g c = wordless (g.V.Verifier.accepts c.args.verifier.now) (g.S.Source.unread c.args.input.now) (g.F.Shelf.files c.args.shelf.now) (map string_bytes c.args.words.now) (g.O.Sink.written c.args.output.now) (g.N.Sink.written c.args.notes.now) (sym c.in_default.ensures)
+pub returns-in_default : goal.returns-in_default
+returns-in_default g c = record {
+  carries = unasked (g.V.Verifier.accepts c.args.verifier.now) (alone []) _ (outside g.S.Source g.O.Sink g.N.Sink g.F.Shelf c.args.input.now c.args.output.now c.args.notes.now c.args.shelf.now) (sym c.in_default.ensures);
+}
 
-pub returns-in-None-clause-carries : goal.returns-in-None-clause-carries
-returns-in-None-clause-carries g c =
-    given (g.V.Verifier.accepts c.args.verifier.now) (g.S.Source.unread c.args.input.now) (g.F.Shelf.files c.args.shelf.now) (map string_bytes c.args.words.now) (task_in c.in-Some.command.task) (g.S.Source.unread c.do_given.new.input)
-    (sides (g.O.Sink.written c.args.output.now) (g.O.Sink.written c.do_given.new.output) (g.N.Sink.written c.args.notes.now) (g.N.Sink.written c.do_given.new.notes)) c.do_given.result
-    (sym c.in-Some.ensures ∙ ap (λ list. Some (asks (task_in c.in-Some.command.task) (option_map (λ name. name.now) list))) c.in-None.is) c.do_given.ensures.carries
+pub returns-in_err-vouching : goal.returns-in_err-vouching
+returns-in_err-vouching g c =
+    let p = err_from_is_err_and c.from_residual.result c.from_residual.ensures.1 in
+    let command = c.in-Some.command in
+    record {
+      carries = rw (p.1, p.2, ← c.in-Some.ensures)
+          (unprepared (g.V.Verifier.accepts c.args.verifier.now) (alone []) command.task (option_map (λ name. name.now) command.attest)
+          (outside g.S.Source g.O.Sink g.N.Sink g.F.Shelf c.args.input.now c.args.output.now c.args.notes.now c.args.shelf.now) (shelf_end g.F.Shelf c.prepare.new.shelf) c.in_err-vouching.field-0.0 c.in_err-vouching.ensures.prepares);
+    }
 
-pub returns-in-None-clause-up_to_date : goal.returns-in-None-clause-up_to_date
-returns-in-None-clause-up_to_date g c = λ is.
-    given_up_to_date (g.V.Verifier.accepts c.args.verifier.now) (g.S.Source.unread c.args.input.now) (g.F.Shelf.files c.args.shelf.now) (map string_bytes c.args.words.now) (task_in c.in-Some.command.task) (g.S.Source.unread c.do_given.new.input)
-    (sides (g.O.Sink.written c.args.output.now) (g.O.Sink.written c.do_given.new.output) (g.N.Sink.written c.args.notes.now) (g.N.Sink.written c.do_given.new.notes))
-    (sym c.in-Some.ensures ∙ ap (λ list. Some (asks (task_in c.in-Some.command.task) (option_map (λ name. name.now) list))) c.in-None.is) (c.do_given.ensures.up_to_date is)
+pub returns-in_err-lone_desk : goal.returns-in_err-lone_desk
+returns-in_err-lone_desk g c =
+    let p = err_from_is_err_and c.from_residual-in_err-lone_desk.result c.from_residual-in_err-lone_desk.ensures.1 in
+    let command = c.in-Some.command in
+    record {
+      carries = rw (p.1, p.2, ← c.in-Some.ensures)
+          (deskless (g.V.Verifier.accepts c.args.verifier.now) (alone []) command.task (option_map (λ name. name.now) command.attest)
+          (outside g.S.Source g.O.Sink g.N.Sink g.F.Shelf c.args.input.now c.args.output.now c.args.notes.now c.args.shelf.now) (shelf_end g.F.Shelf c.prepare.new.shelf) _ c.in_ok-vouching.ensures.prepares);
+    }
 
-pub returns-in-None-clause-prompt : goal.returns-in-None-clause-prompt
-returns-in-None-clause-prompt g c = λ which.
-    given_prompt (g.V.Verifier.accepts c.args.verifier.now) (g.S.Source.unread c.args.input.now) (g.F.Shelf.files c.args.shelf.now) (map string_bytes c.args.words.now) (task_in c.in-Some.command.task) (g.S.Source.unread c.do_given.new.input)
-    (sides (g.O.Sink.written c.args.output.now) (g.O.Sink.written c.do_given.new.output) (g.N.Sink.written c.args.notes.now) (g.N.Sink.written c.do_given.new.notes))
-    (sym c.in-Some.ensures ∙ ap (λ list. Some (asks (task_in c.in-Some.command.task) (option_map (λ name. name.now) list))) c.in-None.is) (c.do_given.ensures.prompt which)
-
-pub returns-in-Some-attest-clause-carries : goal.returns-in-Some-attest-clause-carries
-returns-in-Some-attest-clause-carries g c =
-    asked (g.V.Verifier.accepts c.args.verifier.now) (g.S.Source.unread c.args.input.now) (g.F.Shelf.files c.args.shelf.now) (map string_bytes c.args.words.now) (task_in c.in-Some.command.task) (g.S.Source.unread c.do_listed.new.input)
-    (sides (g.O.Sink.written c.args.output.now) (g.O.Sink.written c.do_listed.new.output) (g.N.Sink.written c.args.notes.now) (g.N.Sink.written c.do_listed.new.notes)) c.in-Some-attest.name.now
-    (sym c.in-Some.ensures ∙ ap (λ list. Some (asks (task_in c.in-Some.command.task) (option_map (λ name. name.now) list))) c.in-Some-attest.is) c.do_listed.result c.do_listed.ensures.carries
-
-pub returns-in-Some-attest-clause-up_to_date : goal.returns-in-Some-attest-clause-up_to_date
-returns-in-Some-attest-clause-up_to_date g c = λ is.
-    asked_up_to_date (g.V.Verifier.accepts c.args.verifier.now) (g.S.Source.unread c.args.input.now) (g.F.Shelf.files c.args.shelf.now) (map string_bytes c.args.words.now) (task_in c.in-Some.command.task) (g.S.Source.unread c.do_listed.new.input)
-    (sides (g.O.Sink.written c.args.output.now) (g.O.Sink.written c.do_listed.new.output) (g.N.Sink.written c.args.notes.now) (g.N.Sink.written c.do_listed.new.notes)) c.in-Some-attest.name.now
-    (sym c.in-Some.ensures ∙ ap (λ list. Some (asks (task_in c.in-Some.command.task) (option_map (λ name. name.now) list))) c.in-Some-attest.is) (c.do_listed.ensures.up_to_date is)
-
-pub returns-in-Some-attest-clause-prompt : goal.returns-in-Some-attest-clause-prompt
-returns-in-Some-attest-clause-prompt g c = λ which.
-    asked_prompt (g.V.Verifier.accepts c.args.verifier.now) (g.S.Source.unread c.args.input.now) (g.F.Shelf.files c.args.shelf.now) (map string_bytes c.args.words.now) (task_in c.in-Some.command.task) (g.S.Source.unread c.do_listed.new.input)
-    (sides (g.O.Sink.written c.args.output.now) (g.O.Sink.written c.do_listed.new.output) (g.N.Sink.written c.args.notes.now) (g.N.Sink.written c.do_listed.new.notes)) c.in-Some-attest.name.now
-    (sym c.in-Some.ensures ∙ ap (λ list. Some (asks (task_in c.in-Some.command.task) (option_map (λ name. name.now) list))) c.in-Some-attest.is) (c.do_listed.ensures.prompt which)
+pub returns : goal.returns
+returns g c =
+    let command = c.in-Some.command in
+    let at = processors_at (λ tx turns. actions.Invalid Remote) true in
+    let counts = lone_counts (λ (r : NoStation). 0) (λ (r : NoStation). []) c.in_ok-lone_desk.field-0 c.do_task.new.desks c.in_ok-lone_desk.ensures.remote c.do_task.ensures.desks in
+    record {
+      carries = rw (← c.in-Some.ensures)
+          (with_ready (g.V.Verifier.accepts c.args.verifier.now) (alone []) command.task (option_map (λ name. name.now) command.attest)
+          (outside g.S.Source g.O.Sink g.N.Sink g.F.Shelf c.args.input.now c.args.output.now c.args.notes.now c.args.shelf.now) (shelf_end g.F.Shelf c.prepare.new.shelf) _ c.in_ok-vouching.ensures.prepares
+          (outside g.S.Source g.O.Sink g.N.Sink g.F.Shelf c.do_task.new.input c.do_task.new.output c.do_task.new.notes c.prepare.new.shelf) c.do_task.result refl
+          (λ from to. without_remotes at c.in_ok-lone_desk.field-0.offers c.in_ok-lone_desk.ensures.offers _ _ counts.0 counts.1 command.task _
+          (outside_with g.S.Source g.O.Sink g.N.Sink c.args.input.now c.args.output.now c.args.notes.now from [])
+          (outside_with g.S.Source g.O.Sink g.N.Sink c.do_task.new.input c.do_task.new.output c.do_task.new.notes to []) c.do_task.result (c.do_task.ensures.does from to)));
+    }

@@ -1,0 +1,182 @@
+-- What was done of what was asked, by what was prepared.
+use Rattle.std.proofs.Common.{◌≡◌, inl, ℕ, true, false, List, [], ◌++◌, Option, Some, None, Result, Ok, Err, refl, sym, subst, arith}
+use Rattle.std.specs.Prelude.{IfSome, is_some}
+use Rattle.std.specs.Io.KnownBytes.{Appends}
+use Rattle.std.proofs.KnownBytes.{Appends-nil, Consumes-nil}
+use Rattle.saw_context.specs.Outcome.{Processors}
+use Rattle.saw_io.specs.Shelf.{Files}
+use Rattle.saw_report.specs.declared.run_fault.RunFault.{RunFault}
+use Rattle.saw_report.specs.declared.run_fault.RunFault.TheVariants as runs
+use Rattle.saw_station.specs.declared.offer.Offer.{Offer}
+use Rattle.saw_top.specs.Answers.{Prepared, answer_for, prepared_with, vouched}
+use Rattle.saw_top.specs.Command.{Wish}
+use Rattle.saw_top.specs.Headline.{CarriesOut, Does, EndsBy, GoesOn, HasCause, HasFault, RestsOn, Shows}
+use Rattle.saw_top.specs.History.{ended, history}
+use Rattle.saw_top.specs.Outside.{End, Outside, sides, sides_of}
+use Rattle.saw_top.specs.Run.{faulty, noted_by, written_by}
+use Rattle.saw_top.specs.Vouching.{Prepares, PreparesBy}
+use Rattle.saw_top.specs.World.{Accepts, world_with}
+use Rattle.saw_top.specs.declared.task.Lines.TheVariants.{All, Refused}
+use Rattle.saw_top.specs.declared.task.Task.{Task}
+use Rattle.saw_top.proofs.Prepares.{files_in}
+use Rattle.saw_top.proofs.Doing.{no_front}
+
+-- ---- nothing was taken or written
+
+module _ (processors : Processors) (bytes : List ℕ) (old told : Option (List ℕ)) where
+  begun : (task : Task) (ready : Result Prepared RunFault) → GoesOn (answer_for processors task ready bytes) bytes (Some bytes) (sides old old told told)
+  unfolding history
+  begun task ready = record {
+    frames = [];
+    rest = bytes;
+    reads = refl;
+    told = omega arith;
+    next = inl (omega arith, inl ([], Consumes-nil (Some bytes), inl (omega arith)));
+    more = [];
+    output = subst (λ (l : List ℕ). Appends old old (l ++ [])) (sym (none_written ready)) (Appends-nil old);
+    noted = [];
+    notes = subst (λ (l : List ℕ). Appends told told (l ++ [])) (sym (none_noted ready)) (Appends-nil told);
+  }
+    where
+      none_written : (ready : Result Prepared RunFault) → (answer_for processors task ready bytes).output_for [] ≡ []
+      none_written (Err fault) = refl
+      none_written (Ok made) = elim task.lines as (λ lines. written_by lines (ended [] false) ≡ []) [ All ↦ refl | Refused ↦ refl ]
+
+      none_noted : (ready : Result Prepared RunFault) → (answer_for processors task ready bytes).noted_for [] ≡ []
+      none_noted (Err fault) = refl
+      none_noted (Ok made) = elim task.lines as (λ lines. noted_by lines (ended [] false) ≡ []) [ All ↦ refl | Refused ↦ refl ]
+
+-- nothing but a fault was to be shown
+whole : (fault : RunFault) (old told : Option (List ℕ)) (bytes : List ℕ) (left : Option (List ℕ))
+    → HasFault (faulty fault) bytes left (sides old old told told) fault
+whole fault old told bytes left = (record { output = Appends-nil old; notes = Appends-nil told; code = refl }, refl)
+
+module _ (processors : Processors) (before : Outside) (held : End Files) where
+  -- only the shelf was asked
+  abbrev still : Outside
+  still = record before { shelf = held }
+
+  nothing : (task : Task) (ready : Result Prepared RunFault) (came : Result ℕ RunFault) → HasCause processors task ready before still came
+      → ((bytes : List ℕ) (left : Option (List ℕ)) → EndsBy (answer_for processors task ready bytes) bytes left (sides_of before still) came)
+      → Does processors task ready before still came
+  nothing task ready came cause ends = record { cause = cause; lines = []; aside = λ same. refl; noted = Appends-nil before.notes.tells; later = omega arith; shows = here before.input.tells }
+    where
+      here : (first : Option (List ℕ))
+          → IfSome first (λ bytes. RestsOn processors (answer_for processors task ready bytes) → Shows (answer_for processors task ready bytes) bytes first (sides_of before still) came)
+      here None = tt
+      here (Some bytes) = λ rests. record {
+        output = no_front (answer_for processors task ready bytes).output before.output.tells;
+        notes = no_front (answer_for processors task ready bytes).noted before.notes.tells;
+        prompt = begun processors bytes before.output.tells before.notes.tells task ready;
+        ends = ends bytes (Some bytes);
+      }
+
+  -- words or a list have a fault
+  faulted : (task : Task) (fault : RunFault) → HasCause processors task (Err fault) before still (Err fault)
+      → ((bytes : List ℕ) (left : Option (List ℕ)) → EndsBy (faulty fault) bytes left (sides_of before still) (Err fault))
+      → Does processors task (Err fault) before still (Err fault)
+  faulted task fault cause ends = nothing task (Err fault) (Err fault) cause ends
+
+-- the words ask for nothing
+pub unasked : (accepts : Accepts) (processors : Processors) (wish : Option Wish) (before : Outside) → wish ≡ None
+    → CarriesOut (world_with accepts processors) wish before before (Err runs.Words)
+unasked accepts processors wish before none =
+    let at = files_in before.shelf.tells in
+    rw none (record {
+      files = at.0;
+      held = at.1;
+      words = (λ same. refl, λ same. refl);
+      named = λ same. absurd cc;
+      does = faulted processors before before.shelf _ runs.Words (refl, refl) (whole runs.Words _ _);
+    })
+
+module _ (accepts : Accepts) (processors : Processors) (task : Task) (list : Option (List ℕ)) (before : Outside) (held : End Files) where
+  abbrev wish : Option Wish
+  wish = Some (record { task = task; list = list })
+
+  abbrev asked : Outside
+  asked = record before { shelf = held }
+
+  abbrev ready_by : Files → Result Prepared RunFault
+  ready_by files = prepared_with accepts files list
+
+  -- nothing was prepared
+  pub unprepared : (fault : RunFault) → Prepares accepts list before.shelf held (Err fault)
+      → CarriesOut (world_with accepts processors) wish before asked (Err fault)
+  unprepared fault prepares = by_fault fault prepares.by
+    where
+      carried : (fault : RunFault) → (fault ≡ runs.Words → ⊥) → (fault ≡ runs.FileFailed → is_some list ≡ true)
+          → Does processors task (ready_by prepares.files) before asked (Err fault) → CarriesOut (world_with accepts processors) wish before asked (Err fault)
+      carried fault other named does = record {
+        files = prepares.files;
+        held = prepares.held;
+        words = (λ same. let e : fault ≡ runs.Words = cc in absurd (other e), λ none. absurd cc);
+        named = λ same. let e : fault ≡ runs.FileFailed = cc in named e;
+        does = does;
+      }
+
+      of_list : (fault : RunFault) → (fault ≡ runs.Words → ⊥) → (fault ≡ runs.FileFailed → is_some list ≡ true) → ready_by prepares.files ≡ Err fault
+          → HasCause processors task (Err fault) before asked (Err fault)
+          → ((bytes : List ℕ) (left : Option (List ℕ)) → EndsBy (faulty fault) bytes left (sides_of before asked) (Err fault))
+          → CarriesOut (world_with accepts processors) wish before asked (Err fault)
+      of_list fault other named is cause ends = carried fault other named (subst (λ (r : Result Prepared RunFault). Does processors task r before asked (Err fault)) (sym is) (faulted processors before held task fault cause ends))
+
+      by_fault : (fault : RunFault) → PreparesBy accepts list before.shelf held (ready_by prepares.files) (Err fault)
+          → CarriesOut (world_with accepts processors) wish before asked (Err fault)
+      by_fault runs.FileMissing by = of_list runs.FileMissing (λ same. cc) (λ same. absurd cc) by.0 (refl, refl) (whole runs.FileMissing _ _)
+      by_fault runs.FileTooLong by = of_list runs.FileTooLong (λ same. cc) (λ same. absurd cc) by.0 (refl, refl) (whole runs.FileTooLong _ _)
+      by_fault (runs.BadLine line) by = of_list (runs.BadLine line) (λ same. cc) (λ same. absurd cc) by.0 (refl, refl) (whole (runs.BadLine line) _ _)
+      by_fault runs.FileFailed by = carried runs.FileFailed (λ same. cc) (λ same. by.0) (nothing processors before held task (ready_by prepares.files) (Err runs.FileFailed) (by.1, refl) (λ bytes left. tt))
+      by_fault runs.Memory by = carried runs.Memory (λ same. cc) (λ same. absurd cc) (nothing processors before held task (ready_by prepares.files) (Err runs.Memory) tt (λ bytes left. tt))
+      by_fault fault by = absurd cc
+
+  module _ (made : Accepts) (prepares : Prepares accepts list before.shelf held (Ok made)) where
+    -- memory was refused for the desks
+    pub deskless : CarriesOut (world_with accepts processors) wish before asked (Err runs.Memory)
+    deskless = record {
+      files = prepares.files;
+      held = prepares.held;
+      words = (λ same. absurd cc, λ none. absurd cc);
+      named = λ same. absurd cc;
+      does = nothing processors before held task (prepared_with accepts prepares.files list) (Err runs.Memory) tt (λ bytes left. tt);
+    }
+
+    -- the task was done; no fetch failed any more, since none was needed
+    pub with_ready : (after : Outside) (came : Result ℕ RunFault) → after.shelf ≡ held
+        → ((from to : End Files) → Does processors task (vouched made) (record before { shelf = from }) (record after { shelf = to }) came)
+        → CarriesOut (world_with accepts processors) wish before after came
+    with_ready after came same does = record {
+      files = prepares.files;
+      held = prepares.held;
+      words = (λ is. absurd (never_words is), λ none. absurd cc);
+      named = λ is. absurd (never_failed is);
+      does = subst (λ (r : Result Prepared RunFault). Does processors task r before after came) (sym prepares.by) (does before.shelf after.shelf);
+    }
+      where
+        quiet : End Files
+        quiet = record { tells = None; faults = 0 }
+
+        causes : HasCause processors task (vouched made) (record before { shelf = quiet }) (record after { shelf = quiet }) came
+        causes = (does quiet quiet).cause
+
+        never_words : came ≡ Err runs.Words → ⊥
+        never_words is =
+            let early : HasCause processors task (vouched made) (record before { shelf = quiet }) (record after { shelf = quiet }) (Err runs.Words) =
+            subst (HasCause processors task (vouched made) (record before { shelf = quiet }) (record after { shelf = quiet })) is causes in
+            cc early.0
+
+        never_failed : came ≡ Err runs.FileFailed → ⊥
+        never_failed is =
+            let failed : HasCause processors task (vouched made) (record before { shelf = quiet }) (record after { shelf = quiet }) (Err runs.FileFailed) =
+            subst (HasCause processors task (vouched made) (record before { shelf = quiet }) (record after { shelf = quiet })) is causes in
+            omega (arith, failed.0)
+
+-- without processors elsewhere
+pub without_remotes : (at : List Offer → Processors) (offers : List Offer) → offers ≡ [] → (old new : List ℕ) → old ≡ [] → new ≡ []
+    → (task : Task) (ready : Result Prepared RunFault) (before after : Outside) (came : Result ℕ RunFault)
+    → Does (at offers) task ready (record before { remotes = old }) (record after { remotes = new }) came
+    → Does (at []) task ready (record before { remotes = [] }) (record after { remotes = [] }) came
+without_remotes at offers none old new first last task ready before after came does =
+    subst (λ (given : List Offer). Does (at given) task ready (record before { remotes = [] }) (record after { remotes = [] }) came) none
+    (subst (λ (counts : List ℕ). Does (at offers) task ready (record before { remotes = counts }) (record after { remotes = [] }) came) first
+    (subst (λ (counts : List ℕ). Does (at offers) task ready (record before { remotes = old }) (record after { remotes = counts }) came) last does))

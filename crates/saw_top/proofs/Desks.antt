@@ -1,0 +1,120 @@
+-- Desks with equal offers, whose processors tell their actions.
+use Rattle.std.proofs.Common.{◌≡◌, ◌⊎◌, ◌<◌, inl, inr, ℕ, Bool, true, false, List, [], ◌∷◌, ◌++◌, length, length-append, Option, Some, None, refl, ap, subst, arith}
+use Rattle.std.specs.Prelude.{is_some}
+use Rattle.std.proofs.Math.Path.{fun_ext}
+use Rattle.saw_context.proofs.Coming.{from_told}
+use Rattle.saw_context.specs.Outcome.{Processors}
+use Rattle.saw_context.specs.Possible.{all_told, are_told}
+use Rattle.saw_context.specs.Serial.{serial}
+use Rattle.saw_crew.specs.Desks.{Failed, KeepsDesks}
+use Rattle.saw_faults.specs.Counts.{Rose}
+use Rattle.saw_journal.specs.Judgement.{Rules, Runs, rules_with}
+use Rattle.saw_journal.specs.Ledger.{IsFull, Ledger, RunsBy, Says}
+use Rattle.saw_messages.specs.Shapes.{TxShape}
+use Rattle.saw_messages.specs.declared.talk.Action.{Action}
+use Rattle.saw_messages.specs.declared.talk.Turn.{Turn}
+use Rattle.saw_node.specs.Hashes.{first_half}
+use Rattle.saw_receipts.specs.declared.block.BlockRecord.{BlockRecord}
+use Rattle.saw_receipts.specs.declared.verdict.Verdict.{Verdict}
+use Rattle.saw_receipts.specs.declared.verdict.Verdict.TheVariants.{Committed, Stored, Refused}
+use Rattle.saw_report.specs.Lines.{is_accepted}
+use Rattle.saw_station.specs.Desks.{Place, faults_by}
+use Rattle.saw_intkey.specs.Actions as intkey
+use Rattle.saw_settings.specs.Actions as settings
+use Rattle.saw_station.specs.Serving.{is_family, is_offered, processors_at}
+use Rattle.saw_station.specs.declared.offer.Offer.{Offer}
+use Rattle.saw_xo.specs.Actions as xo
+use Rattle.saw_top.specs.Outside.{SomeRose, counts_of}
+use Rattle.saw_top.specs.World.{Accepts, TellsAll, rules_by}
+
+-- ---- what stays of desks
+
+module _ {R : Type 0} (faults : R → ℕ) (offered : R → List Offer) where
+  counted : (before after : Option R) (one other : List Offer) (olds news : List (Place R)) → is_some after ≡ is_some before
+      → Rose (faults_by faults before) (faults_by faults after) ⊎ SomeRose (counts_of faults olds) (counts_of faults news)
+      → SomeRose (counts_of faults (record { remote = before; offers = one } ∷ olds)) (counts_of faults (record { remote = after; offers = other } ∷ news))
+  counted None None one other olds news same (inl rose) = absurd (omega (arith, rose))
+  counted None None one other olds news same (inr failed) = failed
+  counted None (Some remote) one other olds news same failed = absurd cc
+  counted (Some remote) None one other olds news same failed = absurd cc
+  counted (Some remote) (Some later) one other olds news same failed = failed
+
+  -- a failed remote is counted
+  pub failed_rose : (old new : List (Place R)) → KeepsDesks faults offered old new → Failed faults old new
+      → SomeRose (counts_of faults old) (counts_of faults new)
+  failed_rose [] news keeps failed = absurd failed
+  failed_rose (old ∷ olds) [] keeps failed = absurd failed
+  failed_rose (old ∷ olds) (new ∷ news) keeps (inl rose) = counted old.remote new.remote old.offers new.offers olds news keeps.0.remote (inl rose)
+  failed_rose (old ∷ olds) (new ∷ news) keeps (inr failed) = counted old.remote new.remote old.offers new.offers olds news keeps.0.remote (inr (failed_rose olds news keeps.1 failed))
+
+-- ---- the built-in processors alone
+
+none_left : {R : Type 0} (before after : Option R) → is_some after ≡ is_some before → before ≡ None → after ≡ None
+none_left before None same none = refl
+none_left None (Some remote) same none = absurd cc
+none_left (Some later) (Some remote) same none = absurd cc
+
+none_counted : {R : Type 0} (faults : R → ℕ) (remote : Option R) (offers : List Offer) → remote ≡ None → counts_of faults (record { remote = remote; offers = offers } ∷ []) ≡ []
+none_counted faults None offers none = refl
+none_counted faults (Some remote) offers none = absurd cc
+
+-- a desk without a remote counts nothing, also later
+pub lone_counts : {R : Type 0} (faults : R → ℕ) (offered : R → List Offer) (desk : Place R) (news : List (Place R)) → desk.remote ≡ None
+    → KeepsDesks faults offered (desk ∷ []) news
+    → (counts_of faults (desk ∷ []) ≡ []) × (counts_of faults news ≡ [])
+lone_counts faults offered desk [] none keeps = absurd keeps
+lone_counts faults offered desk (new ∷ []) none keeps = (none_counted faults desk.remote desk.offers none, none_counted faults new.remote new.offers (none_left desk.remote new.remote keeps.0.remote none))
+lone_counts faults offered desk (new ∷ (other ∷ others)) none keeps = absurd keeps.1
+
+-- ---- all is told
+
+-- a built-in family is told, and so is what a remote serves that tells its actions
+module _ (next : TxShape → List Turn → Action) (offers : List Offer) (family version : List ℕ) where
+  abbrev IsTold : Type 0
+  IsTold = (processors_at next true offers).tells family version ≡ true
+
+  abbrev Has : List ℕ → List ℕ → Bool → Type 0
+  Has name its_version b = is_family name its_version family version ≡ b
+
+  by_family : (one two three offered : Bool) → Has intkey.family_name intkey.family_version one → Has xo.family_name xo.family_version two
+      → Has settings.family_name settings.family_version three
+      → is_offered offers family version ≡ offered → IsTold
+  by_family true two three offered a b c d = rw a refl
+  by_family false true three offered a b c d = rw (a, b) refl
+  by_family false false true offered a b c d = rw (a, b, c) refl
+  by_family false false false true a b c d = rw (a, b, c, d) refl
+  by_family false false false false a b c d = rw (a, b, c, d) refl
+
+-- with a remote that tells its actions, or none
+pub tells_all : (next : TxShape → List Turn → Action) (offers : List Offer) → TellsAll (processors_at next true offers)
+tells_all next offers family version = by_family next offers family version _ _ _ _ refl refl refl refl
+
+module _ (processors : Processors) (told : TellsAll processors) where
+  txs_told : (txs : List TxShape) → all_told processors txs ≡ true
+  txs_told [] = refl
+  txs_told (tx ∷ txs) = rw (told tx.header.family_name tx.header.family_version) (txs_told txs)
+
+  batches_told : (batches : List (List TxShape)) → are_told processors batches ≡ true
+  batches_told [] = refl
+  batches_told (txs ∷ batches) = rw (txs_told txs) (batches_told batches)
+
+module _ (processors : Processors) (told : TellsAll processors) (accepts : Accepts) (old : Ledger) (content : List ℕ) (runs : Runs) (by : RunsBy processors runs) where
+  one_way : runs ≡ (λ m batches. serial processors m batches)
+  one_way = fun_ext (λ m. fun_ext (λ batches. from_told processors [] m batches (runs m batches) (batches_told processors told batches) (by.serial m batches)))
+
+  pub says_told : (verdict : Verdict) (new : Ledger) → Says (rules_with first_half accepts runs) old content verdict new
+      → Says (rules_by accepts processors) old content verdict new
+  says_told verdict new says = subst (λ (runs : Runs). Says (rules_with first_half accepts runs) old content verdict new) one_way says
+
+  pub full_told : IsFull (rules_with first_half accepts runs) old content → IsFull (rules_by accepts processors) old content
+  full_told full = subst (λ (runs : Runs). IsFull (rules_with first_half accepts runs) old content) one_way full
+
+grown_some : (blocks : List BlockRecord) (block : BlockRecord) (more : List BlockRecord) → more ≡ blocks ++ block ∷ [] → 0 < length more
+grown_some blocks block more is = omega (arith, ap (λ (l : List BlockRecord). length l) is, length-append blocks (block ∷ []))
+
+-- an accepted block is there, whatever way its batches were run
+pub accepted_some : (rules : Rules) (old : Ledger) (content : List ℕ) (verdict : Verdict) (new : Ledger) → Says rules old content verdict new
+    → is_accepted verdict ≡ true → 0 < length new.blocks
+accepted_some rules old content Committed new says is = grown_some old.blocks says.kept.block new.blocks (ap (λ (l : Ledger). l.blocks) says.grown_by)
+accepted_some rules old content Stored new says is = grown_some old.blocks says.kept.block new.blocks (ap (λ (l : Ledger). l.blocks) says.grown_by)
+accepted_some rules old content (Refused fault) new says is = absurd cc

@@ -1,0 +1,115 @@
+-- That options are read in both forms, and in any order.
+use Rattle.std.proofs.Common.{◌≡◌, ℕ, ◌==◌, Bool, true, false, List, [], ◌∷◌, ◌++◌, length, map, cond, Option, Some, None, option_map, unwrap_or, refl, sym, ap, ◌∙◌, arith}
+use Rattle.std.specs.Prelude.{◌&&◌, ◌||◌, not}
+use Rattle.std.specs.Cmp.Lexicographic.{nat_list_eq_equiv}
+use Rattle.std.specs.List.{AllByRecursion, flat_map, list_all, list_any, position_or_len}
+use Rattle.std.specs.Str.{bytes_eq}
+use Rattle.std.proofs.Math.Seq.{drop-append-add, take-append_seam}
+use Rattle.std.proofs.lemmas.Bool.{and_parts, false≢true, or_parts}
+use Rattle.std.proofs.lemmas.List.{map-append}
+use Rattle.std.proofs.lemmas.Slice.Eq.{bytes_eq-Decides}
+use mathlib.Core.Path.{fun_ext}
+use Rattle.saw_messages.specs.Distinct.{are_distinct}
+use Rattle.saw_top.specs.Command.{Given, Wish, of_names, asks, attest, prefix, state_under, are_of, given_in, is_joined, is_known, names_of, value_of, wish_with}
+use Rattle.saw_top.specs.declared.task.Ending.TheVariants.{Head}
+use Rattle.saw_top.specs.declared.task.Lines.TheVariants.{All}
+use Rattle.saw_top.specs.OptionLaws.{IsOption, spelled}
+
+-- ---- both forms
+
+-- a name without `=` ends at the first `=` behind it
+ends : (name value : List ℕ) → is_joined name ≡ false
+    → (is_joined (name ++ 61 ∷ value) ≡ true) × (position_or_len (λ b. b == 61) (name ++ 61 ∷ value) ≡ length name)
+ends [] value apart = (refl, refl)
+ends (b ∷ name) value apart =
+    let parts = or_parts (b == 61) (is_joined name) apart in
+    let later = ends name value parts.1 in
+    rw parts.0 (later.0, omega (arith, later.1))
+
+-- an option in either form is the first of those that the words are
+option_read : (joined : Bool) (option : Given) (words : List (List ℕ)) → IsOption option
+    → given_in None (spelled joined option ++ words) ≡ option_map (λ given. option ∷ given) (given_in None words)
+option_read true (name, value) words is =
+    let at = ends name value is.0 in
+    rw (at.0, at.1, take-append_seam name (61 ∷ value), drop-append-add name (61 ∷ value) 1, is.1) refl
+option_read false (name, value) words is = rw (is.0, is.1) refl
+
+pub options_are_read : (options : List (Bool × Given)) → AllByRecursion (λ option. IsOption option.1) options
+    → given_in None (flat_map (λ option. spelled option.0 option.1) options) ≡ Some (map (λ option. option.1) options)
+options_are_read [] all = refl
+options_are_read ((joined, option) ∷ options) all = option_read joined option _ all.0 ∙ ap (option_map (λ given. option ∷ given)) (options_are_read options all.1)
+
+-- ---- any order
+
+-- two tests in either order
+or_swapped : (a b c : Bool) → (a || (b || c)) ≡ (b || (a || c))
+or_swapped true true c = refl
+or_swapped true false c = refl
+or_swapped false b c = refl
+
+and_swapped : (a b c : Bool) → (a && (b && c)) ≡ (b && (a && c))
+and_swapped true b c = refl
+and_swapped false true c = refl
+and_swapped false false c = refl
+
+-- two neighbours in either order, for a test of any
+any_swapped : {X : Type 0} (p : X → Bool) (before after : List X) (one other : X)
+    → list_any p (before ++ one ∷ other ∷ after) ≡ list_any p (before ++ other ∷ one ∷ after)
+any_swapped p [] after one other = or_swapped (p one) (p other) (list_any p after)
+any_swapped p (first ∷ before) after one other = ap (λ b. p first || b) (any_swapped p before after one other)
+
+-- the same for a test of all
+all_swapped : {X : Type 0} (p : X → Bool) (before after : List X) (one other : X)
+    → list_all p (before ++ one ∷ other ∷ after) ≡ list_all p (before ++ other ∷ one ∷ after)
+all_swapped p [] after one other = and_swapped (p one) (p other) (list_all p after)
+all_swapped p (first ∷ before) after one other = ap (λ b. p first && b) (all_swapped p before after one other)
+
+-- the same for names that all differ
+distinct_swapped : (before after : List (List ℕ)) (one other : List ℕ)
+    → are_distinct (before ++ one ∷ other ∷ after) ≡ are_distinct (before ++ other ∷ one ∷ after)
+distinct_swapped [] after one other = rw (nat_list_eq_equiv.symm one other) (split (bytes_eq other one) (list_any (λ name. bytes_eq name one) after) (list_any (λ name. bytes_eq name other) after) (are_distinct after))
+  where
+    split : (same a b c : Bool) → (not (same || a) && (not b && c)) ≡ (not (same || b) && (not a && c))
+    split true a b c = refl
+    split false a b c = and_swapped (not a) (not b) c
+distinct_swapped (first ∷ before) after one other =
+    rw (any_swapped (λ name. bytes_eq name first) before after one other, distinct_swapped before after one other) refl
+
+-- the values of distinct names
+value_swapped : (before after : List Given) (one other : Given) → are_distinct (names_of (before ++ one ∷ other ∷ after)) ≡ true → (name : List ℕ)
+    → value_of name (before ++ one ∷ other ∷ after) ≡ value_of name (before ++ other ∷ one ∷ after)
+value_swapped [] after one other distinct name =
+    split (bytes_eq one.0 name) (bytes_eq other.0 name) (λ first second.
+    let same = (bytes_eq-Decides other.0 one.0).1 ((bytes_eq-Decides other.0 name).0 second ∙ sym ((bytes_eq-Decides one.0 name).0 first)) in
+    false≢true (rw same at distinct))
+  where
+    split : (a b : Bool) → (a ≡ true → b ≡ true → ⊥)
+        → cond a (Some one.1) (cond b (Some other.1) (value_of name after)) ≡ cond b (Some other.1) (cond a (Some one.1) (value_of name after))
+    split true true apart = absurd (apart refl refl)
+    split true false apart = refl
+    split false b apart = refl
+value_swapped (first ∷ before) after one other distinct name =
+    ap (cond (bytes_eq first.0 name) (Some first.1)) (value_swapped before after one other (and_parts _ _ distinct).1 name)
+
+-- what is made of the values of options of these names
+made_swapped : (names : List (List ℕ)) (made : (List ℕ → Option (List ℕ)) → Option Wish) (before after : List Given) (one other : Given)
+    → of_names names made (before ++ one ∷ other ∷ after) ≡ of_names names made (before ++ other ∷ one ∷ after)
+made_swapped names made before after one other =
+    let given = before ++ one ∷ other ∷ after in
+    let swapped = before ++ other ∷ one ∷ after in
+    let same : are_of names given ≡ are_of names swapped =
+    rw (all_swapped (is_known names) before after one other) (ap (λ b. list_all (is_known names) swapped && b) (rw (map-append, map-append) (distinct_swapped (names_of before) (names_of after) one.0 other.0))) in
+    split (are_of names given) (are_of names swapped) same (λ fine.
+    ap made (fun_ext (value_swapped before after one other (and_parts (list_all (is_known names) given) (are_distinct (names_of given)) fine).1)))
+  where
+    split : (a b : Bool) {x y : Option Wish} → a ≡ b → (a ≡ true → x ≡ y) → cond a x None ≡ cond b y None
+    split true b same values = rw (← same) (values refl)
+    split false b same values = rw (← same) refl
+
+pub order_of_options_does_not_show : (word : List ℕ) (before after : List Given) (one other : Given)
+    → wish_with word (Some (before ++ one ∷ other ∷ after)) ≡ wish_with word (Some (before ++ other ∷ one ∷ after))
+order_of_options_does_not_show word before after one other =
+    rw (
+      made_swapped (attest ∷ []) (λ value. Some (asks All Head (value attest))) before after one other,
+      made_swapped (attest ∷ prefix ∷ []) (λ value. state_under (unwrap_or (value prefix) []) (value attest)) before after one other,
+    ) refl

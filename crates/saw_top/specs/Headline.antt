@@ -1,0 +1,190 @@
+-- What a run does: it gives the answer, or a front of it and the fault that ended it.
+use Rattle.std.specs.Prelude.{◌≡◌, ◌⊎◌, ◌↔◌, ◌<◌, ◌≤◌, ℕ, true, List, [], ◌++◌, length, take, is_some, Option, Some, None, Result, Ok, Err, IfSome, if◌then◌else◌}
+use Rattle.std.specs.Io.KnownBytes.{Appends, Consumes, IsAtEnd}
+use Rattle.saw_context.specs.Outcome.{Processors}
+use Rattle.saw_faults.specs.Counts.{Rose}
+use Rattle.saw_io.specs.Frame.{IsPart}
+use Rattle.saw_io.specs.Shelf.{Files}
+use Rattle.saw_node.specs.Hashes.{first_half}
+use Rattle.saw_report.specs.RunFaults.{fault_line, status_of}
+use Rattle.saw_report.specs.declared.run_fault.RunFault.{RunFault}
+use Rattle.saw_report.specs.declared.run_fault.RunFault.TheVariants.{Words, Truncated, TooLong, Read, Write, Peer, Memory, FileMissing, FileTooLong, FileFailed, BadLine}
+use Rattle.saw_top.specs.Answers.{Prepared, answer_for, answer_of, prepared, task_by}
+use Rattle.saw_top.specs.Command.{Wish, wish_of}
+use Rattle.saw_top.specs.Faults.{is_told}
+use Rattle.saw_top.specs.History.{RootsTell}
+use Rattle.saw_top.specs.Judging.{StopsAtLength, TakesNext}
+use Rattle.saw_top.specs.Limits.{max_frames}
+use Rattle.saw_top.specs.Outside.{End, Outside, Sides, SomeFailed, SomeRose, WritesFront, sides_of}
+use Rattle.saw_top.specs.Run.{Answer, notes_of}
+use Rattle.saw_top.specs.Stream.{Reads}
+use Rattle.saw_top.specs.World.{TellsAll, World}
+use Rattle.saw_top.specs.declared.task.Ending.{Ending}
+use Rattle.saw_top.specs.declared.task.Ending.TheVariants.{Head, Entries}
+use Rattle.saw_top.specs.declared.task.Lines.TheVariants.{All}
+use Rattle.saw_top.specs.declared.task.Task.{Task}
+
+-- ---- what was written of an answer
+
+-- an answer was given: output, notes and status
+pub record Gives (answer : Answer) (written : Sides) (status : ℕ) : Type 0 where
+  pub output : Appends written.old written.new answer.output
+  pub notes : Appends written.told_old written.told_new (notes_of answer)
+  pub code : status ≡ answer.status
+
+module _ (answer : Answer) (bytes : List ℕ) (left : Option (List ℕ)) (written : Sides) where
+  -- all of it but the line of its fault
+  pub record IsWhole (status : ℕ) : Type 0 where
+    pub output : Appends written.old written.new answer.output
+    pub notes : Appends written.told_old written.told_new answer.noted
+    pub code : status ≡ answer.status
+
+  -- What was read is whole frames that have a verdict, with their lines written, and at most what comes next. So nothing is
+  -- read behind a block without room, or behind as many frames as may be.
+  pub record GoesOn : Type 0 where
+    pub frames : List (List ℕ)
+    pub rest : List ℕ
+    pub reads : Reads frames bytes rest
+    pub told : length frames ≤ answer.judged
+    pub next : TakesNext (length frames) rest left
+    pub more : List ℕ
+    pub output : Appends written.old written.new (answer.output_for frames ++ more)
+    pub noted : List ℕ
+    pub notes : Appends written.told_old written.told_new (answer.noted_for frames ++ noted)
+
+  -- What was read is whole frames, with their lines written and no more, and less than a frame.
+  pub record KeepsUp : Type 0 where
+    pub frames : List (List ℕ)
+    pub rest : List ℕ
+    pub reads : Reads frames bytes rest
+    pub told : length frames ≤ answer.judged
+    pub few : length frames ≤ max_frames
+    pub taken : List ℕ
+    pub consumed : Consumes (Some rest) left taken
+    pub part : IsPart taken
+    pub output : Appends written.old written.new (answer.output_for frames)
+    pub notes : Appends written.told_old written.told_new (answer.noted_for frames)
+
+  -- all of it, and its one fault
+  abbrev pub HasFault : RunFault → Type 0
+  HasFault fault = IsWhole (status_of fault) × (answer.fault ≡ Some fault)
+
+  -- what more is so, by how it ended: all of it and its fault, but where the outside failed or memory was refused
+  abbrev pub EndsBy : Result ℕ RunFault → Type 0
+  EndsBy (Ok status) = IsWhole status × (answer.fault ≡ None)
+  EndsBy (Err (Truncated have want)) = HasFault (Truncated have want) × IsAtEnd left
+  EndsBy (Err (TooLong size)) = HasFault (TooLong size) × StopsAtLength bytes left
+  EndsBy (Err Read) = KeepsUp
+  EndsBy (Err Write) = Unit {0}
+  EndsBy (Err Peer) = Unit {0}
+  EndsBy (Err Memory) = Unit {0}
+  EndsBy (Err FileFailed) = Unit {0}
+  EndsBy (Err fault) = HasFault fault
+
+  -- however a run came to its end, a front of both was written, and each line in time; and all of it, by how it did
+  pub record Shows (came : Result ℕ RunFault) : Type 0 where
+    pub output : WritesFront answer.output written.old written.new
+    pub notes : WritesFront answer.noted written.told_old written.told_new
+    pub prompt : GoesOn
+    pub ends : EndsBy came
+
+-- ---- what a promise of an answer rests on
+
+-- processors that tell their actions, and maps of blocks that have roots which tell them apart
+pub record RestsOn (processors : Processors) (answer : Answer) : Type 0 where
+  pub told : TellsAll processors
+  pub roots : RootsTell first_half answer.maps
+
+-- ---- what a run comes to: a status, or the fault that ended it
+
+-- the statuses of a run that no fault ended
+abbrev pub IsDone : Ending → ℕ → Type 0
+IsDone Head status = (status ≡ 0) ⊎ (status ≡ 1)
+IsDone (Entries prefix) status = (status ≡ 0) ⊎ (status ≡ 8)
+
+module _ (processors : Processors) (task : Task) (ready : Result Prepared RunFault) (before after : Outside) where
+  abbrev pub IsReady : Type 0
+  IsReady = (made : Prepared) × (ready ≡ Ok made)
+
+  -- only the shelf was asked
+  abbrev pub IsStill : Type 0
+  IsStill = after ≡ record before { shelf = after.shelf }
+
+  -- words and files have this fault, and nothing was read or written
+  abbrev pub ComesEarly : RunFault → Type 0
+  ComesEarly fault = (ready ≡ Err fault) × IsStill
+
+  -- what it comes from, also where the input tells nothing: words and files are ready, unless it has their fault
+  abbrev pub HasCause : Result ℕ RunFault → Type 0
+  HasCause (Ok status) = IsReady × IsDone task.ending status
+  HasCause (Err Words) = ComesEarly Words
+  HasCause (Err FileMissing) = ComesEarly FileMissing
+  HasCause (Err FileTooLong) = ComesEarly FileTooLong
+  HasCause (Err (BadLine line)) = ComesEarly (BadLine line)
+  HasCause (Err FileFailed) = Rose before.shelf.faults after.shelf.faults × IsStill
+  HasCause (Err Memory) = Unit {0}
+  HasCause (Err Read) = IsReady × Rose before.input.faults after.input.faults
+  HasCause (Err Write) =
+      IsReady × (Rose before.output.faults after.output.faults ⊎ Rose before.notes.faults after.notes.faults)
+  HasCause (Err Peer) = IsReady × SomeRose before.remotes after.remotes
+  HasCause (Err fault) = IsReady
+
+  -- what was done with words and files that prepare this
+  pub record Does (came : Result ℕ RunFault) : Type 0 where
+    pub cause : HasCause came
+    pub lines : List ℕ
+    pub aside : task.lines ≡ All → lines ≡ []
+    pub noted : Appends before.notes.tells after.notes.tells lines
+    pub later : before.notes.faults ≤ after.notes.faults
+    pub shows : IfSome before.input.tells (λ bytes. let answer = answer_for processors task ready bytes in
+        RestsOn processors answer → Shows answer bytes after.input.tells (sides_of before after) came)
+
+abbrev pub list_in : Option Wish → Option (List ℕ)
+list_in None = None
+list_in (Some wish) = wish.list
+
+-- What was done of what was asked. Files that are not told are some files.
+pub record CarriesOut (given : Files → World) (wish : Option Wish) (before after : Outside)
+    (came : Result ℕ RunFault) : Type 0 where
+  pub files : Files
+  pub held : IfSome before.shelf.tells (λ told. files ≡ told)
+  pub words : (came ≡ Err Words) ↔ (wish ≡ None)
+  pub named : came ≡ Err FileFailed → is_some (list_in wish) ≡ true
+  pub does : Does (given files).processors (task_by wish) (prepared (given files) wish) before after came
+
+-- ---- what is told of it
+
+-- the status where the notes find no memory for the line of a fault
+abbrev pub untold_status : RunFault → ℕ
+untold_status fault = if is_told fault then 7 else status_of fault
+
+-- all of the fault's line was told, or less than it, since writing failed or memory was refused
+abbrev pub TellsFault : RunFault → End (List ℕ) → End (List ℕ) → ℕ → Type 0
+TellsFault fault before after status =
+    ((status ≡ status_of fault) × Appends before.tells after.tells (fault_line fault))
+    ⊎ ((n : ℕ) × (n < length (fault_line fault)) × Appends before.tells after.tells (take n (fault_line fault))
+    × (((status ≡ status_of fault) × Rose before.faults after.faults) ⊎ (status ≡ untold_status fault)))
+
+-- what was told behind the lines of blocks
+abbrev pub TellsEnd : Result ℕ RunFault → End (List ℕ) → End (List ℕ) → ℕ → Type 0
+TellsEnd (Ok code) before after status = (status ≡ code) × (after ≡ before)
+TellsEnd (Err fault) before after status =
+    TellsFault fault before after status × (before.faults ≤ after.faults)
+
+-- ---- the two promises of a run
+
+module _ (given : Files → World) (words : List (List ℕ)) (before after : Outside) (status : ℕ) where
+  -- Output, notes and status are the answer, where memory was not refused and no call failed.
+  pub record IsAnswered : Type 0 where
+    pub files : Files
+    pub held : IfSome before.shelf.tells (λ told. files ≡ told)
+    pub gives : IfSome before.input.tells (λ bytes. let answer = answer_of (given files) words bytes in
+        RestsOn (given files).processors answer
+        → (status ≡ 7) ⊎ (SomeFailed before after ⊎ Gives answer (sides_of before after) status))
+
+  -- How it ended: what it came to, what was done up to there, and what the notes tell then.
+  pub record HasEnded : Type 0 where
+    pub came : Result ℕ RunFault
+    pub notes : End (List ℕ)
+    pub done : CarriesOut given (wish_of words) before (record after { notes = notes }) came
+    pub told : TellsEnd came notes after.notes status

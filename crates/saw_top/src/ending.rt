@@ -1,0 +1,132 @@
+//! What is written behind the lines of blocks: the head's line, or the entries of the head's state.
+
+ghost use Rattle.std.specs.Prelude.{◌≡◌, ◌≤◌, ◌⊎◌, ℕ, take, IfOk, IfErr, OnErr, OnOk, IsErrOf};
+ghost use Rattle.std.specs.Io.KnownBytes.{Appends};
+ghost use Rattle.std.specs.List.{flat_map};
+ghost use Rattle.saw_faults.specs.Counts.{Rose};
+ghost use Rattle.saw_journal.specs.Heads.{head_of};
+ghost use Rattle.saw_journal.specs.Ledger.{map_under};
+ghost use Rattle.saw_report.specs.Lines.{head_line, listed_line};
+ghost use Rattle.saw_top.specs.Listing.{listing, listing_status};
+ghost use Rattle.saw_top.specs.Run.{status_by};
+ghost use Rattle.saw_top.specs.Ends.{code_at, text_at};
+
+use crate::Status;
+use crate::task::Ending;
+use saw_address::Prefix;
+use saw_io::{Sink, write_all};
+use saw_journal::Journal;
+use saw_node::Sha512Half;
+use saw_receipts::{Listed, Tree};
+use saw_report::{RunFault, head_line, listed_line};
+use std::alloc::Global;
+
+/// Writes the end, and gives the status. After a fault a part of it was written.
+pub(crate) fn finish<O: Sink>(
+    alloc: Global,
+    output: &mut O,
+    ending: &Ending,
+    journal: &Journal<Sha512Half>,
+    refused: bool,
+) -> Result<Status, RunFault>
+    ensures ok { IfOk result (λ status. Appends (O.written output.old) (O.written output.new)
+        (text_at ending.now journal.now)) }
+    ensures status { IfOk result (λ status. status ≡ code_at ending.now journal.now refused) }
+    ensures err { OnErr result ((n : ℕ) × Appends (O.written output.old) (O.written output.new)
+        (take n (text_at ending.now journal.now))) }
+    ensures fault { IfErr result (λ e. (e ≡ RunFault.Write) ⊎ (e ≡ RunFault.Memory)) }
+    ensures later { O.faults output.old ≤ O.faults output.new }
+    ensures cause { IsErrOf result RunFault.Write → Rose (O.faults output.old) (O.faults output.new) }
+{
+    match ending {
+        Ending::Head => tell_head(alloc, output, journal, refused),
+        Ending::Entries { prefix } => list_head(alloc, output, journal, prefix),
+    }
+}
+
+// Writes the head's line. After a fault a part of the line was written.
+fn tell_head<O: Sink>(
+    alloc: Global,
+    output: &mut O,
+    journal: &Journal<Sha512Half>,
+    refused: bool,
+) -> Result<Status, RunFault>
+    ensures ok { IfOk result (λ status. Appends (O.written output.old) (O.written output.new)
+        (head_line (head_of journal.now.blocks))) }
+    ensures status { IfOk result (λ status. status ≡ status_by refused) }
+    ensures err { OnErr result ((n : ℕ) × Appends (O.written output.old) (O.written output.new)
+        (take n (head_line (head_of journal.now.blocks)))) }
+    ensures fault { IfErr result (λ e. (e ≡ RunFault.Write) ⊎ (e ≡ RunFault.Memory)) }
+    ensures later { O.faults output.old ≤ O.faults output.new }
+    ensures cause { IsErrOf result RunFault.Write → Rose (O.faults output.old) (O.faults output.new) }
+{
+    let line = head_line(alloc, journal.head())?;
+    write_all(output, &line)?;
+    Ok(Status::new(if refused { 1 } else { 0 }))
+}
+
+// After a fault a part of the lines was written.
+fn write_listed<O: Sink>(alloc: Global, output: &mut O, listed: &[Listed]) -> Result<(), RunFault>
+    ensures ok { OnOk result (Appends (O.written output.old) (O.written output.new)
+        (flat_map listed_line listed.now)) }
+    ensures err { OnErr result ((n : ℕ) × Appends (O.written output.old) (O.written output.new)
+        (take n (flat_map listed_line listed.now))) }
+    ensures fault { IfErr result (λ e. (e ≡ RunFault.Write) ⊎ (e ≡ RunFault.Memory)) }
+    ensures later { O.faults output.old ≤ O.faults output.new }
+    ensures cause { IsErrOf result RunFault.Write → Rose (O.faults output.old) (O.faults output.new) }
+{
+    for entry in listed {
+        let line = listed_line(alloc, entry)?;
+        write_all(output, &line)?;
+    }
+    Ok(())
+}
+
+// Writes the entries of a state under a prefix, and gives the status.
+fn list_tree<O: Sink>(
+    alloc: Global,
+    output: &mut O,
+    tree: &Tree<'_, Sha512Half>,
+    prefix: &Prefix,
+) -> Result<Status, RunFault>
+    ensures ok { IfOk result (λ status. Appends (O.written output.old) (O.written output.new)
+        (listing prefix.now tree.now)) }
+    ensures status { IfOk result (λ status. status ≡ listing_status prefix.now tree.now) }
+    ensures err { OnErr result ((n : ℕ) × Appends (O.written output.old) (O.written output.new)
+        (take n (listing prefix.now tree.now))) }
+    ensures fault { IfErr result (λ e. (e ≡ RunFault.Write) ⊎ (e ≡ RunFault.Memory)) }
+    ensures later { O.faults output.old ≤ O.faults output.new }
+    ensures cause { IsErrOf result RunFault.Write → Rose (O.faults output.old) (O.faults output.new) }
+{
+    let listed = tree.list(prefix)?;
+    write_listed(alloc, output, &listed)?;
+    Ok(Status::new(if listed.is_empty() { 8 } else { 0 }))
+}
+
+// Writes the entries of the head's state under a prefix, and gives the status. After a fault a part of them was written.
+fn list_head<O: Sink>(
+    alloc: Global,
+    output: &mut O,
+    journal: &Journal<Sha512Half>,
+    prefix: &Prefix,
+) -> Result<Status, RunFault>
+    ensures ok { let state = map_under journal.now.states (head_of journal.now.blocks) in
+        IfOk result (λ status.
+        Appends (O.written output.old) (O.written output.new) (listing prefix.now state)) }
+    ensures status { let state = map_under journal.now.states (head_of journal.now.blocks) in
+        IfOk result (λ status. status ≡ listing_status prefix.now state) }
+    ensures err { let state = map_under journal.now.states (head_of journal.now.blocks) in
+        OnErr result ((n : ℕ)
+        × Appends (O.written output.old) (O.written output.new) (take n (listing prefix.now state))) }
+    ensures fault { IfErr result (λ e. (e ≡ RunFault.Write) ⊎ (e ≡ RunFault.Memory)) }
+    ensures later { O.faults output.old ≤ O.faults output.new }
+    ensures cause { IsErrOf result RunFault.Write → Rose (O.faults output.old) (O.faults output.new) }
+{
+    match journal.head() {
+        None => Ok(Status::new(8)),
+        Some(head) => match journal.state().tree(&head.root) {
+            None => unreachable!(),
+            Some(tree) => list_tree(alloc, output, &tree, prefix),
+        },
+    }
+}

@@ -1,0 +1,26 @@
+//! What is done with the blocks of a stream.
+
+use saw_address::Prefix;
+
+/// Which blocks have a line: all on the output, or the refused ones on the notes.
+#[derive(Clone, Copy, Debug, PartialEq, Eq)]
+pub(crate) enum Lines {
+    All,
+    Refused,
+}
+
+/// What is written behind them.
+#[derive(Drop)]
+pub(crate) enum Ending {
+    /// The head's line.
+    Head,
+    /// The entries of the head's state under a prefix.
+    Entries { prefix: Prefix },
+}
+
+/// The lines of the blocks, and then the end.
+#[derive(Drop)]
+pub(crate) struct Task {
+    pub(crate) lines: Lines,
+    pub(crate) ending: Ending,
+}

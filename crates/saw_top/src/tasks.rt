@@ -1,0 +1,92 @@
+//! A task over the blocks of a stream.
+
+ghost use Rattle.std.specs.Prelude.{◌≡◌, ◌<◌, [], length};
+ghost use Rattle.saw_crew.specs.Desks.{HaveSameOffers, KeepsDesks, offers_at};
+ghost use Rattle.saw_io.specs.Shelf.{Files};
+ghost use Rattle.saw_station.specs.Serving.{processors_at};
+ghost use Rattle.saw_top.specs.Answers.{vouched};
+ghost use Rattle.saw_top.specs.Headline.{Does};
+ghost use Rattle.saw_top.specs.Judged.{JudgesFor};
+ghost use Rattle.saw_top.specs.Limits.{max_blocks};
+ghost use Rattle.saw_top.specs.Outside.{End, counts_of, outside_with};
+
+use crate::Status;
+use crate::ending::finish;
+use crate::stream::{MAX_BLOCKS, judge_stream};
+use crate::task::{Lines, Task};
+use saw_io::{Sink, Source};
+use saw_journal::Journal;
+use saw_node::Sha512Half;
+use saw_report::RunFault;
+use saw_station::{Desk, Station};
+use saw_verify::Verifier;
+use std::alloc::Global;
+
+// Judges the blocks of the input, and writes their lines where they belong.
+fn judge_lines<S: Source, O: Sink, N: Sink, V: Verifier, R: Station>(
+    alloc: Global,
+    lines: Lines,
+    input: &mut S,
+    output: &mut O,
+    notes: &mut N,
+    verifier: &V,
+    desks: &mut [Desk<R>],
+    journal: &mut Journal<Sha512Half>,
+) -> Result<bool, RunFault>
+    requires fresh { journal.old.blocks ≡ [] }
+    requires limit { journal.old.limit ≡ max_blocks }
+    requires some { 0 < length desks.old }
+    requires alike { HaveSameOffers desks.old }
+    ensures judges { let processors = processors_at R.next R.tells (offers_at desks.old) in
+        let world = outside_with S.Source O.Sink N.Sink in
+        (held new_held : End Files) → JudgesFor processors (V.accepts verifier.now) lines
+        (world input.old output.old notes.old held (counts_of R.faults desks.old))
+        (world input.new output.new notes.new new_held (counts_of R.faults desks.new)) journal.new result }
+    ensures desks { KeepsDesks R.faults R.offered desks.old desks.new }
+{
+    match lines {
+        Lines::All => judge_stream(alloc, input, output, Lines::All, verifier, desks, journal),
+        Lines::Refused => judge_stream(
+            alloc,
+            input,
+            notes,
+            Lines::Refused,
+            verifier,
+            desks,
+            journal,
+        ),
+    }
+}
+
+/// Does a task over the blocks of the input. The desks keep their offers and their remotes.
+pub(crate) fn do_task<S: Source, O: Sink, N: Sink, V: Verifier, R: Station>(
+    alloc: Global,
+    task: &Task,
+    input: &mut S,
+    output: &mut O,
+    notes: &mut N,
+    verifier: &V,
+    desks: &mut [Desk<R>],
+) -> Result<Status, RunFault>
+    requires some { 0 < length desks.old }
+    requires alike { HaveSameOffers desks.old }
+    ensures does { let processors = processors_at R.next R.tells (offers_at desks.old) in
+        let world = outside_with S.Source O.Sink N.Sink in
+        (held new_held : End Files) → Does processors task.now (vouched (V.accepts verifier.now))
+        (world input.old output.old notes.old held (counts_of R.faults desks.old))
+        (world input.new output.new notes.new new_held (counts_of R.faults desks.new)) result }
+    ensures desks { KeepsDesks R.faults R.offered desks.old desks.new }
+{
+    let mut journal = Journal::new(alloc, MAX_BLOCKS)?;
+    let refused = judge_lines(
+        alloc,
+        task.lines,
+        input,
+        output,
+        notes,
+        verifier,
+        desks,
+        &mut journal,
+    )?;
+    finish(alloc, output, &task.ending, &journal, refused)
+}
