@@ -41,6 +41,13 @@ fn laws_of_transactions_and_families(_rt: HostRuntime) {
     saw_context::conversation_is_not_early();
     saw_context::sound_is_outcome();
     saw_context::seen_is_over();
+    saw_context::gathered_changes_show();
+    saw_context::may_come_is_told();
+    saw_context::sound_may_come();
+    saw_context::telling_decides();
+    saw_context::serial_may_come();
+    saw_context::access_is_kept();
+    saw_context::addresses_are_kept();
     saw_intkey::replies_decide();
     saw_intkey::reasons_are_own();
     saw_intkey::kept_is_read();
@@ -57,5 +64,14 @@ fn laws_of_blocks_and_streams(_rt: HostRuntime) {
     saw_verify::list_is_read();
     saw_checks::faultless_batch_is_good();
     saw_checks::faultless_block_is_good();
+    saw_plan::nothing_dropped_keeps_all();
+    saw_journal::branch_is_chain();
+    saw_journal::kept_branch_is();
+    saw_journal::kept_is_left();
     saw_top::frames_are_read();
+    saw_top::options_are_read();
+    saw_top::order_of_options_does_not_show();
+    saw_top::built_in_processors_tell();
+    saw_top::roots_tell_without_clash();
+    saw_top::runs_roots_tell();
 }
