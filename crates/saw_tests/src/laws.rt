@@ -11,6 +11,9 @@ fn laws_of_bytes_and_addresses(_rt: HostRuntime) {
     saw_wire::one_spelling();
     saw_wire::written_is_spelled();
     saw_wire::written_is_read();
+    saw_cbor::one_spelling();
+    saw_cbor::written_is_spelled();
+    saw_cbor::written_is_read();
     saw_address::address_is_text();
     saw_address::covers_means();
     saw_address::overlaps_means();

@@ -1,0 +1,74 @@
+"""Checks docs/RULES.md: that each file, definition, function, case and test that it names exists.
+
+Run by hand from the top of the repository: python3 -B tools/rules.py
+It prints what is missing, and then the counts; it ends with 1 where something is missing.
+"""
+
+import os
+import re
+import sys
+
+PAGE = "docs/RULES.md"
+CRATES = "crates"
+NAME = r"`([^`]+)`"
+
+
+def content(path):
+    with open(path, encoding="utf-8") as file:
+        return file.read()
+
+
+def rows():
+    """The lines of rules with their numbers and their four cells."""
+    for at, line in enumerate(content(PAGE).split("\n"), 1):
+        cells = [cell.strip() for cell in line.strip("| ").split(" | ")]
+        if line.startswith("| ") and len(cells) == 4 and cells[0] != "Rule":
+            yield at, cells
+
+
+def missing_names(cell, ending, pattern):
+    """What a cell of definitions or functions names that is not there, and how many names it has."""
+    if cell == "none":
+        return [], 0
+    lost, count = [], 0
+    for group in cell.split("; "):
+        path, *names = re.findall(NAME, group)
+        full = os.path.join(CRATES, path + ending)
+        text = content(full) if os.path.isfile(full) else ""
+        lost += [f"{path}: {name}" for name in names if not re.search(pattern % re.escape(name), text, re.M)]
+        count += len(names)
+    return lost, count
+
+
+def has_test(crate, function):
+    folder = os.path.join(CRATES, crate, "src")
+    texts = (content(os.path.join(folder, name)) for name in os.listdir(folder))
+    return any(re.search(r"#\[test\]\s*fn %s\(" % function, text) for text in texts)
+
+
+def missing_cases(cell, cases):
+    """What a cell of cases and tests names that is not there, and how many names it has."""
+    names = re.findall(NAME, cell)
+    lost = [name for name in names if not (has_test(*name.split(": ")) if ": " in name else name in cases)]
+    return lost, len(names)
+
+
+def main():
+    cases = set(content(os.path.join(CRATES, "saw_cases", "data", "cases.txt")).split())
+    rules = names = bad = 0
+    for at, (_, definition, code, shown) in rows():
+        rules += 1
+        found = [
+            missing_names(definition, ".antt", r"^ *(?:(?:abbrev|unfoldable) )?pub (?:record |data )?%s "),
+            missing_names(code, "", r"\bfn %s[(<]"),
+            missing_cases(shown, cases),
+        ]
+        for lost, count in found:
+            names, bad = names + count, bad + len(lost)
+            for name in lost:
+                print(f"{PAGE}:{at}: no {name}")
+    print(f"{rules} rules, {names} names, {bad} of them missing")
+    sys.exit(int(bad > 0))
+
+
+main()
