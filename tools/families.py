@@ -155,21 +155,30 @@ def game_address(name):
     return "5b7349" + sha512(name.encode())[:64]
 
 
+def turn(player):
+    """The state of a game in which player 1 or 2 is to move."""
+    return f"P{player}-NEXT"
+
+
+def won(player):
+    return f"P{player}-WIN"
+
+
 def standing(board, other):
-    for player, win in (("X", "P1-WIN"), ("O", "P2-WIN")):
-        if any(all(board[int(space) - 1] == player for space in line) for line in LINES):
-            return win
-    return other if "-" in board else "TIE"
+    for player, mark in enumerate("XO", 1):
+        if any(all(board[int(space) - 1] == mark for space in line) for line in LINES):
+            return won(player)
+    return turn(other) if "-" in board else "TIE"
 
 
 def taken(game, space, signer):
     board, now, first, second = game
-    check(now in ("P1-NEXT", "P2-NEXT"), 209)
-    player, mover, other = ("X", first, "P2-NEXT") if now == "P1-NEXT" else ("O", second, "P1-NEXT")
+    check(now in (turn(1), turn(2)), 209)
+    mark, mover, other = ("X", first, 2) if now == turn(1) else ("O", second, 1)
     check(mover in ("", signer), 210)
     at = int(space) - 1
     check(board[at] == "-", 211)
-    board = board[:at] + player + board[at + 1 :]
+    board = board[:at] + mark + board[at + 1 :]
     if not first:
         first = signer
     elif not second:
@@ -181,7 +190,7 @@ def changed(games, name, action, space, signer):
     """The games behind an action."""
     if action == "create":
         check(name not in games, 207)
-        return {**games, name: ("-" * 9, "P1-NEXT", "", "")}
+        return {**games, name: ("-" * 9, turn(1), "", "")}
     check(name in games, 208)
     if action == "take":
         return {**games, name: taken(games[name], space, signer)}
@@ -444,7 +453,7 @@ def game_cases():
     state = listed("xo-tie-state", [game(tie)], family="5b7349")
     assert state[at].decode() == f"g,XOXXOOOXX,TIE,{FIRST},{SECOND}"
     state = listed("xo-line-on-last-space-state", [game(line)], family="5b7349")
-    assert state[at].decode() == f"g,XXXOOXXOO,P1-WIN,{FIRST},{SECOND}"
+    assert state[at].decode() == f"g,XXXOOXXOO,{won(1)},{FIRST},{SECOND}"
     refused("xo-take-after-tie", "14 BatchInvalid 0 10 209", [game(tie) + [move(SECOND, "g,take,1")]])
     refused("xo-payload-action-other", "14 BatchInvalid 0 0 203", [[move(FIRST, "g,move,")]])
     refused("xo-payload-name-empty", "14 BatchInvalid 0 0 202", [[move(FIRST, ",create,")]])
