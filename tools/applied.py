@@ -1,7 +1,7 @@
 """Makes the cases *-applied of saw_cases: streams of one first block under `apply`.
 
 What is expected is read from the block itself (id, root, counts), so it must be a block that is accepted.
-Usage: python3 tools/applied.py CASE STREAM crates/saw_cases/data
+Usage: python3 tools/applied.py CASE STREAM crates/saw_cases/data/cases
 """
 
 import os

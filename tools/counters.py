@@ -1,7 +1,7 @@
 """Makes the cases counters-* of saw_cases: first blocks of IntegerKey batches.
 
 Written apart from the validator, from the public formats alone, so its answers are expected values.
-Usage: python3 tools/counters.py crates/saw_cases/data
+Usage: python3 tools/counters.py crates/saw_cases/data/cases
 """
 
 import hashlib
@@ -117,7 +117,6 @@ def block(batches, root_hash):
 
 
 def put(case, stream, output, status):
-    print(case)
     os.makedirs(f"{FOLDER}/{case}", exist_ok=True)
     with open(f"{FOLDER}/{case}/stdin", "wb") as file:
         file.write(stream)

@@ -1,9 +1,9 @@
-"""Makes cases of saw_cases: games, settings, batches that come again, odd bytes of messages and of CBOR, and words.
+"""Makes cases of saw_cases: games, settings, batches that come again, odd bytes of messages and of CBOR, and a name with `=`.
 
 What is expected comes from the model below of the families and the ledger, and never from the validator. Of refusals
 the model knows those that the cases meet. Each case states its verdict too, and the two must agree.
-Usage: python3 -B tools/families.py crates/saw_cases/data > NAMES
-It writes a folder for each case and prints the names of the cases, one a line.
+Usage: python3 -B tools/families.py crates/saw_cases/data/cases
+It writes a folder for each case.
 """
 
 import base64
@@ -390,7 +390,6 @@ def put_file(path, content):
 
 
 def put(case, words, stream, output="", notes="", status=0, files=()):
-    print(case)
     folder = os.path.join(counters.FOLDER, case)
     texts = {"words": "\n".join([*words, ""]), "stdout": output, "stderr": notes, "status": f"{status}\n"}
     texts.update((os.path.join("files", name), content) for name, content in files)
@@ -613,11 +612,10 @@ def message_cases():
     put(f"decodable-{key.hex()}", ["apply"], frame(key), "block 0 refused 2 IdText\nhead none\n", status=1)
 
 
-# The cases of words.
+# A case of words.
 
 
 def word_cases():
-    put("words-refused-value-with-equals", ["state", "--prefix=a=b"], b"", notes="fault 2 words\n", status=2)
     # The signature is no mark: only the list has it.
     root, signature = sha512(node({}, 0))[:64], "ab" * 64
     header = block_header(NO_BLOCK, [], root)

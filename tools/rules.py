@@ -1,4 +1,4 @@
-"""Checks docs/RULES.md: that each file, definition, function, case and test that it names exists.
+"""Checks docs/RULES.md: that each file, definition, function, case, script and test that it names exists.
 
 Run by hand from the top of the repository: python3 -B tools/rules.py
 It prints what is missing, and then the counts; it ends with 1 where something is missing.
@@ -46,15 +46,27 @@ def has_test(crate, function):
     return any(re.search(r"#\[test\]\s*fn %s\(" % function, text) for text in texts)
 
 
+def has_script(name):
+    data = os.path.join(CRATES, "saw_steps", "data")
+    return any(os.path.isfile(os.path.join(data, kind, name + ".script")) for kind in os.listdir(data))
+
+
+def is_shown(name, cases):
+    """Whether there is a script, a test or a case of this name."""
+    if name.startswith("saw_steps: "):
+        return has_script(name.split(": ")[1])
+    return has_test(*name.split(": ")) if ": " in name else name in cases
+
+
 def missing_cases(cell, cases):
-    """What a cell of cases and tests names that is not there, and how many names it has."""
+    """What a cell of cases, scripts and tests names that is not there, and how many names it has."""
     names = re.findall(NAME, cell)
-    lost = [name for name in names if not (has_test(*name.split(": ")) if ": " in name else name in cases)]
-    return lost, len(names)
+    return [name for name in names if not is_shown(name, cases)], len(names)
 
 
 def main():
-    cases = set(content(os.path.join(CRATES, "saw_cases", "data", "cases.txt")).split())
+    data = os.path.join(CRATES, "saw_cases", "data")
+    cases = {"words.txt", *os.listdir(os.path.join(data, "cases"))}
     rules = names = bad = 0
     for at, (_, definition, code, shown) in rows():
         rules += 1

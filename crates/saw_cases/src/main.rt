@@ -1,117 +1,80 @@
 //! Runs the cases from outside that lie in the folder `data`, and tells which differ.
 #![tactic(auto)]
 
-use saw_io::{MemoryShelf, MemorySink, MemorySource};
-use saw_top::run;
-use saw_verify::DevVerifier;
-use saw_wire::Text;
-use std::alloc::{AllocError, Global};
-use std::collections::BTreeMap;
-use std::io::ErrorKind;
+mod given;
+mod said;
+
+use crate::given::{given_of, words_in};
+use crate::said::{Said, said_to, said_to_words};
 use std::process::ExitCode;
 use std::{fs, io};
 
-/// What a run wrote, and its status.
-#[derive(Drop)]
-struct Answer {
-    output: MemorySink,
-    notes: MemorySink,
-    status: u8,
-}
-
-fn answer_to(
-    alloc: Global,
-    words: &[String],
-    input: Vec<u8>,
-    files: BTreeMap<Text, Vec<u8>>,
-) -> Answer {
-    let mut source = MemorySource::new(input, Vec::new(alloc));
-    let mut output = MemorySink::new(alloc, Vec::new(alloc));
-    let mut notes = MemorySink::new(alloc, Vec::new(alloc));
-    let mut shelf = MemoryShelf::new(files, Vec::new(alloc));
-    let status = run(
-        alloc,
-        words,
-        &mut source,
-        &mut output,
-        &mut notes,
-        &mut shelf,
-        &DevVerifier,
-    )
-    .code();
-    Answer {
-        output,
-        notes,
-        status,
-    }
-}
-
-/// The words of a case, one a line.
-fn words_of(alloc: Global, lines: &str) -> Result<Vec<String>, AllocError> {
-    let mut words = Vec::new(alloc);
-    for line in lines.lines() {
-        words.push(String::from_str(alloc, line)?)?;
-    }
-    Ok(words)
-}
-
-/// The file that a word may name: all of it, or what is behind `=`.
-fn named(word: &str) -> &str {
-    match word.split_once('=') {
-        Some((_, name)) => name,
-        None => word,
-    }
-}
-
-/// The files of a case that its words name.
-fn files_of(rt: &HostRuntime, case: &str, words: &[String]) -> io::Result<BTreeMap<Text, Vec<u8>>> {
+/// The stored output, notes and status of a case.
+fn stored(rt: &HostRuntime, case: &str) -> io::Result<Said> {
     let alloc = rt.alloc();
-    let mut files = BTreeMap::new(alloc);
-    for word in words {
-        let name = named(word.as_str());
-        match fs::read(rt, format!(in alloc; "{case}/files/{name}")?.as_str()) {
-            Ok(bytes) => {
-                let _ = files.insert(Text::from_str(alloc, name)?, bytes)?;
-            }
-            Err(e) if e.kind() == ErrorKind::OutOfMemory => return Err(e),
-            Err(_) => {}
-        }
-    }
-    Ok(files)
+    Ok(Said {
+        output: fs::read(rt, format!(in alloc; "cases/{case}/stdout")?.as_str())?,
+        notes: fs::read(rt, format!(in alloc; "cases/{case}/stderr")?.as_str())?,
+        status: fs::read_to_string(rt, format!(in alloc; "cases/{case}/status")?.as_str())?,
+    })
 }
 
 /// Whether the case of this name has its stored output, notes and status.
 fn passes(rt: &HostRuntime, case: &str) -> io::Result<bool> {
-    let alloc = rt.alloc();
-    let lines = fs::read_to_string(rt, format!(in alloc; "{case}/words")?.as_str())?;
-    let words = words_of(alloc, lines.as_str())?;
-    let input = fs::read(rt, format!(in alloc; "{case}/stdin")?.as_str())?;
-    let output = fs::read(rt, format!(in alloc; "{case}/stdout")?.as_str())?;
-    let notes = fs::read(rt, format!(in alloc; "{case}/stderr")?.as_str())?;
-    let status = fs::read_to_string(rt, format!(in alloc; "{case}/status")?.as_str())?;
-    let files = files_of(rt, case, &words)?;
-    let answer = answer_to(alloc, &words, input, files);
-    let same_status = status.trim() == answer.status.to_string(alloc)?.as_str();
-    Ok(
-        same_status
-            && answer.output.bytes() == output.as_slice()
-            && answer.notes.bytes() == notes.as_slice(),
-    )
+    let wanted = stored(rt, case)?;
+    let said = said_to(rt.alloc(), given_of(rt, case)?)?;
+    Ok(said.is(&wanted))
 }
 
-/// Runs the listed cases; gives whether all passed, and tells those that did not.
-fn run_all(rt: &HostRuntime) -> io::Result<bool> {
-    let names = fs::read_to_string(rt, "cases.txt")?;
-    let mut passed: u64 = 0;
-    let mut failed: u64 = 0;
-    for name in names.lines() {
-        if passes(rt, name)? {
-            passed = passed.saturating_add(1);
+/// How many cases passed, and how many did not.
+#[derive(Clone, Copy)]
+struct Count {
+    passed: u64,
+    failed: u64,
+}
+
+impl Count {
+    /// One more, which is told where it failed.
+    fn add(&mut self, rt: &HostRuntime, name: &str, passes: bool) -> io::Result<()> {
+        if passes {
+            self.passed = self.passed.saturating_add(1);
         } else {
             println!(rt; "{name} differs")?;
-            failed = failed.saturating_add(1);
+            self.failed = self.failed.saturating_add(1);
         }
+        Ok(())
     }
+}
+
+/// Runs the case of each folder in `cases`.
+fn run_cases(rt: &HostRuntime, count: &mut Count) -> io::Result<()> {
+    for entry in fs::read_dir(rt, "cases")? {
+        let entry = entry?;
+        let passes = passes(rt, entry.file_name())?;
+        count.add(rt, entry.file_name(), passes)?;
+    }
+    Ok(())
+}
+
+/// Runs each line of `words.txt`: words that are of no form.
+fn run_words(rt: &HostRuntime, count: &mut Count) -> io::Result<()> {
+    let lines = fs::read_to_string(rt, "words.txt")?;
+    for line in lines.lines() {
+        let said = said_to_words(rt.alloc(), words_in(rt.alloc(), line)?)?;
+        count.add(rt, line, said.is_refused())?;
+    }
+    Ok(())
+}
+
+/// Runs all cases; gives whether all passed.
+fn run_all(rt: &HostRuntime) -> io::Result<bool> {
+    let mut count = Count {
+        passed: 0,
+        failed: 0,
+    };
+    run_cases(rt, &mut count)?;
+    run_words(rt, &mut count)?;
+    let Count { passed, failed } = count;
     println!(rt; "{passed} passed, {failed} failed")?;
     Ok(failed == 0)
 }
@@ -120,6 +83,9 @@ fn main(rt: HostRuntime) -> ExitCode {
     match run_all(&rt) {
         Ok(true) => ExitCode::from(0),
         Ok(false) => ExitCode::from(1),
-        Err(_) => ExitCode::from(2),
+        Err(e) => {
+            let _ = println!(rt; "{e}");
+            ExitCode::from(2)
+        }
     }
 }

@@ -1,7 +1,7 @@
-//! Tests of whole runs in memory, and of each law once.
+//! Calls of each law, and the lines of the faults of a run.
 #![tactic(auto)]
 
 #[cfg(test)]
 mod laws;
 #[cfg(test)]
-mod runs;
+mod lines;

@@ -1,0 +1,108 @@
+//! What a case gives to a run.
+
+use saw_wire::Text;
+use std::alloc::{AllocError, Global};
+use std::collections::BTreeMap;
+use std::io::{Error, ErrorKind};
+use std::{fs, io};
+
+/// Words, stream and files of a run, and the numbers of its calls that fail.
+#[derive(Drop)]
+pub(crate) struct Given {
+    pub(crate) words: Vec<String>,
+    pub(crate) input: Vec<u8>,
+    pub(crate) files: BTreeMap<Text, Vec<u8>>,
+    pub(crate) reads: Vec<u64>,
+    pub(crate) writes: Vec<u64>,
+    pub(crate) notes: Vec<u64>,
+    pub(crate) fetches: Vec<u64>,
+}
+
+/// The words of a case, one a line.
+fn words_of(alloc: Global, lines: &str) -> Result<Vec<String>, AllocError> {
+    let mut words = Vec::new(alloc);
+    for line in lines.lines() {
+        words.push(String::from_str(alloc, line)?)?;
+    }
+    Ok(words)
+}
+
+/// The words in a line: a `+` stands before each, and a tab between them.
+pub(crate) fn words_in(alloc: Global, line: &str) -> Result<Vec<String>, AllocError> {
+    let mut words = Vec::new(alloc);
+    for marked in line.split('\t') {
+        if let Some(word) = marked.strip_prefix('+') {
+            words.push(String::from_str(alloc, word)?)?;
+        }
+    }
+    Ok(words)
+}
+
+/// The file that a word may name: all of it, or what is behind `=`.
+fn named(word: &str) -> &str {
+    match word.split_once('=') {
+        Some((_, name)) => name,
+        None => word,
+    }
+}
+
+/// The bytes of a file, if there is one.
+fn bytes_of(rt: &HostRuntime, path: &str) -> io::Result<Option<Vec<u8>>> {
+    match fs::read(rt, path) {
+        Ok(bytes) => Ok(Some(bytes)),
+        Err(e) if e.kind() == ErrorKind::NotFound => Ok(None),
+        Err(e) => Err(e),
+    }
+}
+
+/// The files of a case that its words name.
+fn files_of(rt: &HostRuntime, case: &str, words: &[String]) -> io::Result<BTreeMap<Text, Vec<u8>>> {
+    let alloc = rt.alloc();
+    let mut files = BTreeMap::new(alloc);
+    for word in words {
+        let name = named(word.as_str());
+        let path = format!(in alloc; "cases/{case}/files/{name}")?;
+        if let Some(bytes) = bytes_of(rt, path.as_str())? {
+            let _ = files.insert(Text::from_str(alloc, name)?, bytes)?;
+        }
+    }
+    Ok(files)
+}
+
+fn numbers_in(alloc: Global, lines: &str) -> io::Result<Vec<u64>> {
+    let mut numbers = Vec::new(alloc);
+    for line in lines.lines() {
+        match line.parse::<u64>() {
+            Ok(number) => numbers.push(number)?,
+            Err(_) => return Err(Error::from(ErrorKind::InvalidData)),
+        }
+    }
+    Ok(numbers)
+}
+
+/// The numbers in a file of a case, one a line; none without it.
+fn numbers_of(rt: &HostRuntime, case: &str, name: &str) -> io::Result<Vec<u64>> {
+    let alloc = rt.alloc();
+    match fs::read_to_string(rt, format!(in alloc; "cases/{case}/{name}")?.as_str()) {
+        Ok(lines) => numbers_in(alloc, lines.as_str()),
+        Err(e) if e.kind() == ErrorKind::NotFound => Ok(Vec::new(alloc)),
+        Err(e) => Err(e),
+    }
+}
+
+/// What the case of this name gives.
+pub(crate) fn given_of(rt: &HostRuntime, case: &str) -> io::Result<Given> {
+    let alloc = rt.alloc();
+    let lines = fs::read_to_string(rt, format!(in alloc; "cases/{case}/words")?.as_str())?;
+    let words = words_of(alloc, lines.as_str())?;
+    let files = files_of(rt, case, &words)?;
+    Ok(Given {
+        words,
+        input: fs::read(rt, format!(in alloc; "cases/{case}/stdin")?.as_str())?,
+        files,
+        reads: numbers_of(rt, case, "fail_reads")?,
+        writes: numbers_of(rt, case, "fail_writes")?,
+        notes: numbers_of(rt, case, "fail_notes")?,
+        fetches: numbers_of(rt, case, "fail_fetches")?,
+    })
+}

@@ -1,0 +1,79 @@
+//! What a run says.
+
+use crate::given::Given;
+use saw_io::{MemoryShelf, MemorySink, MemorySource};
+use saw_top::run;
+use saw_verify::DevVerifier;
+use std::alloc::{AllocError, Global};
+use std::collections::BTreeMap;
+
+/// Output, notes and status of a run.
+#[derive(Drop)]
+pub(crate) struct Said {
+    pub(crate) output: Vec<u8>,
+    pub(crate) notes: Vec<u8>,
+    pub(crate) status: String,
+}
+
+impl Said {
+    /// Whether both are the same. Spaces round a status do not count.
+    pub(crate) fn is(&self, other: &Said) -> bool {
+        self.output.as_slice() == other.output.as_slice()
+            && self.notes.as_slice() == other.notes.as_slice()
+            && self.status.trim() == other.status.trim()
+    }
+
+    /// Whether the words were refused.
+    pub(crate) fn is_refused(&self) -> bool {
+        self.output.is_empty()
+            && self.notes.as_slice() == b"fault 2 words\n".as_slice()
+            && self.status.as_str() == "2"
+    }
+}
+
+/// What a run says to what is given.
+pub(crate) fn said_to(alloc: Global, given: Given) -> Result<Said, AllocError> {
+    let Given {
+        words,
+        input,
+        files,
+        reads,
+        writes,
+        notes,
+        fetches,
+    } = given;
+    let mut source = MemorySource::new(input, reads);
+    let mut output = MemorySink::new(alloc, writes);
+    let mut notes = MemorySink::new(alloc, notes);
+    let mut shelf = MemoryShelf::new(files, fetches);
+    let status = run(
+        alloc,
+        &words,
+        &mut source,
+        &mut output,
+        &mut notes,
+        &mut shelf,
+        &DevVerifier,
+    );
+    Ok(Said {
+        output: output.bytes().to_vec(alloc)?,
+        notes: notes.bytes().to_vec(alloc)?,
+        status: status.code().to_string(alloc)?,
+    })
+}
+
+/// What a run says to words, where the first call of each side but the notes would fail.
+pub(crate) fn said_to_words(alloc: Global, words: Vec<String>) -> Result<Said, AllocError> {
+    said_to(
+        alloc,
+        Given {
+            words,
+            input: Vec::new(alloc),
+            files: BTreeMap::new(alloc),
+            reads: [0].to_vec(alloc)?,
+            writes: [0].to_vec(alloc)?,
+            notes: Vec::new(alloc),
+            fetches: [0].to_vec(alloc)?,
+        },
+    )
+}

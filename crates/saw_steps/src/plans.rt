@@ -1,0 +1,215 @@
+//! The static rules over a list of batches, and what comes of a plan over the empty map.
+
+ghost use Rattle.std.specs.Prelude.{◌≡◌, ◌<◌, ◌^◌, true, length, map};
+ghost use Rattle.saw_plan.specs.BatchShapes.{batch_shape, transactions_in};
+
+use crate::families::put_reason;
+use crate::tx::{NO_WORDS, Words, tx_of};
+use crate::words::{NoForm, put_hex, put_number, put_word, words_of};
+use saw_crew::execute;
+use saw_messages::{Change, Outcome, PlainBase, Tx, TxBatch};
+use saw_plan::{DropCause, Dropped, Known, Plan, Sorted, precheck};
+use saw_schedule::BatchResult;
+use saw_station::{Desk, NoStation};
+use saw_wire::{Items, Text};
+use std::alloc::{AllocError, Global};
+use std::collections::{BTreeMap, BTreeSet};
+use std::mem;
+use std::sync::Arc;
+
+/// The ids that are there, the batches, and the transactions of the next one.
+#[derive(Drop)]
+struct Planning {
+    known: Known,
+    batches: Vec<TxBatch>,
+    txs: Items<Arc<Tx>>,
+}
+
+pub(crate) fn lines(alloc: Global, script: &str) -> anyhow::Result<Vec<u8>> {
+    let mut planning = Planning {
+        known: Known::new(alloc),
+        batches: Vec::new(alloc),
+        txs: Items::new(alloc),
+    };
+    let mut out = Vec::new(alloc);
+    for line in script.lines() {
+        call(alloc, &mut planning, line, &mut out)?;
+    }
+    Ok(out)
+}
+
+fn call(
+    alloc: Global,
+    planning: &mut Planning,
+    line: &str,
+    out: &mut Vec<u8>,
+) -> anyhow::Result<()> {
+    match words_of(alloc, line)?.as_slice() {
+        ["known", id] => insert(alloc, &mut planning.known.batches, id),
+        ["there", id] => insert(alloc, &mut planning.known.transactions, id),
+        ["tx", id, dependencies, payload] => add_tx(alloc, planning, id, dependencies, payload),
+        ["batch", id] => add_batch(alloc, planning, id),
+        ["precheck"] => put_sorted(alloc, planning, out),
+        ["execute"] => put_results(alloc, planning, out),
+        _ => Err(NoForm.into()),
+    }
+}
+
+fn insert(alloc: Global, ids: &mut BTreeSet<Text>, id: &str) -> anyhow::Result<()> {
+    let _ = ids.insert(Text::from_str(alloc, id)?)?;
+    Ok(())
+}
+
+/// A counter transaction.
+fn add_tx<'a>(
+    alloc: Global,
+    planning: &mut Planning,
+    id: &'a str,
+    dependencies: &'a str,
+    payload: &'a str,
+) -> anyhow::Result<()> {
+    let words = Words {
+        id,
+        family: "intkey",
+        inputs: "+1cf126",
+        outputs: "+1cf126",
+        dependencies,
+        payload,
+    };
+    let tx = tx_of(alloc, words)?;
+    planning.txs.push(Arc::new(alloc, tx)?)?;
+    Ok(())
+}
+
+/// A batch of the transactions since the one before.
+fn add_batch(alloc: Global, planning: &mut Planning, id: &str) -> anyhow::Result<()> {
+    let id = Text::from_str(alloc, id)?;
+    let signer = Text::new(alloc);
+    let txs = mem::replace(&mut planning.txs, Items::new(alloc));
+    planning.batches.push(TxBatch { id, signer, txs })?;
+    Ok(())
+}
+
+/// Whether 32 bits count batches and their transactions.
+fn fits(batches: &[TxBatch]) -> bool
+    ensures batches { result ≡ true → length batches.now < 2 ^ 32 }
+    ensures transactions { result ≡ true → transactions_in (map batch_shape batches.now) < 2 ^ 32 }
+{
+    let mut room: usize = 0xffff_ffff;
+    for batch in batches {
+        if batch.txs.len() > room {
+            return false;
+        }
+        room -= batch.txs.len();
+    }
+    batches.len() <= 0xffff_ffff
+}
+
+fn put_sorted(alloc: Global, planning: &Planning, out: &mut Vec<u8>) -> anyhow::Result<()> {
+    if !fits(&planning.batches) {
+        return Err(NoForm.into());
+    }
+    let sorted = precheck(alloc, &planning.known, &planning.batches)?;
+    put_kept(alloc, out, &sorted)?;
+    for dropped in sorted.dropped.as_slice() {
+        put_dropped(alloc, out, dropped)?;
+    }
+    Ok(())
+}
+
+/// The places of the kept batches, and their ids.
+fn put_kept(alloc: Global, out: &mut Vec<u8>, sorted: &Sorted) -> Result<(), AllocError> {
+    out.extend_from_slice(b"kept")?;
+    for place in sorted.places.as_slice() {
+        put_number(alloc, out, *place)?;
+    }
+    for batch in sorted.plan.batches.as_slice() {
+        put_word(out, batch.id.as_str().as_bytes())?;
+    }
+    out.push(b'\n')?;
+    Ok(())
+}
+
+fn put_dropped(alloc: Global, out: &mut Vec<u8>, dropped: &Dropped) -> Result<(), AllocError> {
+    out.extend_from_slice(b"dropped")?;
+    put_number(alloc, out, dropped.place)?;
+    put_cause(alloc, out, &dropped.cause)?;
+    out.push(b'\n')?;
+    Ok(())
+}
+
+fn put_cause(alloc: Global, out: &mut Vec<u8>, cause: &DropCause) -> Result<(), AllocError> {
+    match cause {
+        DropCause::DuplicateBatch => put_word(out, b"batch"),
+        DropCause::DuplicateTransaction { t } => put_at(alloc, out, b"transaction", *t),
+        DropCause::MissingDependency { t, id } => {
+            put_at(alloc, out, b"missing", *t)?;
+            put_word(out, id.as_str().as_bytes())
+        }
+    }
+}
+
+fn put_at(alloc: Global, out: &mut Vec<u8>, word: &[u8], t: u32) -> Result<(), AllocError> {
+    put_word(out, word)?;
+    put_number(alloc, out, t)
+}
+
+/// What comes of the batches over the empty map. They are gone then.
+fn put_results(alloc: Global, planning: &mut Planning, out: &mut Vec<u8>) -> anyhow::Result<()> {
+    let batches = mem::replace(&mut planning.batches, Vec::new(alloc));
+    for came in results_of(alloc, batches)?.as_slice() {
+        put_came(alloc, out, came)?;
+        out.push(b'\n')?;
+    }
+    Ok(())
+}
+
+fn results_of(alloc: Global, batches: Vec<TxBatch>) -> anyhow::Result<Items<BatchResult>> {
+    if !fits(&batches) {
+        return Err(NoForm.into());
+    }
+    let base = PlainBase {
+        map: BTreeMap::new(alloc),
+    };
+    let offers = Arc::new(alloc, Vec::new(alloc))?;
+    let desk: Desk<NoStation> = Desk::new(None, offers);
+    let mut desks = [desk];
+    let plan = Plan {
+        batches: Items::from_vec(batches),
+    };
+    let plan = Arc::new(alloc, plan)?;
+    Ok(execute(alloc, plan, &base, &mut desks)?.batches)
+}
+
+fn put_came(alloc: Global, out: &mut Vec<u8>, came: &BatchResult) -> Result<(), AllocError> {
+    match came {
+        BatchResult::Applied { outcomes } => put_outcomes(alloc, out, outcomes.as_slice()),
+        BatchResult::Failed { t, reason } => {
+            put_at(alloc, out, b"failed", *t)?;
+            out.push(b' ')?;
+            put_reason(alloc, out, *reason)
+        }
+    }
+}
+
+fn put_outcomes(alloc: Global, out: &mut Vec<u8>, outcomes: &[Outcome]) -> Result<(), AllocError> {
+    put_word(out, b"applied")?;
+    for outcome in outcomes {
+        match outcome {
+            Outcome::Ok { changes, events: _ } => put_changes(alloc, out, changes.as_slice())?,
+            Outcome::Invalid { reason } => put_reason(alloc, out, *reason)?,
+        }
+    }
+    Ok(())
+}
+
+fn put_changes(alloc: Global, out: &mut Vec<u8>, changes: &[Change]) -> Result<(), AllocError> {
+    for change in changes {
+        put_hex(alloc, out, change.address.as_slice())?;
+        match &change.value {
+            Some(value) => put_hex(alloc, out, value.as_slice())?,
+            None => put_word(out, b"deleted")?,
+        }
+    }
+    Ok(())
+}

@@ -1,0 +1,539 @@
+"""Makes the scripts of saw_steps, with the lines that each is to say.
+
+Written apart from the validator: roots, addresses, ids and messages are made here, from the public formats alone, and
+the verdicts, numbers and places are written by hand. Nothing comes out of the validator.
+Usage: python3 tools/steps.py crates/saw_steps/data
+"""
+
+import hashlib
+import os
+import sys
+
+FOLDER = sys.argv[1]
+sys.argv[1:] = []
+sys.path.insert(0, os.path.dirname(os.path.abspath(__file__)))
+from counters import address, head, node, record, sha512, text, varint  # noqa: E402
+
+KEY = "02" + "1" * 64
+OTHER_KEY = "02" + "2" * 64
+NO_BLOCK = "0" * 16
+A = address("a")
+
+
+def hexed(data):
+    return data.hex() if data else "-"
+
+
+def put(kind, name, calls):
+    """A script of calls, each with the lines that it is to say."""
+    os.makedirs(f"{FOLDER}/{kind}", exist_ok=True)
+    with open(f"{FOLDER}/{kind}/{name}.script", "w") as file:
+        file.writelines(call + "\n" for call, _ in calls)
+    with open(f"{FOLDER}/{kind}/{name}.want", "w") as file:
+        file.writelines(line + "\n" for _, lines in calls for line in lines.split("\n") if lines)
+
+
+# Access.
+
+
+def change(at, value):
+    """A change of a receipt: 1 is a set and 2 a deletion."""
+    kind = b"\x18\x02" if value is None else record(2, value) + b"\x18\x01"
+    return record(1, record(1, at) + kind)
+
+
+def receipt(*changes, events=b""):
+    return "receipt " + (b"".join(changes) + events + record(4, "id")).hex()
+
+
+def access():
+    ones, twos = "11" * 35, "22" * 35
+    old, new = b"old".hex(), b"new".hex()
+    declared = f"tx +{ones} +{ones}"
+    put("access", "half-declared", [
+        (f"base {ones}={old}", ""),
+        (declared, ""),
+        (f"set {ones}={new} {twos}={new}", "refused at 1"),
+        (f"get {ones}", f"values {old}\n" + receipt()),
+    ])
+    for name, base in [("deletion", f"base {ones}={old}"), ("deletion-of-none", "base")]:
+        put("access", name, [
+            (base, ""),
+            (declared, ""),
+            ("get", "values"),
+            (f"delete {ones}", "done"),
+            (f"get {ones}", "values \n" + receipt(change(ones, None))),
+        ])
+    low, high = "00" * 35, "ff" * 35
+    put("access", "receipt", [
+        ("base", ""),
+        ("tx + +", ""),
+        (f"delete {high}", "done"),
+        (f"set {low}={b'v'.hex()}", "done"),
+        ("event e", "done\n" + receipt(change(low, b"v"), change(high, None), events=record(2, record(1, "e")))),
+    ])
+    # What is only an input or only an output, a text that is no address, and the later of two sets.
+    put("access", "inputs-and-outputs", [
+        (f"base {ones}={old}", ""),
+        ("tx +11 +22", ""),
+        (f"get {twos}", "refused at 0"),
+        (f"get {ones} {ones} {twos}", "refused at 2"),
+        (f"get {ones} {ones}", f"values {old} {old}"),
+        (f"set {ones}={new}", "refused at 0"),
+        (f"delete {twos} {ones}", "refused at 1"),
+        (f"delete {ones[1:]}", "refused at 0"),
+        (f"set {twos}={old} {twos}={new}", "done\n" + receipt(change(twos, b"new"))),
+    ])
+
+
+# Families.
+
+SETTING = "sawtooth.settings.vote."
+
+
+def setting(key, value):
+    """The bytes under the address of a setting with one entry."""
+    return record(1, record(1, key) + record(2, value))
+
+
+def setting_address(key):
+    """Four parts, each by SHA-256."""
+    parts = (key.split(".", 3) + [""] * 4)[:4]
+    return "000000" + "".join(hashlib.sha256(part.encode()).hexdigest()[:16] for part in parts)
+
+
+def families(name, family, rows):
+    put("families", name, [
+        (" ".join([family, hexed(payload)] + [r if r == "!" else hexed(r) for r in replies]), line)
+        for payload, replies, line in rows
+    ])
+
+
+def numbers(name, family, rows):
+    families(name, family, [(payload, replies, f"invalid {number}") for payload, replies, number in rows])
+
+
+SET = b"\xa3\x64Verb\x63set\x64Name\x61a\x65Value\x05"
+
+
+def counters():
+    numbers("counter-reasons", "intkey", [
+        (b"\x01", [], 101),
+        (b"\xa2dNameaaeValue\x05", [], 102),
+        (b"\xa3dVerbcputdNameaaeValue\x05", [], 102),
+        (b"\xa2dVerbcseteValue\x05", [], 103),
+        (b"\xa2dVerbcsetdNameaa", [], 104),
+        (SET, ["!"], 105),
+        (b"\xa3dVerbcsetdNameaaeValue\x05", [b"\x01"], 106),
+        (b"\xa3dVerbcsetdNameaaeValue\x05", [b"\xa1aa\x07"], 107),
+        (b"\xa3dVerbcincdNameaaeValue\x05", [b"\xa1ab\x07"], 108),
+        (b"\xa3dVerbcdecdNameaaeValue\x05", [b""], 108),
+        (b"\xa3dVerbcincdNameaaeValue\x01", [b"\xa1aa\x1a\xff\xff\xff\xff"], 109),
+        (b"\xa3dVerbcdecdNameaaeValue\x05", [b"\xa1aa\x04"], 109),
+    ])
+    families("counter-steps", "intkey", [
+        (SET, [], f"get {A}"),
+        (SET, [b""], f"set {A} a1616105"),
+    ])
+
+
+EMPTY_BOARD = "-" * 9
+
+
+def turn(player):
+    return f"P{player}-NEXT"
+
+
+def won(player):
+    return f"P{player}-WIN"
+
+
+def kept_game(name, board, state, first="", second=""):
+    return ",".join([name, board, state, first, second]).encode()
+
+
+def games():
+    numbers("game-reasons", "xo", [
+        (b"g,create", [], 201),
+        (b"g,create,,", [], 201),
+        (b"\xff,create,", [], 201),
+        (b",create,", [], 202),
+        (b"g|h,create,", [], 202),
+        (b"g,play,", [], 203),
+        (b"g,take,0", [], 204),
+        (b"g,take,12", [], 204),
+        (b"g,take,", [], 204),
+        (b"g,create,", ["!"], 205),
+        (b"g,create,", [b"g"], 206),
+        (b"g,create,", [kept_game("f", "--------", turn(1))], 206),
+        (b"g,create,", [kept_game("f", EMPTY_BOARD, "P%d" % 1)], 206),
+        (b"g,create,", [kept_game("f", EMPTY_BOARD, turn(1)) + b"|" + kept_game("f", EMPTY_BOARD, turn(1))], 206),
+        (b"g,create,", [kept_game("g", EMPTY_BOARD, turn(1))], 207),
+        (b"g,take,1", [kept_game("f", EMPTY_BOARD, turn(1))], 208),
+        (b"g,delete,", [b""], 208),
+        (b"g,take,9", [kept_game("g", "XXXOO----", won(1), "K", "K")], 209),
+        (b"g,take,9", [kept_game("g", "XXOOOXXOX", "TIE", "K", "K")], 209),
+        (b"g,take,1", [kept_game("g", EMPTY_BOARD, turn(1), "L")], 210),
+        (b"g,take,2", [kept_game("g", "X--------", turn(2), "K", "L")], 210),
+        (b"g,take,1", [kept_game("g", "X--------", turn(2), "K")], 211),
+    ])
+    at = sha512(b"xo")[:6] + sha512(b"g")[:64]
+    games = kept_game("f", EMPTY_BOARD, turn(1)) + b"|" + kept_game("g", EMPTY_BOARD, turn(1))
+    families("game-steps", "xo", [
+        (b"g,create,", [], f"get {at}"),
+        (b"g,create,", [kept_game("f", EMPTY_BOARD, turn(1))], f"set {at} {games.hex()}"),
+    ])
+
+
+def settings():
+    keys, threshold, proposals = SETTING + "authorized_keys", SETTING + "approval_threshold", SETTING + "proposals"
+    one_key, two_keys, two_votes = setting(keys, "K"), setting(keys, "K,L"), setting(threshold, "2")
+    a_to_b = b"\x08\x01\x12\x06\x0a\x01a\x12\x01b"
+    of_l = "ClEKQGYyMTQzY2UyNjc5NzgyYjhhZmNmNzczMjAyZTI4NzVkMzQ5ZDc1YjcyMmU0M2M3NWJjOWUyYmU3ZWNkMDRhNGISBgoBYRIBYhoFCgFMEAE="
+    of_k = "ClEKQGYyMTQzY2UyNjc5NzgyYjhhZmNmNzczMjAyZTI4NzVkMzQ5ZDc1YjcyMmU0M2M3NWJjOWUyYmU3ZWNkMDRhNGISBgoBYRIBYhoFCgFLEAE="
+    vote = b"\x08\x02\x12D\x0a@f2143ce2679782b8afcf773202e2875d349d75b722e43c75bc9e2be7ecd04a4b\x10"
+
+    def proposing(key, value):
+        return b"\x08\x01" + record(2, record(1, key) + record(2, value))
+
+    numbers("settings-reasons", "sawtooth_settings", [
+        (b"", ["!"], 301),
+        (a_to_b, [b"\x0a"], 302),
+        (a_to_b, [setting(keys, "L, M")], 303),
+        (b"\x0a", [b""], 304),
+        (b"\x08\x03\x12\x06\x0a\x01a\x12\x01b", [b""], 305),
+        # Of a proposal.
+        (b"\x08\x01\x12\x01\x0a", [b""], 306),
+        (a_to_b, [b"", setting(threshold, "two")], 302),
+        (a_to_b, [b"", b""], 307),
+        (proposing(keys, " , "), [b"", b""], 308),
+        (proposing(threshold, "2"), [one_key, b""], 309),
+        (proposing(proposals, "x"), [one_key, b""], 310),
+        (a_to_b, [two_keys, two_votes, setting(proposals, "?")], 302),
+        (a_to_b, [two_keys, two_votes, setting(proposals, of_l)], 311),
+        # Of a vote.
+        (b"\x08\x02\x12\x01\x0a", [b""], 306),
+        (vote + b"\x03", [b""], 312),
+        (vote + b"\x01", [b"", b""], 313),
+        (vote + b"\x02", [two_keys, setting(proposals, of_k), two_votes], 314),
+    ])
+    families("settings-steps", "sawtooth_settings", [(b"", [], f"get {setting_address(keys)}")])
+
+
+def messages():
+    again = [
+        ("setting", record(1, record(1, "a") + record(2, "b"))),
+        ("payload", b"\x08\x01\x12\x01a"),
+        ("proposal", b"\x0a\x01a\x12\x01b\x1a\x01c"),
+        ("vote", b"\x0a\x01a\x10\x02"),
+        # An id, a proposal of a setting, and one vote.
+        ("candidates", b"\x0a\x0f\x0a\x01a\x12\x03\x0a\x01b\x1a\x05\x0a\x01c\x10\x01"),
+    ]
+    at = setting_address("a")
+    twice = record(1, record(1, "a") + record(2, "b")) + record(1, record(1, "a") + record(2, "c"))
+    put("settings", "settings", [(f"{kind} {hexed(data)}", f" {data.hex()}") for kind, data in again] + [
+        (f"address {key}", " " + setting_address(key)) for key in ("sawtooth.settings.vote.proposals", "foo")
+    ] + [
+        (f"value a {at}={twice.hex()}", " b"),
+        (f"value b {at}={twice.hex()}", "none"),
+    ])
+    put("requests", "requests", [("1000", "ok 1000"), ("1001", "invalid 4")])
+
+
+# Plans.
+
+
+def planned():
+    batches = [
+        ("known", [("t0", "")]),
+        ("b1", [("t1", ""), ("t2", "t1")]),
+        ("b2", [("t3", "t1"), ("t4", "there")]),
+        ("b3", [("t5", ""), ("there", "")]),
+        ("b4", [("t1", "nowhere")]),
+        ("b1", [("t6", "")]),
+        ("b5", [("t7", "t7")]),
+        ("b6", [("t8", ""), ("t9", "t10"), ("t10", "")]),
+        ("b7", [("t11", "t5")]),
+        ("b3", [("t5", "")]),
+        ("b8", [("t12", "t5"), ("t13", "b1")]),
+    ]
+    calls = [("known known", ""), ("there there", "")]
+    for batch, txs in batches:
+        calls += [(f"tx {tx} {'+' + other if other else '-'} -", "") for tx, other in txs]
+        calls.append((f"batch {batch}", ""))
+    calls.append(("precheck", "\n".join([
+        "kept 1 2 9 b1 b2 b3",
+        "dropped 0 batch",
+        "dropped 3 transaction 1",
+        "dropped 4 transaction 0",
+        "dropped 5 batch",
+        "dropped 6 missing 0 t7",
+        "dropped 7 missing 1 t10",
+        "dropped 8 missing 0 t5",
+        "dropped 10 missing 1 b1",
+    ])))
+    put("plans", "static-rules", calls)
+
+
+def operation(verb, name, value):
+    return head(5, 3) + text("Verb") + text(verb) + text("Name") + text(name) + text("Value") + head(0, value)
+
+
+def executed():
+    set_x, inc_x, inc_y = operation("set", "x", 1), operation("inc", "x", 1), operation("inc", "y", 1)
+    batches = [
+        [("a0", set_x, "-"), ("a1", inc_y, "-")],
+        [("b0", operation("set", "x", 2), "-")],
+        [("c0", inc_x, "-")],
+        [("d0", inc_x, "+a0")],
+        [("e0", inc_x, "+d0")],
+    ]
+    calls = []
+    for txs in batches:
+        calls += [(f"tx {name} {other} {payload.hex()}", "") for name, payload, other in txs]
+        calls.append(("batch ", ""))
+    x = address("x")
+    calls.append(("execute", "\n".join([
+        " failed 1 invalid 108",
+        f" applied {x} a1617802",
+        f" applied {x} a1617803",
+        " failed 0 invalid 3",
+        " failed 0 invalid 3",
+    ])))
+    put("plans", "execution", calls)
+
+
+# States.
+
+
+def kept(name, value):
+    return head(5, 1) + text(name) + head(0, value)
+
+
+def root(entries):
+    """The root of a state: bytes by addresses in hex digits."""
+    return sha512(node({bytes.fromhex(at): value for at, value in entries.items()}, 0))[:64] if entries else EMPTY
+
+
+# The empty root: the node with no children and no value.
+EMPTY = sha512(b"\xa2\x61c\xa0\x61v\xf6")[:64]
+
+
+def counters_root(counters):
+    return root({address(name): kept(name, value) for name, value in counters.items()})
+
+
+def states():
+    at = {name: address(name) for name in "abc"}
+    put("states", "told-is-not-known", [
+        ("list +", "listed"),
+        (f"told {at['a']}={kept('a', 1).hex()}", f"root {counters_root({'a': 1})} not known"),
+        (f"told {at['a']}", f"root {EMPTY} known"),
+    ])
+    steps = [
+        ("a", 1, {"a": 1}),
+        ("b", 2, {"a": 1, "b": 2}),
+        ("a", 3, {"b": 2, "a": 3}),
+        ("c", None, {"a": 3, "b": 2}),
+        ("a", None, {"b": 2}),
+        ("b", None, {}),
+    ]
+    calls = []
+    for name, value, left in steps:
+        word = at[name] + ("" if value is None else "=" + kept(name, value).hex())
+        known = "known" if name == "c" or left == {} else "not known"
+        calls.append((f"told {word}", f"root {counters_root(left)} {known}"))
+        calls.append((f"update {word}", f"root {counters_root(left)}"))
+    put("states", "roots-of-counters", calls)
+    low = "00" * 35
+    entries, calls = {}, []
+    for where, value in [(low, b""), (at["b"], kept("b", 1)), (at["a"], kept("a", 1))]:
+        entries[where] = value
+        calls.append((f"update {where}={hexed(value)}", f"root {root(entries)}"))
+    lines = {where: f"{where} {value.hex()}" for where, value in entries.items()}
+    for prefix, found in [
+        ("", [low, at["a"], at["b"]]),
+        ("00", [low]),
+        ("1cf126", [at["a"], at["b"]]),
+        ("1cf126b5", [at["b"]]),
+        ("1d", []),
+    ]:
+        calls.append((f"list +{prefix}", "\n".join(["listed"] + [lines[where] for where in found])))
+    put("states", "entries-under-a-prefix", calls)
+
+
+# Blocks.
+
+
+def mark(key, message):
+    return sha512(key.encode() + message)
+
+
+def transaction(payload):
+    header = record(1, KEY) + record(3, "intkey") + record(4, "1.0") + record(5, "1cf126") + record(7, "1cf126")
+    header += record(9, sha512(payload)) + record(10, KEY)
+    return mark(KEY, header), record(1, header) + record(2, mark(KEY, header)) + record(3, payload)
+
+
+def batch(payloads):
+    made = [transaction(payload) for payload in payloads]
+    header = record(1, KEY) + b"".join(record(2, name) for name, _ in made)
+    return mark(KEY, header), record(1, header) + record(2, mark(KEY, header)) + b"".join(record(3, t) for _, t in made)
+
+
+class Block:
+    def __init__(self, name, previous, number, counters, batches, signer=KEY, consensus=b"Devmode"):
+        made = [batch(payloads) for payloads in batches]
+        header = (b"\x08" + varint(number) if number else b"") + record(2, previous) + record(3, signer)
+        header += b"".join(record(4, i) for i, _ in made) + record(5, consensus) + record(6, counters_root(counters))
+        self.id, self.name, self.number, self.root = mark(signer, header), name, number, counters_root(counters)
+        with open(f"{FOLDER}/blocks/{name}.block", "wb") as file:
+            file.write(record(1, header) + record(2, self.id) + b"".join(record(3, b) for _, b in made))
+
+    def accept(self, line):
+        return f"accept {self.name}.block", line if line in ("committed", "stored", "full") else f"block 0 refused {line}"
+
+    def head(self):
+        return "head", f"head {self.number} {self.id} {self.root}"
+
+
+SETS = {name: operation("set", name, 1) for name in "abc"}
+SET_A_TO_2 = operation("set", "a", 2)
+
+
+def first(name="first", **other):
+    return Block(name, NO_BLOCK, **{"number": 0, "counters": {"a": 1}, "batches": [[SETS["a"]]], "consensus": b"", **other})
+
+
+def child(name, of, **other):
+    return Block(name, of.id, **{"number": 1, "counters": {"a": 1, "b": 1}, "batches": [[SETS["b"]]], **other})
+
+
+def grandchild(name, of, **other):
+    return child(name, of, **{"number": 2, "batches": [], **other})
+
+
+def receipt_of(payload, name):
+    """The receipt of the transaction that sets the counter of this name to 1."""
+    return (change(address(name), kept(name, 1)) + record(4, transaction(payload)[0])).hex()
+
+
+def verdicts():
+    genesis = first()
+    second = child("child", genesis)
+    third = grandchild("grandchild", second)
+    other, misnumbered = first("other-first", signer=OTHER_KEY), first("misnumbered", number=3)
+    put("journal", "judged-by-those-before", [
+        ("limit 10", ""),
+        misnumbered.accept("11 BlockNumber 3 0"),
+        second.accept("10 PreviousUnknown"),
+        genesis.accept("committed"),
+        genesis.accept("8 Known"),
+        other.accept("9 GenesisAgain"),
+        third.accept("10 PreviousUnknown"),
+        second.accept("committed"),
+        third.accept("committed"),
+        second.accept("8 Known"),
+        ("blocks", "blocks 3"),
+    ])
+    put("journal", "first-fault-of-a-child", [
+        ("limit 10", ""),
+        genesis.accept("committed"),
+        child("wrong-number", genesis, number=5, consensus=b"").accept("11 BlockNumber 5 1"),
+        child("largest-number", genesis, number=2**64 - 1).accept("11 BlockNumber 18446744073709551615 1"),
+        child("wrong-consensus", genesis, consensus=b"Devmod", batches=[[SETS["a"]]]).accept("12 Consensus"),
+        child("batch-again", genesis, batches=[[SETS["b"]], [SETS["a"]]]).accept("13 Static 1 1"),
+        child("transaction-again", genesis, batches=[[SET_A_TO_2], [SETS["b"], SETS["a"]]]).accept("13 Static 1 2 1"),
+        child("invalid", genesis, batches=[[SETS["b"]], [SETS["c"], SET_A_TO_2]]).accept("14 BatchInvalid 1 1 107"),
+        child("longer-consensus", genesis, consensus=b"Devmode and more").accept("committed"),
+        ("blocks", "blocks 2"),
+    ])
+    wrong_root = first("wrong-root", counters={})
+    with open(f"{FOLDER}/blocks/no.block", "wb") as file:
+        file.write(b"\x0b")
+    pair = child("pair", genesis, batches=[[SETS["b"], SETS["c"]]], counters={"a": 1, "b": 1, "c": 1})
+    put("journal", "receipts", [
+        ("limit 10", ""),
+        genesis.accept("committed"),
+        ("receipts", f"batch {batch([SETS['a']])[0]} {receipt_of(SETS['a'], 'a')}"),
+        pair.accept("committed"),
+        ("receipts", f"batch {batch([SETS['b'], SETS['c']])[0]} {receipt_of(SETS['b'], 'b')} {receipt_of(SETS['c'], 'c')}"),
+    ])
+    put("journal", "no-head", [
+        ("limit 10", ""),
+        wrong_root.accept(f"15 Root {genesis.root}"),
+        ("accept no.block", "block 0 refused 1 Undecodable"),
+        ("head", "head none"),
+        ("parent", "parent none"),
+    ])
+    faulty = grandchild("faulty", second, consensus=b"")
+    put("journal", "full", [
+        ("limit 2", ""),
+        genesis.accept("committed"),
+        second.accept("committed"),
+        third.accept("full"),
+        faulty.accept("12 Consensus"),
+        second.accept("8 Known"),
+        ("blocks", "blocks 2"),
+        second.head(),
+    ])
+
+
+def branches():
+    genesis = first()
+    weights = sorted((KEY, OTHER_KEY), key=lambda key: hashlib.sha256((key + genesis.id).encode()).hexdigest())
+    low, high = weights
+    lower = child("lower", genesis, signer=low, batches=[[SETS["c"]]], counters={"a": 1, "c": 1})
+    higher = child("higher", genesis, signer=high)
+    same = child("same-signer", genesis, signer=low)
+    last = grandchild("last", higher, signer=OTHER_KEY)
+    weight = lambda key, block: hashlib.sha256((key + block.id).encode()).hexdigest()  # noqa: E731
+    assert weight(low, genesis) < weight(OTHER_KEY, higher)
+    for name, end, order in [
+        ("lower-first", lower, [(lower, "committed"), (higher, "stored")]),
+        ("lower-second", lower, [(higher, "committed"), (lower, "committed")]),
+        ("first-of-a-signer", lower, [(lower, "committed"), (same, "stored")]),
+        ("other-of-a-signer", same, [(same, "committed"), (lower, "stored")]),
+    ]:
+        calls = [("limit 10", ""), genesis.accept("committed")]
+        put("journal", name, calls + [block.accept(line) for block, line in order] + [end.head()])
+    line = {name: f"{address(name)} {kept(name, 1).hex()}" for name in "abc"}
+    ids = [(batch([SETS[name]])[0], transaction(SETS[name])[0]) for name in "abc"]
+    words = "known " + " ".join(f"{b} {t}" for b, t in ids)
+
+    def known(*flags):
+        return words, "known" + "".join(f" {f} 0 0 {f}" for f in flags)
+
+    put("journal", "longer-branch", [
+        ("limit 10", ""),
+        ("parent", "parent none"),
+        known(0, 0, 0),
+        genesis.accept("committed"),
+        known(1, 0, 0),
+        lower.accept("committed"),
+        higher.accept("stored"),
+        known(1, 0, 1),
+        ("list +", f"listed\n{line['a']}\n{line['c']}"),
+        ("parent", f"parent 1 {lower.id} {lower.root}"),
+        last.accept("committed"),
+        known(1, 1, 0),
+        ("list +", f"listed\n{line['a']}\n{line['b']}"),
+        last.head(),
+    ])
+
+
+def main():
+    os.makedirs(f"{FOLDER}/blocks", exist_ok=True)
+    access()
+    counters()
+    games()
+    settings()
+    messages()
+    planned()
+    executed()
+    states()
+    verdicts()
+    branches()
+
+
+main()
