@@ -25,7 +25,8 @@ covers-append prefix address rest h =
     covers-take prefix (address ++ rest) (take-append-le (length prefix) address rest (length-covers prefix address h) ∙ take-covers prefix address h)
 
 -- of two prefixes of an address the shorter begins the longer
-covers-shorter : (first second address : List ℕ) → length first ≤ length second → covers first address ≡ true → covers second address ≡ true → covers first second ≡ true
+covers-shorter : (first second address : List ℕ) → length first ≤ length second → covers first address ≡ true → covers second address ≡ true
+    → covers first second ≡ true
 covers-shorter first second address h f s =
     covers-take first second
     (ap (take (length first)) (sym (take-covers second address s)) ∙ take-take (length first) (length second) address h ∙ take-covers first address f)

@@ -1,5 +1,6 @@
 -- Bytes and their hex digits.
-use Rattle.std.proofs.Common.{◌≡◌, ℕ, zero, suc, ◌+◌, ◌*◌, ◌/◌, ◌%◌, ◌<◌, ◌==◌, Bool, true, ◌&&◌, ◌||◌, not, nat_lt, List, [], ◌∷◌, length, slice_index, Option, Some, None, unwrap_or, is_some, Result, Ok, Err, refl, ap, ◌∙◌, arith}
+use Rattle.std.proofs.Common.{◌≡◌, ℕ, zero, suc, ◌+◌, ◌*◌, ◌/◌, ◌%◌, ◌<◌, ◌==◌, Bool, true, ◌&&◌, ◌||◌, not, nat_lt, List, [], ◌∷◌, length}
+use Rattle.std.proofs.Common.{slice_index, Option, Some, None, unwrap_or, is_some, Result, Ok, Err, refl, ap, ◌∙◌, arith}
 use Rattle.std.specs.Prelude.{MatchResult}
 use Rattle.std.specs.List.{list_all}
 use Rattle.std.proofs.lemmas.Bool.{agree_below_at, and_from, and_parts, eq-eqb, eqb-true, lt-ltb, ltb-true}
@@ -99,7 +100,8 @@ IsDigitOf-value_or c h =
     }
 
 -- a byte of two digits is written as these digits
-encode_lower-pair : (a b v w : ℕ) (bytes rest : List ℕ) → IsDigitOf a v → IsDigitOf b w → encode_lower bytes ≡ rest → encode_lower ((v * 16 + w) ∷ bytes) ≡ a ∷ b ∷ rest
+encode_lower-pair : (a b v w : ℕ) (bytes rest : List ℕ) → IsDigitOf a v → IsDigitOf b w → encode_lower bytes ≡ rest
+    → encode_lower ((v * 16 + w) ∷ bytes) ≡ a ∷ b ∷ rest
 unfolding encode_with
 encode_lower-pair a b v w bytes rest high low e =
     let fits : w < 16 = low.small in
@@ -108,7 +110,8 @@ encode_lower-pair a b v w bytes rest high low e =
     rw (first, second, high.written, low.written, e) refl
 
 -- lower case digits decode to bytes that are written so
-decode_pairs-lower : (i : ℕ) (s : List ℕ) → length s % 2 ≡ 0 → list_all is_hex_digit s ≡ true → (bytes : List ℕ) × (decode_pairs i s ≡ Ok bytes) × (encode_lower bytes ≡ s)
+decode_pairs-lower : (i : ℕ) (s : List ℕ) → length s % 2 ≡ 0 → list_all is_hex_digit s ≡ true → (bytes : List ℕ) × (decode_pairs i s ≡ Ok bytes)
+    × (encode_lower bytes ≡ s)
 unfolding decode_pairs encode_with
 decode_pairs-lower i [] even h = ([], refl, refl)
 decode_pairs-lower i (a ∷ []) even h = absurd (omega arith)

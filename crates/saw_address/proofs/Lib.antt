@@ -1,3 +1,4 @@
 pub mod Covering
 pub mod Digits
 pub mod Finite
+pub mod Parts

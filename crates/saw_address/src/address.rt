@@ -1,16 +1,15 @@
 //! Addresses of the state.
 
-ghost use Rattle.std.specs.Prelude.{◌≡◌, ◌↔◌, true, length, IsSome, IfSome, IsTrue};
+ghost use Rattle.std.specs.Prelude.{◌≡◌, ◌↔◌, ◌++◌, true, length, IsSome, IfSome, IsTrue};
 ghost use Rattle.hex.specs.Hex.{IsBytes, encode_lower};
 ghost use Rattle.saw_address.specs.Maps.{is_address};
 ghost use Rattle.saw_address.specs.Texts.{is_address_text};
 
 use crate::text::{is_hex_text, read_digits};
-use std::cmp::Ordering;
 use std::marker::Model;
 
 /// An address: 35 bytes.
-#[derive(Clone, Copy, Debug)]
+#[derive(Clone, Copy, PartialEq, Eq, PartialOrd, Ord, Debug)]
 pub struct Address {
     bytes: [u8; 35],
 }
@@ -33,6 +32,17 @@ impl Address {
         ensures { result ≡ bytes }
     {
         Address { bytes }
+    }
+
+    /// The address of a family's three bytes and 32 more.
+    pub fn under(family: [u8; 3], tail: &[u8]) -> Self
+        requires { length tail.now ≡ 32 }
+        ensures { result ≡ family ++ tail.now }
+    {
+        let mut bytes = [0; 35];
+        bytes[..3].copy_from_slice(&family);
+        bytes[3..].copy_from_slice(tail);
+        Address::new(bytes)
     }
 
     /// Reads an address from its 70 hex digits, in lower case.
@@ -72,55 +82,3 @@ impl Address {
 fn show_bytes(bytes: &[u8])
     ensures { IsBytes bytes.now }
 {}
-
-impl PartialEq for Address {
-    ghost use Rattle.std.specs.Str.{bytes_eq};
-    ghost use Rattle.std.specs.Cmp.{partial_equiv_from_equiv};
-    ghost use Rattle.std.specs.Cmp.Lexicographic.{nat_list_eq_equiv};
-
-    ghost eq = { bytes_eq };
-
-    ghost laws = { partial_equiv_from_equiv nat_list_eq_equiv };
-
-    fn eq(&self, other: &Self) -> bool {
-        self.as_slice() == other.as_slice()
-    }
-}
-
-impl Eq for Address {
-    ghost use Rattle.std.specs.Cmp.Lexicographic.{nat_list_eq_equiv};
-
-    ghost laws = { nat_list_eq_equiv };
-}
-
-impl PartialOrd for Address {
-    ghost use Rattle.std.specs.Prelude.{Some};
-    ghost use Rattle.std.specs.Ordering.{nat_cmp};
-    ghost use Rattle.std.specs.Cmp.Lexicographic.{slice_cmp, texts_po};
-
-    ghost partial_cmp = { λ x y. Some (slice_cmp nat_cmp x y) };
-
-    ghost laws = { texts_po };
-
-    fn partial_cmp(&self, other: &Self) -> Option<Ordering> {
-        Some(self.cmp(other))
-    }
-}
-
-impl Ord for Address {
-    ghost use Rattle.std.specs.Prelude.{refl};
-    ghost use Rattle.std.specs.Ordering.{nat_cmp};
-    ghost use Rattle.std.specs.Cmp.Lexicographic.{slice_cmp, nat_list_cmp_total, texts_ties};
-
-    ghost cmp = { slice_cmp nat_cmp };
-
-    ghost total = { nat_list_cmp_total };
-
-    ghost matches_partial_cmp = { λ x y. refl };
-
-    ghost matches_eq = { texts_ties };
-
-    fn cmp(&self, other: &Self) -> Ordering {
-        self.as_slice().cmp(other.as_slice())
-    }
-}

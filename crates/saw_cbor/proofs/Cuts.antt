@@ -11,7 +11,8 @@ pub record Lies (P : List ℕ → Type 0) (p : ℕ) (whole : List ℕ) (next : �
   pub is : P front
 
 -- one run behind another
-pub both : {P Q R : List ℕ → Type 0} (p middle next : ℕ) (whole : List ℕ) → ((first others : List ℕ) → P first → Q others → R (first ++ others)) → Lies P p whole middle → Lies Q middle whole next → Lies R p whole next
+pub both : {P Q R : List ℕ → Type 0} (p middle next : ℕ) (whole : List ℕ) → ((first others : List ℕ) → P first → Q others → R (first ++ others))
+    → Lies P p whole middle → Lies Q middle whole next → Lies R p whole next
 both p middle next whole join a b = record {
   front = a.front ++ b.front;
   parts = a.parts ∙ ap (λ (r : List ℕ). a.front ++ r) b.parts ∙ sym (append_assoc a.front b.front (drop next whole));
@@ -32,8 +33,10 @@ taken n q whole room =
     }
 
 -- what lies behind a run
-pub behind : (p : ℕ) (whole front rest : List ℕ) → p ≤ length whole → drop p whole ≡ front ++ rest → (drop (p + length front) whole ≡ rest) × (p + length front ≤ length whole)
+pub behind : (p : ℕ) (whole front rest : List ℕ) → p ≤ length whole → drop p whole ≡ front ++ rest → (drop (p + length front) whole ≡ rest)
+    × (p + length front ≤ length whole)
 behind p whole front rest le parts =
-    let left : drop (p + length front) whole ≡ rest = sym (drop-drop (length front) p whole) ∙ ap (drop (length front)) parts ∙ drop_at front rest (length front) refl in
+    let left : drop (p + length front) whole ≡ rest = sym (drop-drop (length front) p whole) ∙ ap (drop (length front)) parts
+    ∙ drop_at front rest (length front) refl in
     let long : length whole - p ≡ length front + length rest = sym (length-drop p whole) ∙ ap (λ (xs : List ℕ). length xs) parts ∙ length-append front rest in
     (left, omega arith)

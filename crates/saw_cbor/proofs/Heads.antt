@@ -1,5 +1,6 @@
 -- A head that is read is one, and a head is read.
-use Rattle.std.proofs.Common.{◌≡◌, ℕ, ◌+◌, ◌*◌, ◌/◌, ◌%◌, ◌<◌, ◌≤◌, inl, inr, true, false, List, [], ◌∷◌, ◌++◌, length, take, drop, Ok, refl, sym, ap, subst, ◌∙◌, arith}
+use Rattle.std.proofs.Common.{◌≡◌, ℕ, ◌+◌, ◌*◌, ◌/◌, ◌%◌, ◌<◌, ◌≤◌, inl, inr, true, false, List, [], ◌∷◌, ◌++◌, length, take, drop, Ok, refl, sym, ap}
+use Rattle.std.proofs.Common.{subst, ◌∙◌, arith}
 use Rattle.std.specs.Prelude.{nat_lt, if◌then◌else◌}
 use Rattle.std.proofs.lemmas.Bool.{cases_eq, cases_lt, lt-ltb, le-ltb, ltb-false}
 use Rattle.std.proofs.lemmas.Bool.Decides.{nat_tests}
@@ -42,7 +43,8 @@ size_high info size high low long =
 few : (byte : ℕ) → is_unsupported byte ≡ false → byte % 32 < 28
 few byte fine = grind (arith, nat_tests)
 
-argument_found : (info : ℕ) (rest : List ℕ) → info < 28 → length rest ≡ argument_size info → IsArgument info (if nat_lt info 24 then info else number_of rest) rest
+argument_found : (info : ℕ) (rest : List ℕ) → info < 28 → length rest ≡ argument_size info
+    → IsArgument info (if nat_lt info 24 then info else number_of rest) rest
 argument_found info rest fine long =
     elim (cases_lt info 24) [
       | inl low ↦ let t : nat_lt info 24 ≡ true = lt-ltb _ _ low in rw t (inl (low, refl, nil_from_length rest (long ∙ size_low info low)))
@@ -63,7 +65,8 @@ found_by p whole (first ∷ others) head parts e =
     let inside : p + 1 + size ≤ length whole = ltb-false _ _ b.0 in
     let long : length rest ≡ size = omega (arith, length-take size (drop (p + 1) whole), length-drop (p + 1) whole) in
     let cut : others ≡ rest ++ drop (p + 1 + size) whole =
-    sym (next_drop p first whole others parts) ∙ sym (take-append-drop size (drop (p + 1) whole)) ∙ ap (λ (r : List ℕ). rest ++ r) (drop-drop size (p + 1) whole) in
+    sym (next_drop p first whole others parts) ∙ sym (take-append-drop size (drop (p + 1) whole))
+    ∙ ap (λ (r : List ℕ). rest ++ r) (drop-drop size (p + 1) whole) in
     let made : Head = record { first = first; argument = if nat_lt (first % 32) 24 then first % 32 else number_of rest; behind = p + 1 + size } in
     let t : IsHeadAt p whole made = record {
       rest = rest;
@@ -79,7 +82,8 @@ pub head_found : (p : ℕ) (whole : List ℕ) (head : Head) → head_at p whole 
 unfolding head_at
 head_found p whole head e = found_by p whole (drop p whole) head refl e
 
-pub head_lies : (p : ℕ) (whole : List ℕ) (head : Head) (major : ℕ) → IsHeadAt p whole head → head.first / 32 ≡ major → Lies (IsHead major head.argument) p whole head.behind
+pub head_lies : (p : ℕ) (whole : List ℕ) (head : Head) (major : ℕ) → IsHeadAt p whole head → head.first / 32 ≡ major
+    → Lies (IsHead major head.argument) p whole head.behind
 head_lies p whole head major h e =
     let first : head.first ≡ major * 32 + head.first % 32 = omega arith in
     record {
@@ -93,13 +97,27 @@ head_lies p whole head major h e =
 -- a head without an argument behind it
 pub one_byte : (p : ℕ) (whole : List ℕ) (head : Head) → IsHeadAt p whole head → head.first % 32 < 24 → Lies (λ v. v ≡ head.first ∷ []) p whole head.behind
 one_byte p whole head h low =
-    let none : h.rest ≡ [] = elim h.argument [ inl is ↦ is.2 | inr (inl is, same) ↦ absurd (omega (arith, is.0)) | inr (inr (inl is), same) ↦ absurd (omega (arith, is.0)) | inr (inr (inr (inl is)), same) ↦ absurd (omega (arith, is.0)) | inr (inr (inr (inr is)), same) ↦ absurd (omega (arith, is.0)) ] in
+    let none : h.rest ≡ [] = elim h.argument [
+      | inl is ↦ is.2
+      | inr (inl is, same) ↦ absurd (omega (arith, is.0))
+      | inr (inr (inl is), same) ↦ absurd
+          (omega (arith, is.0))
+      | inr (inr (inr (inl is)), same) ↦ absurd (omega (arith, is.0))
+      | inr (inr (inr (inr is)), same) ↦ absurd
+          (omega (arith, is.0))
+    ] in
     record { front = head.first ∷ h.rest; parts = h.parts; ends = omega (arith, h.ends); within = h.within; is = ap (λ (r : List ℕ). head.first ∷ r) none }
 
 -- ---- what has the form is read
 
-pub head_step : (p first size : ℕ) (whole others : List ℕ) → drop p whole ≡ first ∷ others → is_unsupported first ≡ false → argument_size (first % 32) ≡ size → p + 1 + size ≤ length whole
-    → head_at p whole ≡ Ok (record { first = first; argument = if nat_lt (first % 32) 24 then first % 32 else number_of (take size others); behind = p + 1 + size })
+pub head_step : (p first size : ℕ) (whole others : List ℕ) → drop p whole ≡ first ∷ others → is_unsupported first ≡ false
+    → argument_size (first % 32) ≡ size → p + 1 + size ≤ length whole
+    → head_at p whole ≡ Ok (record {
+      first = first;
+      argument = if nat_lt (first % 32) 24 then first % 32 else number_of (take size others);
+      behind =
+          p + 1 + size;
+    })
 unfolding head_at head_from
 head_step p first size whole others parts fine long room =
     let t : nat_lt (length whole) (p + 1 + size) ≡ false = le-ltb _ _ room in

@@ -1,5 +1,6 @@
 -- Items that are no containers.
-use Rattle.std.proofs.Common.{◌≡◌, ◌≢◌, ℕ, ◌+◌, ◌/◌, ◌<◌, ◌≤◌, ◌⊎◌, inl, inr, Bool, true, false, List, ◌++◌, length, take, drop, Ok, Err, refl, sym, ap, subst, ◌∙◌, arith}
+use Rattle.std.proofs.Common.{◌≡◌, ◌≢◌, ℕ, ◌+◌, ◌/◌, ◌<◌, ◌≤◌, ◌⊎◌, inl, inr, Bool, true, false, List, ◌++◌, length, take, drop, Ok, Err, refl, sym}
+use Rattle.std.proofs.Common.{ap, subst, ◌∙◌, arith}
 use Rattle.std.specs.Prelude.{nat_lt}
 use Rattle.std.specs.Str.{is_utf8}
 use Rattle.std.proofs.lemmas.Bool.{le-ltb, ltb-false}
@@ -23,18 +24,22 @@ pub negative_is : (head : Head) (whole : List ℕ) → head.first / 32 ≡ 1 →
 unfolding leaf_at
 negative_is head whole major = rw major refl
 
-pub bytes_are : (head : Head) (whole : List ℕ) → head.first / 32 ≡ 2 → leaf_at head whole ≡ (content_at head.argument head.behind whole >>= λ found. Ok (bytes found.0, found.1))
+pub bytes_are : (head : Head) (whole : List ℕ) → head.first / 32 ≡ 2
+    → leaf_at head whole ≡ (content_at head.argument head.behind whole >>= λ found. Ok (bytes found.0, found.1))
 unfolding leaf_at
 bytes_are head whole major = rw major refl
 
-text_by : (head : Head) (whole : List ℕ) → head.first / 32 ≡ 3 → leaf_at head whole ≡ (content_at head.argument head.behind whole >>= λ found. text_or found (is_utf8 found.0))
+text_by : (head : Head) (whole : List ℕ) → head.first / 32 ≡ 3
+    → leaf_at head whole ≡ (content_at head.argument head.behind whole >>= λ found. text_or found (is_utf8 found.0))
 unfolding leaf_at
 text_by head whole major = rw major refl
 
-pub text_is : (head : Head) (whole content : List ℕ) (end : ℕ) → head.first / 32 ≡ 3 → content_at head.argument head.behind whole ≡ Ok (content, end) → is_utf8 content ≡ true → leaf_at head whole ≡ Ok (text content, end)
+pub text_is : (head : Head) (whole content : List ℕ) (end : ℕ) → head.first / 32 ≡ 3 → content_at head.argument head.behind whole ≡ Ok (content, end)
+    → is_utf8 content ≡ true → leaf_at head whole ≡ Ok (text content, end)
 text_is head whole content end major found fine = text_by head whole major ∙ rw (found, fine) refl
 
-pub text_is_not : (head : Head) (whole content : List ℕ) (end : ℕ) → head.first / 32 ≡ 3 → content_at head.argument head.behind whole ≡ Ok (content, end) → is_utf8 content ≡ false → leaf_at head whole ≡ Err NotUtf8
+pub text_is_not : (head : Head) (whole content : List ℕ) (end : ℕ) → head.first / 32 ≡ 3
+    → content_at head.argument head.behind whole ≡ Ok (content, end) → is_utf8 content ≡ false → leaf_at head whole ≡ Err NotUtf8
 text_is_not head whole content end major found fine = text_by head whole major ∙ rw (found, fine) refl
 
 pub null_is : (head : Head) (whole : List ℕ) → head.first ≡ 0xf6 → leaf_at head whole ≡ Ok (null, head.behind)
@@ -51,7 +56,8 @@ true_is head whole first = rw first refl
 
 -- ---- contents
 
-content_found : (n q : ℕ) (whole content : List ℕ) (next : ℕ) → content_at n q whole ≡ Ok (content, next) → (take n (drop q whole) ≡ content) × (q + n ≡ next) × (q + n ≤ length whole)
+content_found : (n q : ℕ) (whole content : List ℕ) (next : ℕ) → content_at n q whole ≡ Ok (content, next) → (take n (drop q whole) ≡ content)
+    × (q + n ≡ next) × (q + n ≤ length whole)
 unfolding content_at
 content_found n q whole content next e =
     let a = guard_ok (nat_lt (length whole) (q + n)) Cut _ (content, next) e in
@@ -59,7 +65,8 @@ content_found n q whole content next e =
     let inside : q + n ≤ length whole = ltb-false _ _ a.0 in
     (b.0, b.1, inside)
 
-pub content_again : (q n : ℕ) (whole content left : List ℕ) → q ≤ length whole → drop q whole ≡ content ++ left → n ≡ length content → content_at n q whole ≡ Ok (content, q + length content)
+pub content_again : (q n : ℕ) (whole content left : List ℕ) → q ≤ length whole → drop q whole ≡ content ++ left → n ≡ length content
+    → content_at n q whole ≡ Ok (content, q + length content)
 unfolding content_at
 content_again q n whole content left le parts long =
     let b = behind q whole content left le parts in
@@ -68,7 +75,8 @@ content_again q n whole content left le parts long =
     rw (long, t, cut) refl
 
 -- a head with the content behind it
-headed : (major p : ℕ) (whole : List ℕ) (head : Head) (content : List ℕ) (next : ℕ) → IsHeadAt p whole head → head.first / 32 ≡ major → content_at head.argument head.behind whole ≡ Ok (content, next) → Lies (IsHeaded major (length content) content) p whole next
+headed : (major p : ℕ) (whole : List ℕ) (head : Head) (content : List ℕ) (next : ℕ) → IsHeadAt p whole head → head.first / 32 ≡ major
+    → content_at head.argument head.behind whole ≡ Ok (content, next) → Lies (IsHeaded major (length content) content) p whole next
 headed major p whole head content next h e found =
     let c = content_found head.argument head.behind whole content next found in
     let join = λ (first others : List ℕ) (a : IsHead major head.argument first) (b : (others ≡ take head.argument (drop head.behind whole)) × (length others ≡ head.argument)).
@@ -77,7 +85,8 @@ headed major p whole head content next h e found =
     let is : IsHead major (length content) first = subst (λ (n : ℕ). IsHead major n first) long a in
     let t : IsHeaded major (length content) content (first ++ others) = (first, is, ap (λ (v : List ℕ). first ++ v) same) in
     t in
-    let l : Lies (IsHeaded major (length content) content) p whole (head.behind + head.argument) = both p head.behind (head.behind + head.argument) whole join (head_lies p whole head major h e) (taken head.argument head.behind whole c.2) in
+    let l : Lies (IsHeaded major (length content) content) p whole (head.behind + head.argument) =
+    both p head.behind (head.behind + head.argument) whole join (head_lies p whole head major h e) (taken head.argument head.behind whole c.2) in
     subst (λ (n : ℕ). Lies (IsHeaded major (length content) content) p whole n) c.1 l
 
 -- ---- what is read spells it
@@ -97,7 +106,8 @@ first_is first small fine four five = grind (arith, nat_tests)
 abbrev pub LeafLies : ℕ → List ℕ → Cbor × ℕ → Type 0
 LeafLies p whole x = Lies (Spells x.0) p whole x.1 × (nesting x.0 ≡ 0)
 
-pub leaf_found : (p : ℕ) (whole : List ℕ) (head : Head) (x : Cbor × ℕ) → IsHeadAt p whole head → head.first < 256 → head.first / 32 ≢ 4 → head.first / 32 ≢ 5 → leaf_at head whole ≡ Ok x → LeafLies p whole x
+pub leaf_found : (p : ℕ) (whole : List ℕ) (head : Head) (x : Cbor × ℕ) → IsHeadAt p whole head → head.first < 256 → head.first / 32 ≢ 4
+    → head.first / 32 ≢ 5 → leaf_at head whole ≡ Ok x → LeafLies p whole x
 leaf_found p whole head x h small four five e =
     elim (first_is head.first small h.supported four five) [
       | inl k ↦
@@ -115,7 +125,8 @@ leaf_found p whole head x h small four five e =
           let fine = text_ok f.0 (is_utf8 f.0.0) x f.2 in
           let made : Cbor × ℕ = (text f.0.0, f.0.1) in
           let l = headed 3 p whole head f.0.0 f.0.1 h k f.1 in
-          let t : Lies (Spells (text f.0.0)) p whole f.0.1 = record { front = l.front; parts = l.parts; ends = l.ends; within = l.within; is = (l.is, fine.0) } in
+          let t : Lies (Spells (text f.0.0)) p whole f.0.1 =
+          record { front = l.front; parts = l.parts; ends = l.ends; within = l.within; is = (l.is, fine.0) } in
           subst (LeafLies p whole) (ok_is made x fine.1) (t, refl)
       | inr (inr (inr (inr (inl k)))) ↦
           let made : Cbor × ℕ = (boolean false, head.behind) in

@@ -16,7 +16,8 @@ room_for i n b lt below byte =
 pub one_more_byte : (i n b : ℕ) → n < 256 ^ i → b < 256 → n * 256 + b < 256 ^ (i + 1)
 one_more_byte i n b below byte = omega (arith, pow_more 256 i)
 
-pub number_goes_on : (bytes : List ℕ) (i n total : ℕ) → i < length bytes → number_from n (drop i bytes) ≡ total → number_from (n * 256 + get_or bytes i 0) (drop (i + 1) bytes) ≡ total
+pub number_goes_on : (bytes : List ℕ) (i n total : ℕ) → i < length bytes → number_from n (drop i bytes) ≡ total
+    → number_from (n * 256 + get_or bytes i 0) (drop (i + 1) bytes) ≡ total
 number_goes_on bytes i n total lt so_far = sym (ap (number_from n) (drop_more bytes i 0 lt)) ∙ so_far
 
 pub number_ends : (bytes : List ℕ) (i n total : ℕ) → length bytes ≤ i → number_from n (drop i bytes) ≡ total → n ≡ total

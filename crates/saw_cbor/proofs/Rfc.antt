@@ -31,7 +31,8 @@ minus_thousand = refl
 
 -- [1, [2, 3], [4, 5]]
 abbrev nested : Cbor
-nested = list (item (unsigned 1) (item (list (item (unsigned 2) (item (unsigned 3) no_items))) (item (list (item (unsigned 4) (item (unsigned 5) no_items))) no_items)))
+nested = list (item (unsigned 1) (item (list (item (unsigned 2) (item (unsigned 3) no_items)))
+    (item (list (item (unsigned 4) (item (unsigned 5) no_items))) no_items)))
 
 abbrev nested_bytes : List ℕ
 nested_bytes = 0x83 ∷ 0x01 ∷ 0x82 ∷ 0x02 ∷ 0x03 ∷ 0x82 ∷ 0x04 ∷ 0x05 ∷ []

@@ -25,7 +25,8 @@ item_deep fuel m depth inside p whole more deep =
     let t : nat_lt depth inside ≡ true = lt-ltb _ _ deep in
     rw (more, t) refl
 
-pub item_no_head : (fuel m depth inside p : ℕ) (whole : List ℕ) (e : CborFault) → fuel ≡ suc m → inside ≤ depth → head_at p whole ≡ Err e → item_at fuel depth inside p whole ≡ Err e
+pub item_no_head : (fuel m depth inside p : ℕ) (whole : List ℕ) (e : CborFault) → fuel ≡ suc m → inside ≤ depth → head_at p whole ≡ Err e
+    → item_at fuel depth inside p whole ≡ Err e
 unfolding item_at
 item_no_head fuel m depth inside p whole e more fine failed =
     let t : nat_lt depth inside ≡ false = le-ltb _ _ fine in
@@ -45,7 +46,8 @@ item_pairs fuel m depth inside p whole head more fine found major =
     let t : nat_lt depth inside ≡ false = le-ltb _ _ fine in
     rw (more, t, found, major) refl
 
-pub item_leaf : (fuel m depth inside p : ℕ) (whole : List ℕ) (head : Head) → fuel ≡ suc m → inside ≤ depth → head_at p whole ≡ Ok head → head.first / 32 ≢ 4 → head.first / 32 ≢ 5 → item_at fuel depth inside p whole ≡ leaf_at head whole
+pub item_leaf : (fuel m depth inside p : ℕ) (whole : List ℕ) (head : Head) → fuel ≡ suc m → inside ≤ depth → head_at p whole ≡ Ok head
+    → head.first / 32 ≢ 4 → head.first / 32 ≢ 5 → item_at fuel depth inside p whole ≡ leaf_at head whole
 unfolding item_at
 item_leaf fuel m depth inside p whole head more fine found four five =
     let t : nat_lt depth inside ≡ false = le-ltb _ _ fine in
@@ -59,7 +61,8 @@ items_none zero n depth inside p whole none = rw none refl
 items_none (suc fuel) n depth inside p whole none = rw none refl
 
 pub items_more : (fuel m n k depth inside p : ℕ) (whole : List ℕ) → fuel ≡ suc m → n ≡ suc k
-    → items_at fuel n depth inside p whole ≡ (item_at m depth inside p whole >>= λ first. items_at m k depth inside first.1 whole >>= λ others. Ok (item first.0 others.0, others.1))
+    → items_at fuel n depth inside p whole ≡ (item_at m depth inside p whole >>= λ first. items_at m k depth inside first.1 whole >>= λ others.
+    Ok (item first.0 others.0, others.1))
 unfolding items_at
 items_more fuel m n k depth inside p whole more some =
     let less : suc k - 1 ≡ k = omega arith in
@@ -72,7 +75,8 @@ pairs_none zero n depth inside p whole none = rw none refl
 pairs_none (suc fuel) n depth inside p whole none = rw none refl
 
 pub pairs_more : (fuel m n k depth inside p : ℕ) (whole : List ℕ) → fuel ≡ suc m → n ≡ suc k
-    → pairs_at fuel n depth inside p whole ≡ (item_at m depth inside p whole >>= λ key. item_at m depth inside key.1 whole >>= λ value. pairs_at m k depth inside value.1 whole >>= λ others. Ok (pair key.0 value.0 others.0, others.1))
+    → pairs_at fuel n depth inside p whole ≡ (item_at m depth inside p whole >>= λ key. item_at m depth inside key.1 whole >>= λ value.
+    pairs_at m k depth inside value.1 whole >>= λ others. Ok (pair key.0 value.0 others.0, others.1))
 unfolding pairs_at
 pairs_more fuel m n k depth inside p whole more some =
     let less : suc k - 1 ≡ k = omega arith in
@@ -80,6 +84,7 @@ pairs_more fuel m n k depth inside p whole more some =
     rw (more, some, t, less) refl
 
 -- a fault of the first step is that of both
-pub stops : {A B : Type 0} (e : CborFault) (r : Result A CborFault) (f : A → Result B CborFault) (all : Result B CborFault) → all ≡ (r >>= f) → (e ≡ OutOfMemory) ⊎ (r ≡ Err e) → (e ≡ OutOfMemory) ⊎ (all ≡ Err e)
+pub stops : {A B : Type 0} (e : CborFault) (r : Result A CborFault) (f : A → Result B CborFault) (all : Result B CborFault) → all ≡ (r >>= f)
+    → (e ≡ OutOfMemory) ⊎ (r ≡ Err e) → (e ≡ OutOfMemory) ⊎ (all ≡ Err e)
 stops e r f all same (inl h) = inl h
 stops e r f all same (inr h) = inr (same ∙ ap (λ x. x >>= f) h)

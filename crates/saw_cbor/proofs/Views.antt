@@ -25,7 +25,8 @@ pub pair_view-value : (p : Pair) → (pair_view p).1 ≡ view p.value
 pair_view-value p = search (rules, the_lemmas)
 
 -- one more pair behind those before
-pub push_pair : (front : List Pair) (key value : Item) → map pair_view (front ++ roll-Pair (record { key = key; value = value }) ∷ []) ≡ map pair_view front ++ (view key, view value) ∷ []
+pub push_pair : (front : List Pair) (key value : Item) → map pair_view (front ++ roll-Pair (record { key = key; value = value }) ∷ [])
+    ≡ map pair_view front ++ (view key, view value) ∷ []
 push_pair front key value =
     let made : Pair-F Item Pair = record { key = key; value = value } in
     map_push pair_view front (roll-Pair made) ∙ ap (λ p. map pair_view front ++ p ∷ []) (pair_view-roll made)

@@ -8,10 +8,11 @@ use Rattle.saw_checks.specs.declared.fault.BatchFault.TheVariants.{OutOfMemory}
 use Rattle.saw_checks.specs.Tests.{first_of, ◌<|>◌}
 use Rattle.saw_checks.specs.BatchFaults.{batch_tests, txs_fault, batch_fault_by, batch_fault}
 use Rattle.saw_checks.specs.Readings.{BatchGives}
-use Rattle.saw_checks.specs.Parts.{ids_fault, signature_fault, ReadsHeader}
+use Rattle.saw_checks.specs.BatchParts.{ids_fault, signature_fault, ReadsHeader}
 use Rattle.saw_checks.proofs.Chains.{at_first, at_second, at_third, at_fourth}
 
-pub signer_is : (bytes : List ℕ) (header other : BatchHeader) → batch_header bytes ≡ Ok header → batch_header bytes ≡ Ok other → header.signer_public_key ≡ other.signer_public_key
+pub signer_is : (bytes : List ℕ) (header other : BatchHeader) → batch_header bytes ≡ Ok header → batch_header bytes ≡ Ok other
+    → header.signer_public_key ≡ other.signer_public_key
 signer_is bytes header other read again = let same : header ≡ other = cc in ap (λ (one : BatchHeader). one.signer_public_key) same
 
 module _ (accepts : List ℕ → List ℕ → List ℕ → Bool) (batch : Batch) where

@@ -9,24 +9,27 @@ use Rattle.saw_messages.specs.declared.block.BlockHeader.{BlockHeader}
 use Rattle.saw_checks.specs.declared.fault.StructureFault.{StructureFault}
 use Rattle.saw_checks.specs.declared.fault.StructureFault.TheVariants as faults
 use Rattle.saw_checks.specs.Tests.{first_of, ◌<|>◌}
-use Rattle.saw_checks.specs.BlockFaults.{block_tests, batches_fault, structure_fault_by, structure_fault_of, structure_fault}
+use Rattle.saw_checks.specs.StructureFaults.{block_tests, batches_fault, structure_fault_by, structure_fault_of, structure_fault}
 use Rattle.saw_checks.specs.Readings.{BlockGives}
 use Rattle.saw_checks.specs.BlockParts.{undecodable, batch_ids_fault, block_signature_fault}
 use Rattle.saw_checks.proofs.Chains.{at_first, at_second, at_third, at_fourth}
 
 -- a fault of reading is told, unless memory ran out
-unread : {A : Type 0} (e : MessageFault) (read : Result A MessageFault) → Gives (Err e) read → (undecodable e ≡ faults.OutOfMemory) ⊎ ((read ≡ Err e) × (undecodable e ≡ faults.Undecodable e))
+unread : {A : Type 0} (e : MessageFault) (read : Result A MessageFault) → Gives (Err e) read → (undecodable e ≡ faults.OutOfMemory)
+    ⊎ ((read ≡ Err e) × (undecodable e ≡ faults.Undecodable e))
 unread OutOfMemory read gives = inl refl
 unread (Wire fault) read (inl memory) = cc
 unread (Wire fault) read (inr bad) = inr (bad, refl)
 unread (NotUtf8 field) read (inl memory) = cc
 unread (NotUtf8 field) read (inr bad) = inr (bad, refl)
 
-told : {A B : Type 0} (total : B) (told_by : Result A MessageFault → B) (e : MessageFault) (some : StructureFault → B) (read : Result A MessageFault) → total ≡ told_by read → told_by (Err e) ≡ some (faults.Undecodable e)
+told : {A B : Type 0} (total : B) (told_by : Result A MessageFault → B) (e : MessageFault) (some : StructureFault → B) (read : Result A MessageFault)
+    → total ≡ told_by read → told_by (Err e) ≡ some (faults.Undecodable e)
     → Gives (Err e) read → (undecodable e ≡ faults.OutOfMemory) ⊎ (total ≡ some (undecodable e))
 told total told_by e some read is last gives = by (unread e read gives)
   where
-    by : (undecodable e ≡ faults.OutOfMemory) ⊎ ((read ≡ Err e) × (undecodable e ≡ faults.Undecodable e)) → (undecodable e ≡ faults.OutOfMemory) ⊎ (total ≡ some (undecodable e))
+    by : (undecodable e ≡ faults.OutOfMemory) ⊎ ((read ≡ Err e) × (undecodable e ≡ faults.Undecodable e)) → (undecodable e ≡ faults.OutOfMemory)
+        ⊎ (total ≡ some (undecodable e))
     by (inl memory) = inl memory
     by (inr (bad, kept)) = inr (rw kept (is ∙ ap told_by bad ∙ last))
 
@@ -41,7 +44,8 @@ module _ (accepts : List ℕ → List ℕ → List ℕ → Bool) (bytes : List �
     by_header = ap (structure_fault_of accepts) decoded
 
     pub no_header : (e : MessageFault) → Gives (Err e) (block_header b.header) → BlockGives accepts bytes (Err (undecodable e))
-    no_header e gives = told (structure_fault accepts bytes) (structure_fault_by accepts b) e (λ (fault : StructureFault). Some fault) (block_header b.header) by_header refl gives
+    no_header e gives = told (structure_fault accepts bytes) (structure_fault_by accepts b) e (λ (fault : StructureFault). Some fault)
+        (block_header b.header) by_header refl gives
 
     module _ (header : BlockHeader) (read : block_header b.header ≡ Ok header) where
       abbrev first : Option StructureFault

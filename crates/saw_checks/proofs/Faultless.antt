@@ -1,5 +1,6 @@
 -- No fault means that all is good.
-use Rattle.std.proofs.Common.{◌≡◌, ℕ, zero, suc, ◌+◌, ◌<◌, Bool, true, false, List, [], ◌∷◌, ◌++◌, length, Option, Some, None, Result, Ok, Err, refl, sym, ap, ◌∙◌, arith}
+use Rattle.std.proofs.Common.{◌≡◌, ℕ, zero, suc, ◌+◌, ◌<◌, Bool, true, false, List, [], ◌∷◌, ◌++◌, length, Option, Some, None, Result, Ok, Err, refl}
+use Rattle.std.proofs.Common.{sym, ap, ◌∙◌, arith}
 use Rattle.std.specs.Prelude.{◌==◌, not, nat_lt, option_map, if◌then◌else◌}
 use Rattle.std.specs.Cmp.Lexicographic.{nat_list_eq_equiv}
 use Rattle.std.specs.List.{AllByRecursion, list_any}
@@ -23,9 +24,10 @@ use Rattle.saw_messages.specs.declared.transaction.TransactionHeader.{Transactio
 use Rattle.saw_checks.specs.declared.fault.BatchFault.TheVariants as faults
 use Rattle.saw_checks.specs.declared.fault.StructureFault.TheVariants as structures
 use Rattle.saw_checks.specs.BatchFaults.{batch_fault, batch_fault_by, batch_tests, ids_of, max_declared, tx_fault, tx_fault_by, tx_tests, txs_fault}
-use Rattle.saw_checks.specs.BlockFaults.{batch_ids_of, batches_fault, block_tests, max_transactions, structure_fault, structure_fault_by, structure_fault_of, transactions_count}
+use Rattle.saw_checks.specs.StructureFaults.{batch_ids_of, batches_fault, block_tests, max_transactions, structure_fault, structure_fault_by}
+use Rattle.saw_checks.specs.StructureFaults.{structure_fault_of, transactions_count}
 use Rattle.saw_checks.specs.Laws.{IsGoodTx, IsGoodBatch, IsGoodBlock, FaultlessBatchIsGood, FaultlessBlockIsGood}
-use Rattle.saw_checks.specs.Seen.{repeats_after}
+use Rattle.saw_checks.specs.Repeats.{repeats_after}
 use Rattle.saw_checks.specs.Tests.{first_of, ◌<|>◌, first_difference}
 use Rattle.saw_checks.proofs.Repeats.{repeats_whole}
 
@@ -60,7 +62,8 @@ equal_bytes a b e = not_from_true (bytes_eq a b) ((bytes_eq-Decides a b).1 e)
 
 -- ---- two lists of ids
 
-same_first : (b : Bool) (x y : List ℕ) (xs ys : List (List ℕ)) → bytes_eq x y ≡ b → (if b then option_map suc (first_difference xs ys) else Some 0) ≡ None → (first_difference xs ys ≡ None → xs ≡ ys) → x ∷ xs ≡ y ∷ ys
+same_first : (b : Bool) (x y : List ℕ) (xs ys : List (List ℕ)) → bytes_eq x y ≡ b
+    → (if b then option_map suc (first_difference xs ys) else Some 0) ≡ None → (first_difference xs ys ≡ None → xs ≡ ys) → x ∷ xs ≡ y ∷ ys
 same_first true x y xs ys same e later =
     let first : x ≡ y = (bytes_eq-Decides x y).0 same in
     let others : xs ≡ ys = later (map_none suc (first_difference xs ys) e) in
@@ -84,7 +87,8 @@ module _ (accepts : List ℕ → List ℕ → List ℕ → Bool) where
   -- ---- a transaction
 
   module _ (signer : List ℕ) where
-    tested : (earlier : List (List ℕ)) (t : ℕ) (tx : Transaction) (header : TransactionHeader) → transaction_header tx.header ≡ Ok header → first_of (tx_tests accepts signer earlier t tx header) ≡ None
+    tested : (earlier : List (List ℕ)) (t : ℕ) (tx : Transaction) (header : TransactionHeader) → transaction_header tx.header ≡ Ok header
+        → first_of (tx_tests accepts signer earlier t tx header) ≡ None
         → IsGoodTx accepts signer tx × (list_any (λ id. bytes_eq id tx.header_signature) earlier ≡ false)
     tested earlier t tx header is none =
         let a = passes (not (is_hex_text 128 tx.header_signature)) _ _ none in
@@ -107,16 +111,19 @@ module _ (accepts : List ℕ → List ℕ → List ℕ → Bool) where
           f.0,
         )
 
-    read_and_tested : (earlier : List (List ℕ)) (t : ℕ) (tx : Transaction) (found : Result TransactionHeader MessageFault) → transaction_header tx.header ≡ found → tx_fault_by accepts signer earlier t tx found ≡ None
+    read_and_tested : (earlier : List (List ℕ)) (t : ℕ) (tx : Transaction) (found : Result TransactionHeader MessageFault)
+        → transaction_header tx.header ≡ found → tx_fault_by accepts signer earlier t tx found ≡ None
         → IsGoodTx accepts signer tx × (list_any (λ id. bytes_eq id tx.header_signature) earlier ≡ false)
     read_and_tested earlier t tx (Ok header) is none = tested earlier t tx header is none
     read_and_tested earlier t tx (Err e) is none = absurd cc
 
-    tx_good : (earlier : List (List ℕ)) (t : ℕ) (tx : Transaction) → tx_fault accepts signer earlier t tx ≡ None → IsGoodTx accepts signer tx × (list_any (λ id. bytes_eq id tx.header_signature) earlier ≡ false)
+    tx_good : (earlier : List (List ℕ)) (t : ℕ) (tx : Transaction) → tx_fault accepts signer earlier t tx ≡ None → IsGoodTx accepts signer tx
+        × (list_any (λ id. bytes_eq id tx.header_signature) earlier ≡ false)
     unfolding tx_fault
     tx_good earlier t tx none = read_and_tested earlier t tx (transaction_header tx.header) refl none
 
-    good_tx : (earlier : List (List ℕ)) (t : ℕ) (tx : Transaction) → IsGoodTx accepts signer tx → list_any (λ id. bytes_eq id tx.header_signature) earlier ≡ false → tx_fault accepts signer earlier t tx ≡ None
+    good_tx : (earlier : List (List ℕ)) (t : ℕ) (tx : Transaction) → IsGoodTx accepts signer tx
+        → list_any (λ id. bytes_eq id tx.header_signature) earlier ≡ false → tx_fault accepts signer earlier t tx ≡ None
     unfolding tx_fault
     good_tx earlier t tx good fresh =
         ap (tx_fault_by accepts signer earlier t tx) good.decoded
@@ -128,25 +135,32 @@ module _ (accepts : List ℕ → List ℕ → List ℕ → Bool) where
         (passed _ _ _ fresh
         (passed _ _ _ (le-ltb max_declared (length good.header.inputs + length good.header.outputs) good.declares) refl))))))
 
-    txs_good : (txs : List Transaction) (earlier : List (List ℕ)) (t : ℕ) → txs_fault accepts signer earlier t txs ≡ None → AllByRecursion (IsGoodTx accepts signer) txs × (repeats_after earlier (ids_of txs) ≡ false)
+    txs_good : (txs : List Transaction) (earlier : List (List ℕ)) (t : ℕ) → txs_fault accepts signer earlier t txs ≡ None
+        → AllByRecursion (IsGoodTx accepts signer) txs × (repeats_after earlier (ids_of txs) ≡ false)
     txs_good [] earlier t none = (tt, refl)
     txs_good (tx ∷ txs) earlier t none =
         let parts = neither (tx_fault accepts signer earlier t tx) (txs_fault accepts signer (earlier ++ tx.header_signature ∷ []) (t + 1) txs) none in
         let one = tx_good earlier t tx parts.0 in
-        let others = txs_good txs (earlier ++ tx.header_signature ∷ []) (t + 1) parts.1 in
-        ((one.0, others.0), or_from (list_any (λ id. bytes_eq id tx.header_signature) earlier) (repeats_after (earlier ++ tx.header_signature ∷ []) (ids_of txs)) one.1 others.1)
+        let others = txs_good txs (earlier ++ tx.header_signature ∷ []) (t + 1) parts.1 in (
+          (one.0, others.0),
+          or_from (list_any (λ id. bytes_eq id tx.header_signature) earlier)
+              (repeats_after (earlier ++ tx.header_signature ∷ []) (ids_of txs)) one.1 others.1,
+        )
 
-    good_txs : (txs : List Transaction) (earlier : List (List ℕ)) (t : ℕ) → AllByRecursion (IsGoodTx accepts signer) txs → repeats_after earlier (ids_of txs) ≡ false → txs_fault accepts signer earlier t txs ≡ None
+    good_txs : (txs : List Transaction) (earlier : List (List ℕ)) (t : ℕ) → AllByRecursion (IsGoodTx accepts signer) txs
+        → repeats_after earlier (ids_of txs) ≡ false → txs_fault accepts signer earlier t txs ≡ None
     good_txs [] earlier t all fresh = refl
     good_txs (tx ∷ txs) earlier t all fresh =
-        let parts = or_parts (list_any (λ id. bytes_eq id tx.header_signature) earlier) (repeats_after (earlier ++ tx.header_signature ∷ []) (ids_of txs)) fresh in
+        let parts = or_parts (list_any (λ id. bytes_eq id tx.header_signature) earlier)
+        (repeats_after (earlier ++ tx.header_signature ∷ []) (ids_of txs)) fresh in
         both_none (tx_fault accepts signer earlier t tx) (txs_fault accepts signer (earlier ++ tx.header_signature ∷ []) (t + 1) txs)
         (good_tx earlier t tx all.0 parts.0)
         (good_txs txs (earlier ++ tx.header_signature ∷ []) (t + 1) all.1 parts.1)
 
   -- ---- a batch
 
-  batch_tested : (batch : Batch) (found : Result BatchHeader MessageFault) → batch_header batch.header ≡ found → batch_fault_by accepts batch found ≡ None → IsGoodBatch accepts batch
+  batch_tested : (batch : Batch) (found : Result BatchHeader MessageFault) → batch_header batch.header ≡ found
+      → batch_fault_by accepts batch found ≡ None → IsGoodBatch accepts batch
   batch_tested batch (Err e) is none = absurd cc
   batch_tested batch (Ok header) is none =
       let texts = first_of (batch_tests batch header) in
@@ -166,7 +180,8 @@ module _ (accepts : List ℕ → List ℕ → List ℕ → Bool) where
         id = not-false (is_hex_text 128 batch.header_signature) a.0;
         key = not-false (is_hex_text 66 header.signer_public_key) b.0;
         some = positive (length batch.transactions) (eqb-false (length batch.transactions) 0 c.0);
-        listed = same_lists header.transaction_ids (ids_of batch.transactions) (map_none faults.IdsDiffer (first_difference header.transaction_ids (ids_of batch.transactions)) second.0);
+        listed = same_lists header.transaction_ids (ids_of batch.transactions)
+            (map_none faults.IdsDiffer (first_difference header.transaction_ids (ids_of batch.transactions)) second.0);
         txs = each.0;
         differ = not-false (are_distinct (ids_of batch.transactions)) (sym (repeats_whole (ids_of batch.transactions)) ∙ each.1);
         signed = not-false (accepts header.signer_public_key batch.header batch.header_signature) last.0;
@@ -190,9 +205,11 @@ module _ (accepts : List ℕ → List ℕ → List ℕ → Bool) where
       (passed _ _ _ (not_from_true (is_hex_text 66 key) good.key)
       (passed _ _ _ (ne_eqb (length batch.transactions) 0 (λ none. absurd (omega (arith, good.some, none)))) refl)))
       (both_none (option_map faults.IdsDiffer (first_difference good.header.transaction_ids (ids_of batch.transactions))) _
-      (none_map faults.IdsDiffer (first_difference good.header.transaction_ids (ids_of batch.transactions)) (equal_lists good.header.transaction_ids (ids_of batch.transactions) good.listed))
+      (none_map faults.IdsDiffer (first_difference good.header.transaction_ids (ids_of batch.transactions))
+      (equal_lists good.header.transaction_ids (ids_of batch.transactions) good.listed))
       (both_none (txs_fault accepts key [] 0 batch.transactions) _
-      (good_txs key batch.transactions [] 0 good.txs (repeats_whole (ids_of batch.transactions) ∙ not_from_true (are_distinct (ids_of batch.transactions)) good.differ))
+      (good_txs key batch.transactions [] 0 good.txs (repeats_whole (ids_of batch.transactions)
+      ∙ not_from_true (are_distinct (ids_of batch.transactions)) good.differ))
       (passed _ _ _ (not_from_true (accepts key batch.header batch.header_signature) good.signed) refl)))
 
   pub faultless_batch : FaultlessBatchIsGood accepts
@@ -213,7 +230,8 @@ module _ (accepts : List ℕ → List ℕ → List ℕ → Bool) where
       (none_map (structures.Batch k) (batch_fault accepts batch) (good_batch batch all.0))
       (good_batches batches (k + 1) all.1)
 
-  header_tested : (bytes : List ℕ) (b : Block) (found : Result BlockHeader MessageFault) → block bytes ≡ Ok b → block_header b.header ≡ found → structure_fault_by accepts b found ≡ None → IsGoodBlock accepts bytes
+  header_tested : (bytes : List ℕ) (b : Block) (found : Result BlockHeader MessageFault) → block bytes ≡ Ok b → block_header b.header ≡ found
+      → structure_fault_by accepts b found ≡ None → IsGoodBlock accepts bytes
   header_tested bytes b (Err e) read is none = absurd cc
   header_tested bytes b (Ok header) read is none =
       let first = neither (first_of (block_tests b header)) _ none in
@@ -231,12 +249,14 @@ module _ (accepts : List ℕ → List ℕ → List ℕ → Bool) where
         id = not-false (is_hex_text 128 b.header_signature) a.0;
         key = not-false (is_hex_text 66 header.signer_public_key) c.0;
         few = ltb-false max_transactions (transactions_count b.batches) d.0;
-        listed = same_lists header.batch_ids (batch_ids_of b.batches) (map_none structures.BatchIds (first_difference header.batch_ids (batch_ids_of b.batches)) second.0);
+        listed = same_lists header.batch_ids (batch_ids_of b.batches)
+            (map_none structures.BatchIds (first_difference header.batch_ids (batch_ids_of b.batches)) second.0);
         batches = batches_good b.batches 0 third.0;
         signed = not-false (accepts header.signer_public_key b.header b.header_signature) last.0;
       }
 
-  block_tested : (bytes : List ℕ) (found : Result Block MessageFault) → block bytes ≡ found → structure_fault_of accepts found ≡ None → IsGoodBlock accepts bytes
+  block_tested : (bytes : List ℕ) (found : Result Block MessageFault) → block bytes ≡ found → structure_fault_of accepts found ≡ None
+      → IsGoodBlock accepts bytes
   block_tested bytes (Err e) is none = absurd cc
   block_tested bytes (Ok b) is none = header_tested bytes b (block_header b.header) is refl none
 
@@ -256,7 +276,8 @@ module _ (accepts : List ℕ → List ℕ → List ℕ → Bool) where
       (passed _ _ _ (not_from_true (is_hex_text 66 key) good.key)
       (passed _ _ _ (le-ltb max_transactions (transactions_count b.batches) good.few) refl)))
       (both_none (option_map structures.BatchIds (first_difference good.header.batch_ids (batch_ids_of b.batches))) _
-      (none_map structures.BatchIds (first_difference good.header.batch_ids (batch_ids_of b.batches)) (equal_lists good.header.batch_ids (batch_ids_of b.batches) good.listed))
+      (none_map structures.BatchIds (first_difference good.header.batch_ids (batch_ids_of b.batches))
+      (equal_lists good.header.batch_ids (batch_ids_of b.batches) good.listed))
       (both_none (batches_fault accepts 0 b.batches) _
       (good_batches b.batches 0 good.batches)
       (passed _ _ _ (not_from_true (accepts key b.header b.header_signature) good.signed) refl)))

@@ -6,13 +6,14 @@ use Rattle.std.specs.List.{list_any}
 use Rattle.std.specs.Str.{bytes_eq}
 use Rattle.std.proofs.lemmas.List.Folds.{list_any-append}
 use Rattle.saw_messages.specs.Distinct.{are_distinct}
-use Rattle.saw_checks.specs.Seen.{repeats_after}
+use Rattle.saw_checks.specs.Repeats.{repeats_after}
 
 -- whether one of the ids stands among those before them
 abbrev crosses : List (List ℕ) → List (List ℕ) → Bool
 crosses earlier ids = list_any (λ id. list_any (λ other. bytes_eq other id) earlier) ids
 
-crosses-push : (earlier : List (List ℕ)) (one : List ℕ) (ids : List (List ℕ)) → crosses (earlier ++ one ∷ []) ids ≡ (crosses earlier ids || list_any (λ id. bytes_eq id one) ids)
+crosses-push : (earlier : List (List ℕ)) (one : List ℕ) (ids : List (List ℕ))
+    → crosses (earlier ++ one ∷ []) ids ≡ (crosses earlier ids || list_any (λ id. bytes_eq id one) ids)
 crosses-push earlier one [] = refl
 crosses-push earlier one (id ∷ ids) =
     rw (list_any-append (λ other. bytes_eq other id) earlier (one ∷ []), crosses-push earlier one ids, nat_list_eq_equiv.symm one id)

@@ -6,7 +6,8 @@ use Rattle.saw_messages.specs.declared.tx.Tx.{Tx}
 use Rattle.saw_checks.specs.BatchFaults.{ids_of, tx_fault, txs_fault}
 use Rattle.saw_checks.specs.Readings.{IsTxOf, AreTxsOf}
 
-are_pushed : (txs : List Transaction) (reads : List Tx) (tx : Transaction) (read : Tx) → AreTxsOf txs reads → IsTxOf tx read → AreTxsOf (txs ++ tx ∷ []) (reads ++ read ∷ [])
+are_pushed : (txs : List Transaction) (reads : List Tx) (tx : Transaction) (read : Tx) → AreTxsOf txs reads → IsTxOf tx read
+    → AreTxsOf (txs ++ tx ∷ []) (reads ++ read ∷ [])
 are_pushed [] [] tx read are is = (is, tt)
 are_pushed [] (other ∷ reads) tx read are is = absurd are
 are_pushed (one ∷ txs) [] tx read are is = absurd are

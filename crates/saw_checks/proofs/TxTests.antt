@@ -7,7 +7,7 @@ use Rattle.saw_checks.specs.declared.fault.BatchFault.{BatchFault}
 use Rattle.saw_checks.specs.Tests.{first_of}
 use Rattle.saw_checks.specs.BatchFaults.{tx_tests, tx_fault_by, tx_fault}
 use Rattle.saw_checks.specs.Readings.{IsTxOf}
-use Rattle.saw_checks.specs.Parts.{ReadsTx, TxGives}
+use Rattle.saw_checks.specs.BatchParts.{ReadsTx, TxGives}
 
 header_of : (tx : Transaction) (read : Tx) → IsTxOf tx read → transaction_header tx.header ≡ Ok read.header
 header_of tx read is = let e = read.read in rw (← is.header_bytes) e
@@ -18,6 +18,7 @@ module _ (accepts : List ℕ → List ℕ → List ℕ → Bool) (signer : List 
   no_header e (inl memory) = inl memory
   no_header e (inr (is, (why, bad))) = inr (rw is (ap (tx_fault_by accepts signer earlier t tx) bad))
 
-  pub tested : (read : Tx) (found : Option BatchFault) → IsTxOf tx read → first_of (tx_tests accepts signer earlier t tx read.header) ≡ found → tx_fault accepts signer earlier t tx ≡ found
+  pub tested : (read : Tx) (found : Option BatchFault) → IsTxOf tx read → first_of (tx_tests accepts signer earlier t tx read.header) ≡ found
+      → tx_fault accepts signer earlier t tx ≡ found
   unfolding tx_fault
   tested read found is e = ap (tx_fault_by accepts signer earlier t tx) (header_of tx read is) ∙ e

@@ -10,7 +10,7 @@ use Rattle.saw_checks.specs.declared.fault.StructureFault.{StructureFault}
 use Rattle.saw_checks.specs.declared.fault.StructureFault.TheVariants as faults
 use Rattle.saw_checks.specs.Tests.{first_of, first_difference}
 use Rattle.saw_checks.specs.BatchFaults.{batch_fault}
-use Rattle.saw_checks.specs.BlockFaults.{batch_ids_of, batches_fault}
+use Rattle.saw_checks.specs.StructureFaults.{batch_ids_of, batches_fault}
 use Rattle.saw_checks.specs.Readings.{IsBatchOf, AreBatchesOf}
 
 -- a want of memory stays one, and any other fault makes the block undecodable

@@ -15,7 +15,7 @@ use Rattle.saw_messages.specs.declared.block.BlockHeader.{BlockHeader}
 use Rattle.saw_messages.specs.declared.transaction.Transaction.{Transaction}
 use Rattle.saw_messages.specs.declared.transaction.TransactionHeader.{TransactionHeader}
 use Rattle.saw_checks.specs.BatchFaults.{batch_fault, ids_of}
-use Rattle.saw_checks.specs.BlockFaults.{batch_ids_of, structure_fault, transactions_count}
+use Rattle.saw_checks.specs.StructureFaults.{batch_ids_of, structure_fault, transactions_count}
 
 module _ (accepts : List ℕ → List ℕ → List ℕ → Bool) where
   -- a transaction of a batch of this signer

@@ -1,8 +1,8 @@
 pub mod Tests
 pub mod BatchFaults
-pub mod BlockFaults
+pub mod StructureFaults
 pub mod Readings
-pub mod Seen
-pub mod Parts
+pub mod Repeats
+pub mod BatchParts
 pub mod BlockParts
 pub mod Laws

@@ -17,7 +17,7 @@ use Rattle.saw_checks.specs.declared.fault.StructureFault.TheVariants as blocks
 use Rattle.saw_checks.specs.declared.judged.Judged.{Judged}
 use Rattle.saw_checks.specs.declared.judged.Judged.TheVariants.{Good, Bad}
 use Rattle.saw_checks.specs.BatchFaults.{batch_fault}
-use Rattle.saw_checks.specs.BlockFaults.{structure_fault}
+use Rattle.saw_checks.specs.StructureFaults.{structure_fault}
 
 -- a read transaction is this one: the type `Tx` keeps that its header is the message of its bytes
 pub record IsTxOf (tx : Transaction) (read : Tx) : Type 0 where

@@ -4,7 +4,7 @@ ghost use Rattle.std.specs.Prelude.{◌≡◌, ◌<◌, ◌^◌, length};
 ghost use Rattle.saw_checks.specs.Tests.{first_of};
 ghost use Rattle.saw_checks.specs.BatchFaults.{batch_tests};
 ghost use Rattle.saw_checks.specs.Readings.{BatchGives};
-ghost use Rattle.saw_checks.specs.Parts.{Tells, ids_fault, signature_fault, ReadsHeader};
+ghost use Rattle.saw_checks.specs.BatchParts.{Tells, ids_fault, signature_fault, ReadsHeader};
 
 use crate::fault::BatchFault;
 use crate::ids::first_difference;

@@ -1,7 +1,7 @@
 //! The batches of a block, counted and checked in order.
 
 ghost use Rattle.std.specs.Prelude.{◌≡◌, ◌<◌, ◌^◌, length, IfOk};
-ghost use Rattle.saw_checks.specs.BlockFaults.{transactions_count};
+ghost use Rattle.saw_checks.specs.StructureFaults.{transactions_count};
 ghost use Rattle.saw_checks.specs.BlockParts.{BatchAtGives, BatchesGive};
 
 use crate::batch::check_batch;

@@ -2,9 +2,9 @@
 
 ghost use Rattle.std.specs.Prelude.{◌≡◌, ◌<◌, ◌^◌, length};
 ghost use Rattle.saw_checks.specs.Tests.{first_of};
-ghost use Rattle.saw_checks.specs.BlockFaults.{transactions_count, block_tests};
+ghost use Rattle.saw_checks.specs.StructureFaults.{transactions_count, block_tests};
 ghost use Rattle.saw_checks.specs.Readings.{BlockGives};
-ghost use Rattle.saw_checks.specs.Parts.{Tells};
+ghost use Rattle.saw_checks.specs.BatchParts.{Tells};
 ghost use Rattle.saw_checks.specs.BlockParts.{batch_ids_fault, block_signature_fault};
 
 use crate::batches::{check_all, count_transactions};

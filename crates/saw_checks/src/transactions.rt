@@ -6,7 +6,7 @@ ghost use Rattle.std.specs.Str.{bytes_eq};
 ghost use Rattle.saw_checks.specs.Tests.{first_of};
 ghost use Rattle.saw_checks.specs.BatchFaults.{tx_tests};
 ghost use Rattle.saw_ids.specs.Seen.{HoldsIds};
-ghost use Rattle.saw_checks.specs.Parts.{Tells, unless_memory, has_digest, declares_too_many, ReadsTx, TxGives, TxsGive};
+ghost use Rattle.saw_checks.specs.BatchParts.{Tells, unless_memory, has_digest, declares_too_many, ReadsTx, TxGives, TxsGive};
 
 use crate::fault::BatchFault;
 use saw_address::{is_hex_text, sha512_hex};

@@ -46,10 +46,12 @@ addresses_found (e ∷ es) none =
     (addresses_found es (λ at isnt. (first_none _ _ _ (none at isnt)).1))
 
 -- changes at addresses leave entries at addresses alone
-pub addresses_after : (m : StateMap) (changes : List Change) → AllByRecursion (λ change. is_address change.address ≡ true) changes → AreAddresses (finite.entries m) → AreAddresses (finite.entries (map_after m changes))
+pub addresses_after : (m : StateMap) (changes : List Change) → AllByRecursion (λ change. is_address change.address ≡ true) changes
+    → AreAddresses (finite.entries m) → AreAddresses (finite.entries (map_after m changes))
 addresses_after m changes all are =
     addresses_found (finite.entries (map_after m changes)) (λ at isnt.
     sym (finite.get-entries (map_after m changes) at)
     ∙ value_at_apart m changes at
-    (all_weaker (λ change. is_address change.address ≡ true) (λ change. bytes_eq change.address at ≡ false) (λ change is. apart_from_address change.address at is isnt) changes all)
+    (all_weaker (λ change. is_address change.address ≡ true) (λ change. bytes_eq change.address at ≡ false)
+    (λ change is. apart_from_address change.address at is isnt) changes all)
     ∙ finite.get-entries m at ∙ found_none (finite.entries m) at are isnt)

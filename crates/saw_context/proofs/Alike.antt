@@ -1,10 +1,11 @@
 -- Two maps that agree where it counts give one conversation.
-use Rattle.std.proofs.Common.{◌≡◌, ℕ, zero, suc, Bool, true, false, not, if◌then◌else◌, List, [], ◌∷◌, ◌++◌, map, Option, Some, None, is_some, refl, ap, ap₂, ◌∙◌, arith}
+use Rattle.std.proofs.Common.{◌≡◌, ℕ, zero, suc, Bool, true, false, not, if◌then◌else◌, List, [], ◌∷◌, ◌++◌, map, Option, Some, None, is_some, refl}
+use Rattle.std.proofs.Common.{ap, ap₂, ◌∙◌, arith}
 use Rattle.std.specs.FinMap as finite
 use Rattle.std.specs.List.{AllByRecursion}
 use Rattle.std.proofs.lemmas.Bool.{and_parts, not-false}
 use Rattle.saw_address.specs.Maps.{StateMap, is_address, value_at}
-use Rattle.saw_messages.specs.Shapes.{TxShape}
+use Rattle.saw_messages.specs.TxShapes.{TxShape}
 use Rattle.saw_messages.specs.declared.talk.Action.{Action}
 use Rattle.saw_messages.specs.declared.talk.Action.TheVariants as actions
 use Rattle.saw_messages.specs.declared.talk.Place.{Place}
@@ -13,8 +14,10 @@ use Rattle.saw_messages.specs.declared.talk.Reply.{Reply}
 use Rattle.saw_messages.specs.declared.talk.Reply.TheVariants.{Entries, Unauthorized}
 use Rattle.saw_messages.specs.declared.talk.Turn.{Turn}
 use Rattle.saw_messages.specs.declared.transaction.TransactionHeader.{TransactionHeader}
-use Rattle.saw_context.specs.Conversation.{Overlay, Asked, are_covering, is_granted, first_refused, unless_refused, asked_at, asked_by, body_of, seen_by, seen_place, reply_to, own_after, events_after}
-use Rattle.saw_context.specs.Outcome.{Processors, Talk, no_talk, max_requests, is_request, after_request, followed, conversation, conversed, decided_by, refusal, outcome_by, outcome_of}
+use Rattle.saw_context.specs.Conversation.{Overlay, Asked, are_covering, is_granted, first_refused, unless_refused, asked_at, asked_by, body_of}
+use Rattle.saw_context.specs.Conversation.{seen_by, seen_place, reply_to, own_after, events_after}
+use Rattle.saw_context.specs.Outcome.{Processors, Talk, no_talk, max_requests, is_request, after_request, followed, conversation, conversed}
+use Rattle.saw_context.specs.Outcome.{decided_by, refusal, outcome_by, outcome_of}
 use Rattle.saw_context.proofs.Conversations.{followed_keeps, asked_before}
 use Rattle.saw_context.proofs.Each.{all_right, all_append, all_map, all_weaker, position-None}
 
@@ -32,7 +35,8 @@ AgreeWhere texts m n = (at : List ℕ) → is_granted texts (At at) ≡ true →
 
 -- ---- one reply
 
-seen_by_alike : (own : Option (Option (List ℕ))) (below other : Option (List ℕ)) → (is_some own ≡ false → body_of below ≡ body_of other) → seen_by own below ≡ seen_by own other
+seen_by_alike : (own : Option (Option (List ℕ))) (below other : Option (List ℕ)) → (is_some own ≡ false → body_of below ≡ body_of other)
+    → seen_by own below ≡ seen_by own other
 seen_by_alike None below other h = h refl
 seen_by_alike (Some change) below other h = refl
 
@@ -40,16 +44,20 @@ seen_place_alike : (m n : StateMap) (own : Overlay) (place : Place) → AreAlike
 seen_place_alike m n own (At address) h = seen_by_alike (finite.get own address) (value_at m address) (value_at n address) h
 seen_place_alike m n own Bad h = refl
 
-seen_places_alike : (m n : StateMap) (own : Overlay) (places : List Place) → AllByRecursion (AreAlike m n) (map (asked_at own) places) → map (seen_place m own) places ≡ map (seen_place n own) places
+seen_places_alike : (m n : StateMap) (own : Overlay) (places : List Place) → AllByRecursion (AreAlike m n) (map (asked_at own) places)
+    → map (seen_place m own) places ≡ map (seen_place n own) places
 seen_places_alike m n own [] h = refl
 seen_places_alike m n own (place ∷ places) h = ap₂ ◌∷◌ (seen_place_alike m n own place h.0) (seen_places_alike m n own places h.1)
 
-answered_alike : (m n : StateMap) (own : Overlay) (places : List Place) (refused : Option ℕ) → AllByRecursion (AreAlike m n) (unless_refused refused (λ index. []) (map (asked_at own) places))
-    → unless_refused refused Unauthorized (Entries (map (seen_place m own) places)) ≡ unless_refused refused Unauthorized (Entries (map (seen_place n own) places))
+answered_alike : (m n : StateMap) (own : Overlay) (places : List Place) (refused : Option ℕ)
+    → AllByRecursion (AreAlike m n) (unless_refused refused (λ index. []) (map (asked_at own) places))
+    → unless_refused refused Unauthorized (Entries (map (seen_place m own) places)) ≡ unless_refused refused Unauthorized
+    (Entries (map (seen_place n own) places))
 answered_alike m n own places None h = ap Entries (seen_places_alike m n own places h)
 answered_alike m n own places (Some index) h = refl
 
-reply_to_alike : (header : TransactionHeader) (m n : StateMap) (own : Overlay) (action : Action) → AllByRecursion (AreAlike m n) (asked_by header own action) → reply_to header m own action ≡ reply_to header n own action
+reply_to_alike : (header : TransactionHeader) (m n : StateMap) (own : Overlay) (action : Action)
+    → AllByRecursion (AreAlike m n) (asked_by header own action) → reply_to header m own action ≡ reply_to header n own action
 reply_to_alike header m n own (actions.Get places) h = answered_alike m n own places (first_refused header.inputs places) h
 reply_to_alike header m n own (actions.Set entries) h = refl
 reply_to_alike header m n own (actions.Delete places) h = refl
@@ -59,7 +67,8 @@ reply_to_alike header m n own (actions.Invalid reason) h = refl
 
 -- ---- the conversation
 
-after_request_alike : (next : List Turn → Action) (header : TransactionHeader) (m n : StateMap) (talk : Talk) (action : Action) → AllByRecursion (AreAlike m n) (asked_by header talk.own action)
+after_request_alike : (next : List Turn → Action) (header : TransactionHeader) (m n : StateMap) (talk : Talk) (action : Action)
+    → AllByRecursion (AreAlike m n) (asked_by header talk.own action)
     → after_request next header m talk action ≡ after_request next header n talk action
 after_request_alike next header m n talk action h =
     ap
@@ -88,13 +97,15 @@ followed_alike next header m n (suc more) talk h =
       | false ↦ λ all. refl
     ] h
 
-pub conversed_alike : (next : List Turn → Action) (header : TransactionHeader) (m n : StateMap) → AllByRecursion (AreAlike m n) (conversation next header m).asked → conversed next header m ≡ conversed next header n
+pub conversed_alike : (next : List Turn → Action) (header : TransactionHeader) (m n : StateMap)
+    → AllByRecursion (AreAlike m n) (conversation next header m).asked → conversed next header m ≡ conversed next header n
 unfolding conversed
 conversed_alike next header m n h = ap (decided_by next) (followed_alike next header m n max_requests no_talk h)
 
 -- ---- what is asked for is covered
 
-pub granted_all : (texts : List (List ℕ)) (places : List Place) → first_refused texts places ≡ None → AllByRecursion (λ place. is_granted texts place ≡ true) places
+pub granted_all : (texts : List (List ℕ)) (places : List Place) → first_refused texts places ≡ None
+    → AllByRecursion (λ place. is_granted texts place ≡ true) places
 granted_all texts places none =
     all_weaker (λ place. not (is_granted texts place) ≡ false) (λ place. is_granted texts place ≡ true) (λ place h. not-false (is_granted texts place) h) places
     (position-None (λ place. not (is_granted texts place)) places none)
@@ -110,7 +121,8 @@ granted_is_covered texts own Bad h = absurd (grind arith)
 answered_covered : (texts : List (List ℕ)) (own : Overlay) (places : List Place) (refused : Option ℕ) → first_refused texts places ≡ refused
     → AllByRecursion (IsCovered texts) (unless_refused refused (λ index. []) (map (asked_at own) places))
 answered_covered texts own places None e =
-    all_map (asked_at own) (IsCovered texts) places (all_weaker (λ place. is_granted texts place ≡ true) (λ place. IsCovered texts (asked_at own place)) (granted_is_covered texts own) places (granted_all texts places e))
+    all_map (asked_at own) (IsCovered texts) places (all_weaker (λ place. is_granted texts place ≡ true)
+    (λ place. IsCovered texts (asked_at own place)) (granted_is_covered texts own) places (granted_all texts places e))
 answered_covered texts own places (Some index) e = tt
 
 asked_by_covered : (header : TransactionHeader) (own : Overlay) (action : Action) → AllByRecursion (IsCovered header.inputs) (asked_by header own action)
@@ -134,17 +146,21 @@ alike_where_covered : (texts : List (List ℕ)) (m n : StateMap) → AgreeWhere 
 alike_where_covered texts m n agree asked covered own = ap body_of (agree asked.address covered)
 
 -- such maps give one conversation
-pub conversation_agree : (next : List Turn → Action) (header : TransactionHeader) (m n : StateMap) → AgreeWhere header.inputs m n → conversation next header m ≡ conversation next header n
+pub conversation_agree : (next : List Turn → Action) (header : TransactionHeader) (m n : StateMap) → AgreeWhere header.inputs m n
+    → conversation next header m ≡ conversation next header n
 conversation_agree next header m n agree =
     followed_alike next header m n max_requests no_talk
     (all_weaker (IsCovered header.inputs) (AreAlike m n) (alike_where_covered header.inputs m n agree) _ (asked_covered next header m max_requests no_talk tt))
 
-pub conversed_agree : (next : List Turn → Action) (header : TransactionHeader) (m n : StateMap) → AgreeWhere header.inputs m n → conversed next header m ≡ conversed next header n
+pub conversed_agree : (next : List Turn → Action) (header : TransactionHeader) (m n : StateMap) → AgreeWhere header.inputs m n
+    → conversed next header m ≡ conversed next header n
 unfolding conversed
 conversed_agree next header m n agree = ap (decided_by next) (conversation_agree next header m n agree)
 
 -- and one outcome
-pub outcome_of_agree : (processors : Processors) (tx : TxShape) (m n : StateMap) (failed : Bool) → ((at : List ℕ) → are_covering tx.header.inputs at ≡ true → value_at m at ≡ value_at n at)
+pub outcome_of_agree : (processors : Processors) (tx : TxShape) (m n : StateMap) (failed : Bool)
+    → ((at : List ℕ) → are_covering tx.header.inputs at ≡ true → value_at m at ≡ value_at n at)
     → outcome_of processors tx m failed ≡ outcome_of processors tx n failed
 outcome_of_agree processors tx m n failed agree =
-    ap (outcome_by (refusal processors tx) failed) (conversed_agree (processors.next tx) tx.header m n (λ at granted. agree at (granted_parts tx.header.inputs at granted).1))
+    ap (outcome_by (refusal processors tx) failed) (conversed_agree (processors.next tx) tx.header m n
+    (λ at granted. agree at (granted_parts tx.header.inputs at granted).1))

@@ -3,7 +3,7 @@ use Rattle.std.proofs.Common.{◌≡◌, ◌⊎◌, inl, inr, ℕ, zero, suc, Bo
 use Rattle.std.proofs.Math.Path.{fun_ext}
 use Rattle.std.specs.List.{AllByRecursion}
 use Rattle.saw_address.specs.Maps.{StateMap}
-use Rattle.saw_messages.specs.Shapes.{TxShape}
+use Rattle.saw_messages.specs.TxShapes.{TxShape}
 use Rattle.saw_messages.specs.declared.outcome.Change.{Change}
 use Rattle.saw_messages.specs.declared.outcome.Outcome.{Outcome}
 use Rattle.saw_messages.specs.declared.outcome.Outcome.TheVariants as outcomes
@@ -15,8 +15,9 @@ use Rattle.saw_messages.specs.declared.talk.Action.TheVariants as actions
 use Rattle.saw_messages.specs.declared.talk.Turn.{Turn}
 use Rattle.saw_messages.specs.declared.transaction.TransactionHeader.{TransactionHeader}
 use Rattle.saw_context.specs.Conversation.{Asked, asked_by}
-use Rattle.saw_context.specs.Outcome.{Processors, Talk, is_request, after_request, followed, conversation, conversed, decided, changes_of, refusal, outcome_by, outcome_of}
-use Rattle.saw_context.specs.Results.{is_early}
+use Rattle.saw_context.specs.Outcome.{Processors, Talk, is_request, after_request, followed, conversation, conversed, decided, changes_of, refusal}
+use Rattle.saw_context.specs.Outcome.{outcome_by, outcome_of}
+use Rattle.saw_context.specs.SoundResults.{is_early}
 use Rattle.saw_messages.specs.Reasons.{has_own_reason, is_own_reason}
 use Rattle.saw_context.proofs.Each.{all_left}
 
@@ -40,7 +41,8 @@ asked_before next header m P limit talk =
     (λ t h all. h (all_left P t.asked (asked_by header t.own (next t.turns)) all)) limit talk (λ all. all)
 
 -- what answers alike everywhere gives one outcome
-pub conversed-next : (next other : List Turn → Action) (header : TransactionHeader) (m : StateMap) → ((turns : List Turn) → next turns ≡ other turns) → conversed next header m ≡ conversed other header m
+pub conversed-next : (next other : List Turn → Action) (header : TransactionHeader) (m : StateMap) → ((turns : List Turn) → next turns ≡ other turns)
+    → conversed next header m ≡ conversed other header m
 conversed-next next other header m h = ap (λ next. conversed next header m) (fun_ext h)
 
 -- ---- reasons
@@ -62,14 +64,16 @@ decided_is_late talk actions.Ok h = refl
 decided_is_late talk (actions.Invalid reason) h = own_is_late reason h
 
 -- a conversation ends by no reason that comes before it
-pub conversed_is_late : (next : List Turn → Action) (header : TransactionHeader) (m : StateMap) → ((turns : List Turn) → has_own_reason (next turns) ≡ true) → is_early (conversed next header m) ≡ false
+pub conversed_is_late : (next : List Turn → Action) (header : TransactionHeader) (m : StateMap)
+    → ((turns : List Turn) → has_own_reason (next turns) ≡ true) → is_early (conversed next header m) ≡ false
 unfolding conversed
 conversed_is_late next header m own =
     decided_is_late (conversation next header m) (next (conversation next header m).turns) (own (conversation next header m).turns)
 
 -- ---- changes
 
-decided-Ok : (talk : Talk) (action : Action) (changes : List Change) (events : List Event) → decided talk action ≡ outcomes.Ok changes events → changes ≡ changes_of talk.own
+decided-Ok : (talk : Talk) (action : Action) (changes : List Change) (events : List Event) → decided talk action ≡ outcomes.Ok changes events
+    → changes ≡ changes_of talk.own
 decided-Ok talk (actions.Get places) changes events e = absurd (grind arith)
 decided-Ok talk (actions.Set entries) changes events e = absurd (grind arith)
 decided-Ok talk (actions.Delete places) changes events e = absurd (grind arith)
@@ -77,25 +81,31 @@ decided-Ok talk (actions.AddEvent event) changes events e = absurd (grind arith)
 decided-Ok talk actions.Ok changes events e = cc
 decided-Ok talk (actions.Invalid reason) changes events e = absurd (grind arith)
 
-conversed-Ok : (next : List Turn → Action) (header : TransactionHeader) (m : StateMap) (changes : List Change) (events : List Event) → conversed next header m ≡ outcomes.Ok changes events
+conversed-Ok : (next : List Turn → Action) (header : TransactionHeader) (m : StateMap) (changes : List Change) (events : List Event)
+    → conversed next header m ≡ outcomes.Ok changes events
     → changes ≡ changes_of (conversation next header m).own
 unfolding conversed
 conversed-Ok next header m changes events e = decided-Ok (conversation next header m) (next (conversation next header m).turns) changes events e
 
-outcome_by-Ok : (reason : Option Reason) (failed : Bool) (others : Outcome) (changes : List Change) (events : List Event) → outcome_by reason failed others ≡ outcomes.Ok changes events → others ≡ outcomes.Ok changes events
+outcome_by-Ok : (reason : Option Reason) (failed : Bool) (others : Outcome) (changes : List Change) (events : List Event)
+    → outcome_by reason failed others ≡ outcomes.Ok changes events → others ≡ outcomes.Ok changes events
 outcome_by-Ok (Some reason) failed others changes events e = absurd (grind arith)
 outcome_by-Ok None true others changes events e = absurd (grind arith)
 outcome_by-Ok None false others changes events e = e
 
 -- the changes of an outcome that a conversation decides are those of the conversation
-pub changes_of_decided : (reason : Option Reason) (failed : Bool) (next : List Turn → Action) (header : TransactionHeader) (m : StateMap) (outcome : Outcome) (changes : List Change) (events : List Event)
-    → outcome ≡ outcome_by reason failed (conversed next header m) → outcome ≡ outcomes.Ok changes events → changes ≡ changes_of (conversation next header m).own
-changes_of_decided reason failed next header m outcome changes events is e = conversed-Ok next header m changes events (outcome_by-Ok reason failed _ changes events (sym is ∙ e))
+pub changes_of_decided : (reason : Option Reason) (failed : Bool) (next : List Turn → Action) (header : TransactionHeader) (m : StateMap)
+    (outcome : Outcome) (changes : List Change) (events : List Event)
+    → outcome ≡ outcome_by reason failed (conversed next header m) → outcome ≡ outcomes.Ok changes events
+    → changes ≡ changes_of (conversation next header m).own
+changes_of_decided reason failed next header m outcome changes events is e =
+    conversed-Ok next header m changes events (outcome_by-Ok reason failed _ changes events (sym is ∙ e))
 
 -- the changes of a transaction are those of its conversation
 pub changes_of_outcome : (processors : Processors) (tx : TxShape) (m : StateMap) (failed : Bool) (changes : List Change) (events : List Event)
     → outcome_of processors tx m failed ≡ outcomes.Ok changes events → changes ≡ changes_of (conversation (processors.next tx) tx.header m).own
-changes_of_outcome processors tx m failed changes events e = changes_of_decided (refusal processors tx) failed (processors.next tx) tx.header m _ changes events refl e
+changes_of_outcome processors tx m failed changes events e =
+    changes_of_decided (refusal processors tx) failed (processors.next tx) tx.header m _ changes events refl e
 
 -- ---- reasons of outcomes
 
@@ -110,7 +120,9 @@ decided-Invalid talk actions.Ok reason own e = absurd cc
 decided-Invalid talk (actions.Invalid other) reason own e = let same : other ≡ reason = cc in inr (ap is_own_reason (sym same) ∙ own)
 
 -- so does a whole conversation
-pub conversed-Invalid : (next : List Turn → Action) (header : TransactionHeader) (m : StateMap) (reason : Reason) → ((turns : List Turn) → has_own_reason (next turns) ≡ true) → conversed next header m ≡ outcomes.Invalid reason
+pub conversed-Invalid : (next : List Turn → Action) (header : TransactionHeader) (m : StateMap) (reason : Reason)
+    → ((turns : List Turn) → has_own_reason (next turns) ≡ true) → conversed next header m ≡ outcomes.Invalid reason
     → (reason ≡ TooManyRequests) ⊎ (has_own_reason (actions.Invalid reason) ≡ true)
 unfolding conversed
-conversed-Invalid next header m reason own e = decided-Invalid (conversation next header m) (next (conversation next header m).turns) reason (own (conversation next header m).turns) e
+conversed-Invalid next header m reason own e = decided-Invalid (conversation next header m) (next (conversation next header m).turns) reason
+    (own (conversation next header m).turns) e

@@ -25,7 +25,8 @@ shown-cond true value found below = refl
 shown-cond false value found below = refl
 
 -- one more change on top
-after-one : (m : StateMap) (own : Overlay) (address : List ℕ) (value : Option (List ℕ)) → map_after m (changes_of (finite.insert own address value)) ≡ changed_at (map_after m (changes_of own)) address value
+after-one : (m : StateMap) (own : Overlay) (address : List ℕ) (value : Option (List ℕ))
+    → map_after m (changes_of (finite.insert own address value)) ≡ changed_at (map_after m (changes_of own)) address value
 after-one m own address value = same_values _ _ (λ at.
     value_at-changes_of m (finite.insert own address value) at
     ∙ ap (λ found. shown (λ change. change) found (value_at m at)) (finite.get-insert nat_list_cmp_total own address value at)
@@ -34,7 +35,8 @@ after-one m own address value = same_values _ _ (λ at.
     ∙ ap (cond (bytes_eq address at) value) (sym (value_at-changes_of m own at))
     ∙ sym (value_at-changed_at (map_after m (changes_of own)) address value at))
 
-pub after-all : (m : StateMap) (own : Overlay) (changes : List Change) → map_after m (changes_of (changed_by_all own changes)) ≡ map_after (map_after m (changes_of own)) changes
+pub after-all : (m : StateMap) (own : Overlay) (changes : List Change)
+    → map_after m (changes_of (changed_by_all own changes)) ≡ map_after (map_after m (changes_of own)) changes
 after-all m own [] = refl
 after-all m own (change ∷ changes) =
     after-all m (changed_by own change) changes ∙ ap (λ n. map_after n changes) (after-one m own change.address change.value)
@@ -44,12 +46,14 @@ addresses-are [] = refl
 addresses-are (e ∷ es) = ap (λ keys. e.0 ∷ keys) (addresses-are es)
 
 -- the entries of an ordered map are changes of rising addresses
-pub entries-rising : (es : Changes) (changes : List Change) → changes ≡ map change_of es → IsStrictlySortedBy (slice_cmp nat_cmp) (keys_of es) → AreRising changes
+pub entries-rising : (es : Changes) (changes : List Change) → changes ≡ map change_of es → IsStrictlySortedBy (slice_cmp nat_cmp) (keys_of es)
+    → AreRising changes
 entries-rising es changes is sorted =
     subst (IsStrictlySortedBy (slice_cmp nat_cmp)) (sym (ap (map (λ (change : Change). change.address)) is ∙ addresses-are es)) sorted
 
 -- what is seen of changes on top
-pub seen-change : (m n : StateMap) (own : Overlay) (at : List ℕ) (value : Option (List ℕ)) → map_after m (changes_of own) ≡ n → finite.get own at ≡ Some value → value ≡ value_at n at
+pub seen-change : (m n : StateMap) (own : Overlay) (at : List ℕ) (value : Option (List ℕ)) → map_after m (changes_of own) ≡ n
+    → finite.get own at ≡ Some value → value ≡ value_at n at
 seen-change m n own at value is found =
     sym (ap (λ n. value_at n at) (sym is) ∙ value_at-changes_of m own at ∙ ap (λ found. shown (λ change. change) found (value_at m at)) found)
 
@@ -58,5 +62,6 @@ seen-below m n own at is found =
     sym (ap (λ n. value_at n at) (sym is) ∙ value_at-changes_of m own at ∙ ap (λ found. shown (λ change. change) found (value_at m at)) found)
 
 -- changes on top of a base
-pub after-changes : (m n : StateMap) (own new : Overlay) (changes : List Change) → map_after m (changes_of own) ≡ n → new ≡ changed_by_all own changes → map_after m (changes_of new) ≡ map_after n changes
+pub after-changes : (m n : StateMap) (own new : Overlay) (changes : List Change) → map_after m (changes_of own) ≡ n → new ≡ changed_by_all own changes
+    → map_after m (changes_of new) ≡ map_after n changes
 after-changes m n own new changes is made = ap (λ own. map_after m (changes_of own)) made ∙ after-all m own changes ∙ ap (λ n. map_after n changes) is

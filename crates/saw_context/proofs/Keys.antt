@@ -1,5 +1,6 @@
 -- Keys of finite maps from addresses.
-use Rattle.std.proofs.Common.{◌≡◌, ℕ, Bool, true, false, ◌&&◌, cond, T, List, [], ◌∷◌, map, Some, None, Ordering, Less, Equal, Greater, is_eq, is_lt, bytes_eq, refl, sym, ap, subst, ◌∙◌, arith}
+use Rattle.std.proofs.Common.{◌≡◌, ℕ, Bool, true, false, ◌&&◌, cond, T, List, [], ◌∷◌, map, Some, None, Ordering, Less, Equal, Greater, is_eq, is_lt}
+use Rattle.std.proofs.Common.{bytes_eq, refl, sym, ap, subst, ◌∙◌, arith}
 use Rattle.std.specs.Ordering.{nat_cmp, eq_by_cmp}
 use Rattle.std.specs.Cmp.{eq_by_cmp_equiv}
 use Rattle.std.specs.Cmp.Lexicographic.{slice_cmp, nat_list_cmp_total, texts_ties}
@@ -43,13 +44,15 @@ module _ {V : Type 0} (P : List ℕ → Type 0) where
       ]
 
   -- what is true of each key, and of one more, is true of each after an insertion
-  pub all_inserted : (m : finite.FinMap (slice_cmp nat_cmp) V) (k : List ℕ) (v : V) → P k → AllByRecursion (λ e. P e.0) (finite.entries m) → AllByRecursion (λ e. P e.0) (finite.entries (finite.insert m k v))
+  pub all_inserted : (m : finite.FinMap (slice_cmp nat_cmp) V) (k : List ℕ) (v : V) → P k → AllByRecursion (λ e. P e.0) (finite.entries m)
+      → AllByRecursion (λ e. P e.0) (finite.entries (finite.insert m k v))
   all_inserted m k v p all = subst (AllByRecursion (λ e. P e.0)) (sym (finite.entries-insert nat_list_cmp_total m k v)) (all_put k v (finite.entries m) p all)
 
 -- ---- keys in order
 
 module _ {V : Type 0} where
-  keys_above : (k : List ℕ) (es : List (List ℕ × V)) → T (below_all (slice_cmp nat_cmp) k es) → AllByRecursion (λ y. slice_cmp nat_cmp k y ≡ Less) (map (λ e. e.0) es)
+  keys_above : (k : List ℕ) (es : List (List ℕ × V)) → T (below_all (slice_cmp nat_cmp) k es)
+      → AllByRecursion (λ y. slice_cmp nat_cmp k y ≡ Less) (map (λ e. e.0) es)
   keys_above k [] h = tt
   keys_above k (e ∷ es) h = let b = both_of _ _ h in (less_of _ b.0, keys_above k es b.1)
 
@@ -63,7 +66,8 @@ module _ {V : Type 0} where
   keys_rise m = entries_rise (finite.entries m) (finite.entries_sorted m)
 
   -- a key is not found among keys above it
-  pub find_above : (k at : List ℕ) (es : List (List ℕ × V)) → T (below_all (slice_cmp nat_cmp) k es) → eq_by_cmp (slice_cmp nat_cmp) at k ≡ true → find (slice_cmp nat_cmp) at es ≡ None
+  pub find_above : (k at : List ℕ) (es : List (List ℕ × V)) → T (below_all (slice_cmp nat_cmp) k es) → eq_by_cmp (slice_cmp nat_cmp) at k ≡ true
+      → find (slice_cmp nat_cmp) at es ≡ None
   find_above k at [] h tied = refl
   find_above k at (e ∷ es) h tied =
       let b = both_of _ _ h in

@@ -12,7 +12,7 @@ use Rattle.saw_address.proofs.Finite.{value_at-changed_at, same_values}
 use Rattle.saw_messages.specs.declared.outcome.Change.{Change}
 use Rattle.saw_context.specs.Conversation.{Overlay, are_covering, body_of}
 use Rattle.saw_context.specs.Outcome.{changes_of, map_after}
-use Rattle.saw_context.specs.Results.{IsOf, IsOfBase, IsSeen, IsSeenAs, is_own}
+use Rattle.saw_context.specs.SoundResults.{IsOf, IsOfBase, IsSeen, IsSeenAs, is_own}
 use Rattle.saw_context.specs.Views.{Layers, over, layered}
 use Rattle.saw_context.specs.declared.reads.Origin.{Origin}
 use Rattle.saw_context.specs.declared.reads.Origin.TheVariants.{Own, Layer, Base}
@@ -31,27 +31,34 @@ value_after (change ∷ changes) at below = value_after changes at (cond (bytes_
 pub value_at-map_after : (m : StateMap) (changes : List Change) (at : List ℕ) → value_at (map_after m changes) at ≡ value_after changes at (value_at m at)
 value_at-map_after m [] at = refl
 value_at-map_after m (change ∷ changes) at =
-    value_at-map_after (changed_at m change.address change.value) changes at ∙ ap (value_after changes at) (value_at-changed_at m change.address change.value at)
+    value_at-map_after (changed_at m change.address change.value) changes at
+    ∙ ap (value_after changes at) (value_at-changed_at m change.address change.value at)
 
-value_after_apart : (changes : List Change) (at : List ℕ) (below : Option (List ℕ)) → AllByRecursion (λ change. bytes_eq change.address at ≡ false) changes → value_after changes at below ≡ below
+value_after_apart : (changes : List Change) (at : List ℕ) (below : Option (List ℕ))
+    → AllByRecursion (λ change. bytes_eq change.address at ≡ false) changes → value_after changes at below ≡ below
 value_after_apart [] at below apart = refl
 value_after_apart (change ∷ changes) at below apart =
     ap (λ same. value_after changes at (cond same change.value below)) apart.0 ∙ value_after_apart changes at below apart.1
 
 -- changes at other addresses leave an address as it is
-pub value_at_apart : (m : StateMap) (changes : List Change) (at : List ℕ) → AllByRecursion (λ change. bytes_eq change.address at ≡ false) changes → value_at (map_after m changes) at ≡ value_at m at
+pub value_at_apart : (m : StateMap) (changes : List Change) (at : List ℕ) → AllByRecursion (λ change. bytes_eq change.address at ≡ false) changes
+    → value_at (map_after m changes) at ≡ value_at m at
 value_at_apart m changes at apart = value_at-map_after m changes at ∙ value_after_apart changes at (value_at m at) apart
 
-apart_from_covered : (texts : List (List ℕ)) (at address : List ℕ) → are_covering texts at ≡ false → are_covering texts address ≡ true → bytes_eq address at ≡ false
+apart_from_covered : (texts : List (List ℕ)) (at address : List ℕ) → are_covering texts at ≡ false → are_covering texts address ≡ true
+    → bytes_eq address at ≡ false
 apart_from_covered texts at address uncovered covered =
-    false_from_ne_true (bytes_eq address at) (λ same. both_ways (are_covering texts at) uncovered (ap (are_covering texts) (sym ((bytes_eq-Decides address at).0 same)) ∙ covered))
+    false_from_ne_true (bytes_eq address at) (λ same. both_ways (are_covering texts at) uncovered
+    (ap (are_covering texts) (sym ((bytes_eq-Decides address at).0 same)) ∙ covered))
 
 -- covered changes leave an address that is not covered as it is
-pub value_at_uncovered : (texts : List (List ℕ)) (m : StateMap) (changes : List Change) (at : List ℕ) → AllByRecursion (λ change. are_covering texts change.address ≡ true) changes → are_covering texts at ≡ false
+pub value_at_uncovered : (texts : List (List ℕ)) (m : StateMap) (changes : List Change) (at : List ℕ)
+    → AllByRecursion (λ change. are_covering texts change.address ≡ true) changes → are_covering texts at ≡ false
     → value_at (map_after m changes) at ≡ value_at m at
 value_at_uncovered texts m changes at covered uncovered =
     value_at_apart m changes at
-    (all_weaker (λ change. are_covering texts change.address ≡ true) (λ change. bytes_eq change.address at ≡ false) (λ change h. apart_from_covered texts at change.address uncovered h) changes covered)
+    (all_weaker (λ change. are_covering texts change.address ≡ true) (λ change. bytes_eq change.address at ≡ false)
+    (λ change h. apart_from_covered texts at change.address uncovered h) changes covered)
 
 -- ---- the entries of a finite map as changes
 
@@ -65,7 +72,8 @@ module _ {V : Type 0} (value : V → Option (List ℕ)) where
   abbrev pub as_changes : List (List ℕ × V) → List Change
   as_changes es = map (λ e. record { address = e.0; value = value e.1 }) es
 
-  shown_first : (same : Bool) (v : V) (later : Option V) (below : Option (List ℕ)) → (same ≡ true → later ≡ None) → shown later (cond same (value v) below) ≡ shown (cond same (Some v) later) below
+  shown_first : (same : Bool) (v : V) (later : Option V) (below : Option (List ℕ)) → (same ≡ true → later ≡ None)
+      → shown later (cond same (value v) below) ≡ shown (cond same (Some v) later) below
   shown_first true v None below once = refl
   shown_first true v (Some w) below once = let none : Some w ≡ None = once refl in absurd (grind arith)
   shown_first false v later below once = refl
@@ -83,11 +91,13 @@ module _ {V : Type 0} (value : V → Option (List ℕ)) where
   pub value_at-entries : (m : StateMap) (entries : finite.FinMap (slice_cmp nat_cmp) V) (at : List ℕ)
       → value_at (map_after m (as_changes (finite.entries entries))) at ≡ shown (finite.get entries at) (value_at m at)
   value_at-entries m entries at =
-      value_at-map_after m (as_changes (finite.entries entries)) at ∙ value_after-entries at (finite.entries entries) (value_at m at) (finite.entries_sorted entries)
+      value_at-map_after m (as_changes (finite.entries entries)) at
+      ∙ value_after-entries at (finite.entries entries) (value_at m at) (finite.entries_sorted entries)
       ∙ ap (λ found. shown found (value_at m at)) (sym (finite.get-entries entries at))
 
 -- what a map has after own changes
-pub value_at-changes_of : (m : StateMap) (own : Overlay) (at : List ℕ) → value_at (map_after m (changes_of own)) at ≡ shown (λ change. change) (finite.get own at) (value_at m at)
+pub value_at-changes_of : (m : StateMap) (own : Overlay) (at : List ℕ)
+    → value_at (map_after m (changes_of own)) at ≡ shown (λ change. change) (finite.get own at) (value_at m at)
 value_at-changes_of m own at = value_at-entries (λ change. change) m own at
 
 -- ---- views
@@ -106,12 +116,14 @@ pub over-empty : (m : StateMap) → over m finite.empty ≡ m
 unfolding over
 over-empty m = ap (λ es. map_after m (as_changes (λ (entry : ViewEntry). entry.value) es)) (entries-empty ViewEntry)
 
-layered-cond : (same : Bool) (entry : ViewEntry) (found : Option ViewEntry) (below : Option (List ℕ)) → layered (cond same (Some entry) found) below ≡ cond same entry.value (layered found below)
+layered-cond : (same : Bool) (entry : ViewEntry) (found : Option ViewEntry) (below : Option (List ℕ))
+    → layered (cond same (Some entry) found) below ≡ cond same entry.value (layered found below)
 layered-cond true entry found below = refl
 layered-cond false entry found below = refl
 
 -- an entry more in the view is a change more
-pub over-insert : (m : StateMap) (layers : Layers) (address : List ℕ) (entry : ViewEntry) → over m (finite.insert layers address entry) ≡ changed_at (over m layers) address entry.value
+pub over-insert : (m : StateMap) (layers : Layers) (address : List ℕ) (entry : ViewEntry)
+    → over m (finite.insert layers address entry) ≡ changed_at (over m layers) address entry.value
 over-insert m layers address entry = same_values _ _ (λ at.
     value_at-over m (finite.insert layers address entry) at
     ∙ ap (λ found. layered found (value_at m at)) (finite.get-insert nat_list_cmp_total layers address entry at)
@@ -122,7 +134,8 @@ over-insert m layers address entry = same_values _ _ (λ at.
 
 -- ---- reads
 
-seen_from : (m : StateMap) (layers : Layers) (address body : List ℕ) (from : Origin) → IsSeenAs layers address body from → (from ≡ Base → body_of (value_at m address) ≡ body) → is_own from ≡ false → body_of (value_at (over m layers) address) ≡ body
+seen_from : (m : StateMap) (layers : Layers) (address body : List ℕ) (from : Origin) → IsSeenAs layers address body from
+    → (from ≡ Base → body_of (value_at m address) ≡ body) → is_own from ≡ false → body_of (value_at (over m layers) address) ≡ body
 seen_from m layers address body Own seen based own = absurd (grind arith)
 seen_from m layers address body (Layer index) seen based own =
     ap body_of (value_at-over m layers address ∙ ap (λ found. layered found (value_at m address)) seen.1) ∙ seen.2
@@ -130,6 +143,7 @@ seen_from m layers address body Base seen based own =
     ap body_of (value_at-over m layers address ∙ ap (λ found. layered found (value_at m address)) seen) ∙ based refl
 
 -- reads that are what a view gives, and those of the base what the base has, are what the base gives with the view on top
-pub seen_are_over : (m : StateMap) (layers : Layers) (reads : List Read) → AllByRecursion (IsSeen layers) reads → AllByRecursion (IsOfBase m) reads → AllByRecursion (IsOf (over m layers)) reads
+pub seen_are_over : (m : StateMap) (layers : Layers) (reads : List Read) → AllByRecursion (IsSeen layers) reads → AllByRecursion (IsOfBase m) reads
+    → AllByRecursion (IsOf (over m layers)) reads
 seen_are_over m layers reads seen based =
     all_both (IsSeen layers) (IsOfBase m) (IsOf (over m layers)) (λ read s b. seen_from m layers read.address read.body read.from s b) reads seen based

@@ -26,16 +26,19 @@ some_by None layer e = absurd cc
 some_by (Some x) layer e = refl
 
 -- an own change
-pub origin_own : (own : Overlay) (es : List (List ℕ × ViewEntry)) (at : List ℕ) → is_some (finite.get own at) ≡ true → Own ≡ origin_at (finite.from_entries es) own at
+pub origin_own : (own : Overlay) (es : List (List ℕ × ViewEntry)) (at : List ℕ) → is_some (finite.get own at) ≡ true
+    → Own ≡ origin_at (finite.from_entries es) own at
 origin_own own es at has = some_by (finite.get own at) (finite.get (finite.from_entries {R = slice_cmp nat_cmp} es) at) has
 
 -- the view's entry
-pub origin_layer : (own : Overlay) (es : List (List ℕ × ViewEntry)) (at : List ℕ) (entry : ViewEntry) → is_some (finite.get own at) ≡ false → Some entry ≡ lookup (is_at (slice_cmp nat_cmp at)) es
+pub origin_layer : (own : Overlay) (es : List (List ℕ × ViewEntry)) (at : List ℕ) (entry : ViewEntry) → is_some (finite.get own at) ≡ false
+    → Some entry ≡ lookup (is_at (slice_cmp nat_cmp at)) es
     → Layer entry.index ≡ origin_at (finite.from_entries es) own at
 origin_layer own es at entry none found = rw (none_of (finite.get own at) none, get-map_of es at, ← found) refl
 
 -- the base
-pub origin_base : (own : Overlay) (es : List (List ℕ × ViewEntry)) (at : List ℕ) → is_some (finite.get own at) ≡ false → None ≡ lookup (is_at (slice_cmp nat_cmp at)) es
+pub origin_base : (own : Overlay) (es : List (List ℕ × ViewEntry)) (at : List ℕ) → is_some (finite.get own at) ≡ false
+    → None ≡ lookup (is_at (slice_cmp nat_cmp at)) es
     → Base ≡ origin_at (finite.from_entries es) own at
 origin_base own es at none found = rw (none_of (finite.get own at) none, get-map_of es at, ← found) refl
 
@@ -46,12 +49,14 @@ all_at P [] i x all below = absurd (omega arith)
 all_at P (y ∷ ys) zero x all below = all.0
 all_at P (y ∷ ys) (suc i) x all below = all_at P ys i x all.1 (omega arith)
 
-pub granted_at : (texts : List (List ℕ)) (places : List Place) (i : ℕ) (place : Place) → first_refused texts places ≡ None → i < length places → place ≡ get_or places i place → is_granted texts place ≡ true
+pub granted_at : (texts : List (List ℕ)) (places : List Place) (i : ℕ) (place : Place) → first_refused texts places ≡ None → i < length places
+    → place ≡ get_or places i place → is_granted texts place ≡ true
 granted_at texts places i place none below is =
     ap (is_granted texts) is ∙ all_at (λ one. is_granted texts one ≡ true) places i place (granted_all texts places none) below
 
 -- places that were read, with the records of the reads
-pub gets : (old new : Access) (places : List Place) (bodies : List (List ℕ)) (reads : List Read) → first_refused old.header.inputs places ≡ None → reads ≡ map (read_at old) places
+pub gets : (old new : Access) (places : List Place) (bodies : List (List ℕ)) (reads : List Read) → first_refused old.header.inputs places ≡ None
+    → reads ≡ map (read_at old) places
     → bodies ≡ map (λ read. read.body) reads → new ≡ record old { reads = old.reads ++ reads } → Gets old places bodies new
 gets old new places bodies reads granted made told is = record {
   granted = granted;

@@ -19,12 +19,14 @@ abbrev pub Changes : Type 0
 Changes = List (List ℕ × Option (List ℕ))
 
 -- a change of the transaction's own is seen
-pub seen_own : (own : Overlay) (es : Changes) (m : StateMap) (at : List ℕ) (change : Option (List ℕ)) → finite.from_entries es ≡ own → Some change ≡ lookup (is_at (slice_cmp nat_cmp at)) es → seen_at m own at ≡ body_of change
+pub seen_own : (own : Overlay) (es : Changes) (m : StateMap) (at : List ℕ) (change : Option (List ℕ)) → finite.from_entries es ≡ own
+    → Some change ≡ lookup (is_at (slice_cmp nat_cmp at)) es → seen_at m own at ≡ body_of change
 seen_own own es m at change is found =
     ap (λ o. seen_by o (value_at m at)) (ap (λ own. finite.get own at) (sym is) ∙ get-map_of es at ∙ sym found)
 
 -- else what the map has
-pub seen_below : (own : Overlay) (es : Changes) (m : StateMap) (at : List ℕ) → finite.from_entries es ≡ own → None ≡ lookup (is_at (slice_cmp nat_cmp at)) es → seen_at m own at ≡ body_of (value_at m at)
+pub seen_below : (own : Overlay) (es : Changes) (m : StateMap) (at : List ℕ) → finite.from_entries es ≡ own
+    → None ≡ lookup (is_at (slice_cmp nat_cmp at)) es → seen_at m own at ≡ body_of (value_at m at)
 seen_below own es m at is found =
     ap (λ o. seen_by o (value_at m at)) (ap (λ own. finite.get own at) (sym is) ∙ get-map_of es at ∙ sym found)
 
@@ -40,7 +42,8 @@ pub over_none : (m : StateMap) (es : List (List ℕ × ViewEntry)) (at : List �
 over_none m es at found =
     value_at-over m (finite.from_entries es) at ∙ ap (λ o. layered o (value_at m at)) (get-map_of es at ∙ sym found)
 
-pub set_all-push : (own : Overlay) (entries : List Entry) (entry : Entry) → set_all own (entries ++ entry ∷ []) ≡ put_at (set_all own entries) entry.place (Some entry.body)
+pub set_all-push : (own : Overlay) (entries : List Entry) (entry : Entry)
+    → set_all own (entries ++ entry ∷ []) ≡ put_at (set_all own entries) entry.place (Some entry.body)
 set_all-push own [] entry = refl
 set_all-push own (first ∷ entries) entry = set_all-push (put_at own first.place (Some first.body)) entries entry
 

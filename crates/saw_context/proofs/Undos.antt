@@ -62,7 +62,8 @@ removed_again m n undo step none = finite.same_map nat_list_cmp_total exact_byte
     ∙ cond_same b None (finite.get m q) (tied m q undo.at None (sym none ∙ step.1)))
 
 -- taking a change back where another stood
-pub inserted_again : (m n : Overlay) (undo : Undo) (change : Option (List ℕ)) → IsOneStep m undo n → undo.before ≡ Some change → finite.insert n undo.at change ≡ m
+pub inserted_again : (m n : Overlay) (undo : Undo) (change : Option (List ℕ)) → IsOneStep m undo n → undo.before ≡ Some change
+    → finite.insert n undo.at change ≡ m
 inserted_again m n undo change step some = finite.same_map nat_list_cmp_total exact_bytes _ _ (λ q.
     let b = eq_by_cmp (slice_cmp nat_cmp) q undo.at in
     finite.get-insert nat_list_cmp_total n undo.at change q

@@ -4,7 +4,7 @@ use Rattle.std.specs.FinMap as finite
 use Rattle.std.specs.List.{AllByRecursion}
 use Rattle.saw_address.specs.Maps.{StateMap, AreAddresses, is_address, value_at}
 use Rattle.saw_messages.specs.Reasons.{has_own_reason}
-use Rattle.saw_messages.specs.Shapes.{TxShape}
+use Rattle.saw_messages.specs.TxShapes.{TxShape}
 use Rattle.saw_messages.specs.declared.outcome.Change.{Change}
 use Rattle.saw_messages.specs.declared.outcome.Outcome.{Outcome}
 use Rattle.saw_messages.specs.declared.outcome.Outcome.TheVariants as outcomes
@@ -19,8 +19,9 @@ use Rattle.saw_context.specs.Changed.{changed_by_all}
 use Rattle.saw_context.specs.Conversation.{Overlay, are_covering}
 use Rattle.saw_context.specs.Outcome.{Processors, conversed, outcome_of, changes_of, map_after, refusal}
 use Rattle.saw_context.specs.Possible.{MayCome, MayComeOfAll, are_told, is_told}
-use Rattle.saw_context.specs.Results.{IsOf, IsOfBase, IsSeen, IsSound, fits_dependency, is_early}
-use Rattle.saw_context.specs.Serial.{BatchResult, left_after, serial}
+use Rattle.saw_context.specs.SoundResults.{IsOf, IsOfBase, IsSeen, IsSound, fits_dependency, is_early}
+use Rattle.saw_context.specs.Serial.{left_after, serial}
+use Rattle.saw_context.specs.declared.batch_result.BatchResult.{BatchResult}
 use Rattle.saw_context.specs.Views.{Layers, over, layered}
 use Rattle.saw_context.specs.declared.reads.Read.{Read}
 

@@ -2,7 +2,7 @@ pub mod Conversation
 pub mod Outcome
 pub mod Serial
 pub mod Views
-pub mod Results
+pub mod SoundResults
 pub mod Possible
 pub mod Access
 pub mod Undo

@@ -6,7 +6,7 @@ use Rattle.saw_address.specs.Maps.{StateMap, changed_at}
 use Rattle.saw_address.specs.Texts.{is_prefix_text}
 use Rattle.saw_messages.specs.declared.receipt.Event.{Event}
 use Rattle.saw_messages.specs.declared.transaction.TransactionHeader.{TransactionHeader}
-use Rattle.saw_messages.specs.Shapes.{TxShape}
+use Rattle.saw_messages.specs.TxShapes.{TxShape}
 use Rattle.saw_messages.specs.declared.talk.Action.{Action}
 use Rattle.saw_messages.specs.declared.talk.Action.TheVariants as actions
 use Rattle.saw_messages.specs.declared.talk.Turn.{Turn}
@@ -72,14 +72,17 @@ module _ (next : List Turn → Action) (header : TransactionHeader) (m : StateMa
 abbrev pub changes_of : Overlay → List Change
 changes_of own = map (λ entry. record { address = entry.0; value = entry.1 }) (finite.entries own)
 
--- the outcome that the action after the last answered request decides; one more request is one too many
+-- the outcome by the action after the last answered request; one more request is one too many
+abbrev pub outcome_at : Action → List Change → List Event → Outcome
+outcome_at (actions.Get places) changes events = outcomes.Invalid TooManyRequests
+outcome_at (actions.Set entries) changes events = outcomes.Invalid TooManyRequests
+outcome_at (actions.Delete places) changes events = outcomes.Invalid TooManyRequests
+outcome_at (actions.AddEvent event) changes events = outcomes.Invalid TooManyRequests
+outcome_at actions.Ok changes events = outcomes.Ok changes events
+outcome_at (actions.Invalid reason) changes events = outcomes.Invalid reason
+
 abbrev pub decided : Talk → Action → Outcome
-decided talk (actions.Get places) = outcomes.Invalid TooManyRequests
-decided talk (actions.Set entries) = outcomes.Invalid TooManyRequests
-decided talk (actions.Delete places) = outcomes.Invalid TooManyRequests
-decided talk (actions.AddEvent event) = outcomes.Invalid TooManyRequests
-decided talk actions.Ok = outcomes.Ok (changes_of talk.own) talk.events
-decided talk (actions.Invalid reason) = outcomes.Invalid reason
+decided talk action = outcome_at action (changes_of talk.own) talk.events
 
 abbrev pub decided_by : (List Turn → Action) → Talk → Outcome
 decided_by next talk = decided talk (next talk.turns)

@@ -3,14 +3,16 @@
 use Rattle.std.specs.Prelude.{◌≡◌, Bool, List, [], ◌∷◌}
 use Rattle.std.specs.List.{list_all}
 use Rattle.saw_address.specs.Maps.{StateMap}
-use Rattle.saw_messages.specs.Shapes.{TxShape}
+use Rattle.saw_messages.specs.TxShapes.{TxShape}
 use Rattle.saw_messages.specs.declared.outcome.Outcome.{Outcome}
 use Rattle.saw_messages.specs.declared.outcome.Outcome.TheVariants as outcomes
 use Rattle.saw_messages.specs.declared.talk.Action.{Action}
 use Rattle.saw_messages.specs.declared.talk.Turn.{Turn}
 use Rattle.saw_context.specs.Outcome.{Processors, conversed, map_after, outcome_by, refusal}
-use Rattle.saw_context.specs.Results.{AnswersFor}
-use Rattle.saw_context.specs.Serial.{BatchResult, Applied, Failed, behind, failed_with, left_by, names_one}
+use Rattle.saw_context.specs.SoundResults.{AnswersFor}
+use Rattle.saw_context.specs.Serial.{behind, failed_with, left_by, names_one}
+use Rattle.saw_context.specs.declared.batch_result.BatchResult.{BatchResult}
+use Rattle.saw_context.specs.declared.batch_result.BatchResult.TheVariants.{Applied, Failed}
 
 -- whether the transaction goes to a processor whose actions are told
 abbrev pub is_told : Processors → TxShape → Bool

@@ -3,17 +3,14 @@ use Rattle.std.specs.Prelude.{ℕ, suc, Bool, List, [], ◌∷◌, ◌++◌}
 use Rattle.std.specs.List.{list_any}
 use Rattle.std.specs.Str.{bytes_eq}
 use Rattle.saw_address.specs.Maps.{StateMap}
-use Rattle.saw_messages.specs.Shapes.{TxShape}
+use Rattle.saw_messages.specs.TxShapes.{TxShape}
 use Rattle.saw_messages.specs.declared.outcome.Change.{Change}
 use Rattle.saw_messages.specs.declared.outcome.Outcome.{Outcome}
 use Rattle.saw_messages.specs.declared.outcome.Outcome.TheVariants as outcomes
 use Rattle.saw_messages.specs.declared.outcome.Reason.{Reason}
 use Rattle.saw_context.specs.Outcome.{Processors, outcome_of, map_after}
-
--- what came of a batch: all outcomes, or the index of the first invalid transaction with its reason
-pub data BatchResult : Type 0 where
-  Applied : List Outcome → BatchResult
-  Failed : ℕ → Reason → BatchResult
+use Rattle.saw_context.specs.declared.batch_result.BatchResult.{BatchResult}
+use Rattle.saw_context.specs.declared.batch_result.BatchResult.TheVariants.{Applied, Failed}
 
 -- a result with one more outcome before it
 abbrev pub behind : Outcome → BatchResult → BatchResult

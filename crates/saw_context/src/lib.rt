@@ -1,6 +1,7 @@
 //! What a transaction, a batch and a list of batches do to a map, and access by declaration.
 #![tactic(auto)]
 
+mod batch_result;
 mod changed;
 mod context;
 mod declared;
@@ -12,6 +13,7 @@ mod reads;
 mod undo;
 mod view;
 
+pub use batch_result::BatchResult;
 pub use changed::Changed;
 pub use context::Context;
 pub use fault::{AccessFault, ContextFault};

@@ -2,7 +2,7 @@
 use Rattle.std.proofs.Common.{◌≡◌, ◌≤◌, ◌<◌, ℕ, List, [], ◌∷◌, length, get_or, set, inl, inr, refl, sym, ◌∙◌, arith}
 use Rattle.std.specs.List.{AllByRecursion}
 use Rattle.saw_faults.specs.Counts.{Rose}
-use Rattle.saw_station.specs.Desks.{Place, faults_by}
+use Rattle.saw_station.specs.DeskPlaces.{Place, faults_by}
 use Rattle.saw_station.specs.declared.offer.Offer.{Offer}
 use Rattle.saw_crew.specs.Desks.{Failed, HaveSameOffers, KeepsDesk, KeepsDesks, offers_at}
 use Rattle.saw_crew.specs.Running.{Leaves}
@@ -16,13 +16,20 @@ module _ {R : Type 0} (faults : R → ℕ) (offered : R → List Offer) where
 
   module _ (first before after : Place R) (kept : KeepsDesk faults offered first before) where
     pub keeps_trans : KeepsDesk faults offered before after → KeepsDesk faults offered first after
-    keeps_trans keeps = record { offers = keeps.offers ∙ kept.offers; own_offers = keeps.own_offers ∙ kept.own_offers; remote = keeps.remote ∙ kept.remote; later = omega arith }
+    keeps_trans keeps = record {
+      offers = keeps.offers ∙ kept.offers;
+      own_offers = keeps.own_offers ∙ kept.own_offers;
+      remote = keeps.remote
+          ∙ kept.remote;
+      later = omega arith;
+    }
 
     -- a call that ends what was begun
     pub leaves_after : (failed peer : Type 0) → Leaves faults offered before after peer → (failed → peer) → Leaves faults offered first after failed
     leaves_after failed peer leaves same = record {
       keeps = keeps_trans leaves.keeps;
-      cause = λ f. rose_later (faults_by faults first.remote) (faults_by faults before.remote) (faults_by faults after.remote) kept.later (leaves.cause (same f));
+      cause = λ f. rose_later (faults_by faults first.remote) (faults_by faults before.remote) (faults_by faults after.remote) kept.later
+          (leaves.cause (same f));
     }
 
   -- an end that is no fault of the processor

@@ -5,7 +5,7 @@ use Rattle.std.specs.declared.sync.Arc.{Arc}
 use Rattle.std.specs.Global.{Global}
 use Rattle.std.specs.List.{AllByRecursion}
 use Rattle.saw_address.specs.Maps.{StateMap}
-use Rattle.saw_messages.specs.Shapes.{TxShape, shape_of}
+use Rattle.saw_messages.specs.TxShapes.{TxShape, shape_of}
 use Rattle.saw_messages.specs.declared.outcome.Change.{Change}
 use Rattle.saw_messages.specs.declared.outcome.Outcome.{Outcome}
 use Rattle.saw_messages.specs.declared.outcome.Outcome.TheVariants as outcomes
@@ -14,9 +14,11 @@ use Rattle.saw_messages.specs.declared.receipt.Event.{Event}
 use Rattle.saw_messages.specs.declared.tx.Tx.{Tx}
 use Rattle.saw_context.specs.Outcome.{Processors, map_after}
 use Rattle.saw_context.specs.Possible.{MayCome, MayComeOfBatch}
-use Rattle.saw_context.specs.Serial.{BatchResult, Applied, Failed, behind, names_one}
-use Rattle.saw_plan.specs.Shapes.{shapes_of}
-use Rattle.saw_schedule.specs.Results.{IsValid}
+use Rattle.saw_context.specs.Serial.{behind, names_one}
+use Rattle.saw_context.specs.declared.batch_result.BatchResult.{BatchResult}
+use Rattle.saw_context.specs.declared.batch_result.BatchResult.TheVariants.{Applied, Failed}
+use Rattle.saw_plan.specs.BatchShapes.{shapes_of}
+use Rattle.saw_schedule.specs.BatchResults.{IsValid}
 
 -- ---- a batch
 
@@ -25,7 +27,8 @@ abbrev pub in_front : List Outcome → BatchResult → BatchResult
 in_front [] result = result
 in_front (outcome ∷ before) result = behind outcome (in_front before result)
 
-pub in_front-push : (before : List Outcome) (outcome : Outcome) (result : BatchResult) → in_front (before ++ outcome ∷ []) result ≡ in_front before (behind outcome result)
+pub in_front-push : (before : List Outcome) (outcome : Outcome) (result : BatchResult)
+    → in_front (before ++ outcome ∷ []) result ≡ in_front before (behind outcome result)
 in_front-push [] outcome result = refl
 in_front-push (first ∷ before) outcome result = ap (behind first) (in_front-push before outcome result)
 
@@ -38,13 +41,15 @@ in_front-Failed [] reason = refl
 in_front-Failed (first ∷ before) reason = ap (behind first) (in_front-Failed before reason)
 
 -- whatever may come of the rest over the map, these outcomes before it may come of the batch over the start
-pub record HasRun (processors : Processors) (failed : List TxShape) (start : StateMap) (all : List TxShape) (before : List Outcome) (m : StateMap) (rest : List TxShape) : Type 0 where
+pub record HasRun (processors : Processors) (failed : List TxShape) (start : StateMap) (all : List TxShape) (before : List Outcome) (m : StateMap)
+    (rest : List TxShape) : Type 0 where
   pub so_far : (result : BatchResult) → MayComeOfBatch processors failed m rest result → MayComeOfBatch processors failed start all (in_front before result)
 
 module _ (processors : Processors) (failed : List TxShape) (start : StateMap) (all : List TxShape) (before : List Outcome) (m : StateMap) where
   module _ (tx : TxShape) (txs : List TxShape) (run : HasRun processors failed start all before m (tx ∷ txs)) where
     -- a transaction that is applied
-    pub run_more : (after : StateMap) (changes : List Change) (events : List Event) → MayCome processors tx m (names_one tx failed) (outcomes.Ok changes events) → after ≡ map_after m changes
+    pub run_more : (after : StateMap) (changes : List Change) (events : List Event)
+        → MayCome processors tx m (names_one tx failed) (outcomes.Ok changes events) → after ≡ map_after m changes
         → HasRun processors failed start all (before ++ outcomes.Ok changes events ∷ []) after txs
     run_more after changes events may changed = record {
       so_far = λ result comes.
@@ -54,11 +59,14 @@ module _ (processors : Processors) (failed : List TxShape) (start : StateMap) (a
     }
 
     -- one that is invalid ends the batch
-    pub run_failed : (reason : Reason) → MayCome processors tx m (names_one tx failed) (outcomes.Invalid reason) → MayComeOfBatch processors failed start all (Failed (length before) reason)
-    run_failed reason may = subst (MayComeOfBatch processors failed start all) (in_front-Failed before reason) (run.so_far (Failed 0 reason) (outcomes.Invalid reason, may, refl))
+    pub run_failed : (reason : Reason) → MayCome processors tx m (names_one tx failed) (outcomes.Invalid reason)
+        → MayComeOfBatch processors failed start all (Failed (length before) reason)
+    run_failed reason may = subst (MayComeOfBatch processors failed start all) (in_front-Failed before reason)
+        (run.so_far (Failed 0 reason) (outcomes.Invalid reason, may, refl))
 
   -- no more transactions
-  pub run_ended : (rest : List TxShape) → rest ≡ [] → HasRun processors failed start all before m rest → MayComeOfBatch processors failed start all (Applied before)
+  pub run_ended : (rest : List TxShape) → rest ≡ [] → HasRun processors failed start all before m rest
+      → MayComeOfBatch processors failed start all (Applied before)
   run_ended rest none run =
       subst (MayComeOfBatch processors failed start all) (in_front-Applied before)
       (run.so_far (Applied []) (subst (λ (txs : List TxShape). MayComeOfBatch processors failed m txs (Applied [])) (sym none) refl))
@@ -71,7 +79,8 @@ valid-push [] outcome valid here = (here, tt)
 valid-push (first ∷ before) outcome valid here = (valid.0, valid-push before outcome valid.1 here)
 
 -- the transactions from an index on: that one, and those behind it
-pub shapes-drop : (txs : List (Arc Tx Global)) (i : ℕ) (tx : Arc Tx Global) → i < length txs → tx ≡ get_or txs i tx → shapes_of (drop i txs) ≡ shape_of (arc_value tx) ∷ shapes_of (drop (i + 1) txs)
+pub shapes-drop : (txs : List (Arc Tx Global)) (i : ℕ) (tx : Arc Tx Global) → i < length txs → tx ≡ get_or txs i tx
+    → shapes_of (drop i txs) ≡ shape_of (arc_value tx) ∷ shapes_of (drop (i + 1) txs)
 shapes-drop txs i tx below is =
     let cut : drop i txs ≡ get_or txs i tx ∷ drop (i + 1) txs = rw add-one (drop-cons txs i tx below) in
     ap shapes_of cut ∙ ap (λ t. shape_of (arc_value t) ∷ shapes_of (drop (i + 1) txs)) (sym is)

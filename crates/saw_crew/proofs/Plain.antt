@@ -12,7 +12,7 @@ use Rattle.std.specs.Cmp.Lexicographic.{slice_cmp, nat_list_eq_equiv}
 use Rattle.std.specs.BTreeSet.{BTreeSet, contains}
 use Rattle.saw_address.specs.Maps.{StateMap}
 use Rattle.saw_ids.specs.Seen.{is_among}
-use Rattle.saw_messages.specs.Shapes.{TxShape, shape_of}
+use Rattle.saw_messages.specs.TxShapes.{TxShape, shape_of}
 use Rattle.saw_messages.specs.declared.outcome.Outcome.{Outcome}
 use Rattle.saw_messages.specs.declared.tx.Tx.{Tx}
 use Rattle.saw_context.specs.Outcome.{Processors}
@@ -20,19 +20,21 @@ use Rattle.saw_context.specs.Possible.{MayCome}
 use Rattle.saw_context.specs.Views.{layers_of, over}
 use Rattle.saw_context.specs.declared.view.View.{View}
 use Rattle.saw_context.proofs.Layers.{over-empty}
-use Rattle.saw_plan.specs.Shapes.{ids_of, shapes_of}
+use Rattle.saw_plan.specs.BatchShapes.{ids_of, shapes_of}
 use Rattle.saw_crew.specs.Running.{HoldsTxs}
 
 over_nothing : (m : StateMap) (view : View) → view.entries.entries ≡ [] → over m (layers_of view) ≡ m
 over_nothing m view none = rw none (over-empty m)
 
 -- what may come of a transaction under a view with no entries
-pub outcome_plain : (processors : Processors) (m : StateMap) (tx its : Tx) (view made : View) (failed depends : Bool) (outcome : Outcome) → tx ≡ its → view ≡ made → made.entries.entries ≡ [] → failed ≡ depends
+pub outcome_plain : (processors : Processors) (m : StateMap) (tx its : Tx) (view made : View) (failed depends : Bool) (outcome : Outcome) → tx ≡ its
+    → view ≡ made → made.entries.entries ≡ [] → failed ≡ depends
     → MayCome processors (shape_of tx) (over m (layers_of view)) failed outcome → MayCome processors (shape_of its) m depends outcome
 outcome_plain processors m tx its view made failed depends outcome same shows none flag may =
     let shown : over m (layers_of view) ≡ m = ap (λ (v : View). over m (layers_of v)) shows ∙ over_nothing m made none in
     subst (λ (t : Tx). MayCome processors (shape_of t) m depends outcome) same
-    (subst (λ (f : Bool). MayCome processors (shape_of tx) m f outcome) flag (subst (λ (n : StateMap). MayCome processors (shape_of tx) n failed outcome) shown may))
+    (subst (λ (f : Bool). MayCome processors (shape_of tx) m f outcome) flag
+    (subst (λ (n : StateMap). MayCome processors (shape_of tx) n failed outcome) shown may))
 
 -- ---- dependencies
 
@@ -42,7 +44,8 @@ among-ids (other ∷ others) id = rw (nat_list_eq_equiv.symm other.id id) (ap (�
 
 module _ (seen : BTreeSet (List ℕ)) (others : List TxShape) (holds : HoldsTxs seen others) where
   -- a dependency whose id is in the set is one of the transactions
-  pub held-names : (dependencies : List (List ℕ)) → list_any (λ id. contains (slice_cmp nat_cmp) seen id) dependencies ≡ list_any (λ id. list_any (λ other. bytes_eq id other.id) others) dependencies
+  pub held-names : (dependencies : List (List ℕ)) → list_any (λ id. contains (slice_cmp nat_cmp) seen id) dependencies ≡ list_any
+      (λ id. list_any (λ other. bytes_eq id other.id) others) dependencies
   held-names [] = refl
   held-names (id ∷ ids) = rw (holds id, among-ids others id) (ap (λ (b : Bool). list_any (λ other. bytes_eq id other.id) others || b) (held-names ids))
 

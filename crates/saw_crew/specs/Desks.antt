@@ -2,7 +2,7 @@
 use Rattle.std.specs.Prelude.{◌≡◌, ◌≤◌, ◌⊎◌, ℕ, List, [], ◌∷◌, is_some}
 use Rattle.std.specs.List.{AllByRecursion}
 use Rattle.saw_faults.specs.Counts.{Rose}
-use Rattle.saw_station.specs.Desks.{Place, faults_by, offered_by}
+use Rattle.saw_station.specs.DeskPlaces.{Place, faults_by, offered_by}
 use Rattle.saw_station.specs.declared.fault.StationFault.{StationFault}
 use Rattle.saw_station.specs.declared.fault.StationFault.TheVariants as stations
 use Rattle.saw_station.specs.declared.offer.Offer.{Offer}

@@ -4,13 +4,14 @@ use Rattle.std.specs.BTreeSet.{BTreeSet}
 use Rattle.saw_address.specs.Maps.{StateMap}
 use Rattle.saw_faults.specs.Counts.{Rose}
 use Rattle.saw_ids.specs.Seen.{HoldsIds}
-use Rattle.saw_messages.specs.Shapes.{TxShape}
+use Rattle.saw_messages.specs.TxShapes.{TxShape}
 use Rattle.saw_messages.specs.declared.outcome.Outcome.{Outcome}
 use Rattle.saw_context.specs.Outcome.{Processors}
 use Rattle.saw_context.specs.Possible.{MayCome, MayComeOfBatch}
-use Rattle.saw_context.specs.Serial.{BatchResult, names_one}
-use Rattle.saw_plan.specs.Shapes.{ids_of}
-use Rattle.saw_station.specs.Desks.{Place, faults_by}
+use Rattle.saw_context.specs.Serial.{names_one}
+use Rattle.saw_context.specs.declared.batch_result.BatchResult.{BatchResult}
+use Rattle.saw_plan.specs.BatchShapes.{ids_of}
+use Rattle.saw_station.specs.DeskPlaces.{Place, faults_by}
 use Rattle.saw_station.specs.declared.offer.Offer.{Offer}
 use Rattle.saw_crew.specs.Desks.{KeepsDesk}
 

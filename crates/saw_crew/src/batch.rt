@@ -8,9 +8,9 @@ ghost use Rattle.std.specs.List.{list_any};
 ghost use Rattle.std.specs.Ordering.{nat_cmp};
 ghost use Rattle.saw_context.specs.Serial.{names_one};
 ghost use Rattle.saw_crew.specs.Running.{HoldsTxs, IsBatchResult, IsOutcome, Leaves};
-ghost use Rattle.saw_messages.specs.Shapes.{TxShape, shape_of};
-ghost use Rattle.saw_plan.specs.Shapes.{shapes_of};
-ghost use Rattle.saw_schedule.specs.Results.{IsResultFor, result_of};
+ghost use Rattle.saw_messages.specs.TxShapes.{TxShape, shape_of};
+ghost use Rattle.saw_plan.specs.BatchShapes.{shapes_of};
+ghost use Rattle.saw_schedule.specs.BatchResults.{IsResultFor};
 ghost use Rattle.saw_station.specs.Serving.{processors_at};
 
 use crate::fault::CrewFault;
@@ -76,8 +76,8 @@ pub(crate) fn run_batch<B: Base, R: Station>(
 ) -> Result<BatchResult, CrewFault>
     requires counted { length txs.now < 2 ^ 32 }
     ensures result { IfOk result (λ came. IsBatchResult (processors_at R.next R.tells desk.old.offers)
-        failed.now (B.entry base.now) (shapes_of txs.now) (result_of came)) }
-    ensures whole { IfOk result (λ came. IsResultFor (shapes_of txs.now) (result_of came)) }
+        failed.now (B.entry base.now) (shapes_of txs.now) came) }
+    ensures whole { IfOk result (IsResultFor (shapes_of txs.now)) }
     ensures desk { Leaves R.faults R.offered desk.old desk.new (IsErrOf result CrewFault.PeerFailed) }
 {
     let mut state = Changed::new(alloc, base);

@@ -6,9 +6,9 @@ ghost use Rattle.saw_context.specs.Possible.{MayComeOfAll};
 ghost use Rattle.saw_context.specs.Serial.{failed_with, left_by, map_after_all};
 ghost use Rattle.saw_crew.specs.Desks.{HaveSameOffers, KeepsDesks, Failed, offers_at};
 ghost use Rattle.saw_crew.specs.Running.{HoldsTxs, Leaves};
-ghost use Rattle.saw_messages.specs.Shapes.{TxShape};
-ghost use Rattle.saw_plan.specs.Shapes.{batch_shape, ids_of, shapes_of, transactions_in, txs_of};
-ghost use Rattle.saw_schedule.specs.Results.{AreResultsFor, result_of, results_of};
+ghost use Rattle.saw_messages.specs.TxShapes.{TxShape};
+ghost use Rattle.saw_plan.specs.BatchShapes.{batch_shape, ids_of, shapes_of, transactions_in, txs_of};
+ghost use Rattle.saw_schedule.specs.BatchResults.{AreResultsFor};
 ghost use Rattle.saw_station.specs.Serving.{processors_at};
 
 use crate::batch::run_batch;
@@ -39,9 +39,9 @@ pub fn execute<B: Base, R: Station>(
     requires counted { transactions_in (map batch_shape (arc_value plan).batches) < 2 ^ 32 }
     ensures results { let processors = processors_at R.next R.tells (offers_at desks.old) in
         let batches = txs_of (map batch_shape (arc_value plan).batches) in
-        IfOk result (λ results. MayComeOfAll processors (B.entry base.now) batches (results_of results)) }
+        IfOk result (λ results. MayComeOfAll processors (B.entry base.now) batches results.batches) }
     ensures whole { IfOk result (λ results. AreResultsFor
-        (txs_of (map batch_shape (arc_value plan).batches)) (results_of results)) }
+        (txs_of (map batch_shape (arc_value plan).batches)) results.batches) }
     ensures desks { KeepsDesks R.faults R.offered desks.old desks.new }
     ensures cause { IsErrOf result CrewFault.PeerFailed → Failed R.faults desks.old desks.new }
 {
@@ -58,9 +58,9 @@ fn run_plan<B: Base, R: Station>(
     requires counted { transactions_in (map batch_shape batches.now) < 2 ^ 32 }
     ensures results { let processors = processors_at R.next R.tells desk.old.offers in
         let batches = txs_of (map batch_shape batches.now) in
-        IfOk result (λ results. MayComeOfAll processors (B.entry base.now) batches (results_of results)) }
+        IfOk result (λ results. MayComeOfAll processors (B.entry base.now) batches results.batches) }
     ensures whole { IfOk result (λ results. AreResultsFor (txs_of (map batch_shape batches.now))
-        (results_of results)) }
+        results.batches) }
     ensures desk { Leaves R.faults R.offered desk.old desk.new (IsErrOf result CrewFault.PeerFailed) }
 {
     let mut state = Changed::new(alloc, base);
@@ -83,9 +83,9 @@ fn settle<B: Base>(
     txs: &[Arc<Tx>],
     came: &BatchResult,
 ) -> Result<(), AllocError>
-    ensures state { OnOk result (state.new ≡ left_by state.old (result_of came.now)) }
+    ensures state { OnOk result (state.new ≡ left_by state.old came.now) }
     ensures failed { OnOk result ((others : List TxShape) → HoldsTxs failed.old others
-        → HoldsTxs failed.new (failed_with others (shapes_of txs.now) (result_of came.now))) }
+        → HoldsTxs failed.new (failed_with others (shapes_of txs.now) came.now)) }
 {
     match came {
         BatchResult::Applied { outcomes } => apply(alloc, state, outcomes.as_slice()),

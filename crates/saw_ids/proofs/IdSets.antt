@@ -22,7 +22,8 @@ not_not true = refl
 not_not false = refl
 
 module _ (seen new : BTreeSet (List ℕ)) (id key : List ℕ) (same : key ≡ id) (ids : List (List ℕ)) (holds : HoldsIds seen ids) where
-  pub holds_one_more : ((q : List ℕ) → contains (slice_cmp nat_cmp) new q ≡ cond (is_at (slice_cmp nat_cmp key) q) true (contains (slice_cmp nat_cmp) seen q)) → HoldsIds new (ids ++ id ∷ [])
+  pub holds_one_more : ((q : List ℕ) → contains (slice_cmp nat_cmp) new q ≡ cond (is_at (slice_cmp nat_cmp key) q) true
+      (contains (slice_cmp nat_cmp) seen q)) → HoldsIds new (ids ++ id ∷ [])
   holds_one_more added = λ q.
       added q
       ∙ rw (same, is_eq-slice_cmp id q, holds q, list_any-append (λ x. bytes_eq x q) ids (id ∷ [])) (either (bytes_eq id q) (list_any (λ x. bytes_eq x q) ids))

@@ -21,10 +21,12 @@ any-names name [] = refl
 any-names name (entry ∷ names) = ap (λ b. bytes_eq entry.0 name || b) (any-names name names)
 
 -- pairs of names that differ say these names
-names_in-pairs : (names : Names) → AllByRecursion IsCounter names → are_distinct (map (λ entry. entry.0) names) ≡ true → names_in (pairs_of_names names) ≡ Some names
+names_in-pairs : (names : Names) → AllByRecursion IsCounter names → are_distinct (map (λ entry. entry.0) names) ≡ true
+    → names_in (pairs_of_names names) ≡ Some names
 names_in-pairs [] all distinct = refl
 names_in-pairs (entry ∷ names) all distinct =
-    let parts = and_parts (not (list_any (λ other. bytes_eq other entry.0) (map (λ entry. entry.0) names))) (are_distinct (map (λ entry. entry.0) names)) distinct in
+    let parts = and_parts (not (list_any (λ other. bytes_eq other entry.0) (map (λ entry. entry.0) names)))
+    (are_distinct (map (λ entry. entry.0) names)) distinct in
     let fresh : has_name entry.0 names ≡ false = sym (any-names entry.0 names) ∙ not-true _ parts.0 in
     ap (λ rest. with_entry (Some entry.0) (number_in entry.1) rest) (names_in-pairs names all.1 parts.1)
     ∙ ap (λ value. with_entry (Some entry.0) value (Some names)) (number_fits entry.1 all.0.fits)

@@ -62,7 +62,8 @@ by_own name names (Err number) own = own
 
 changed_own : (payload : Payload) (names : Names) → has_own_number (changed payload names) ≡ true
 unfolding changed
-changed_own payload names = by_own payload.name names (new_value payload.verb payload.value (value_at payload.name names)) (new_own payload.verb payload.value (value_at payload.name names))
+changed_own payload names = by_own payload.name names (new_value payload.verb payload.value (value_at payload.name names))
+    (new_own payload.verb payload.value (value_at payload.name names))
 
 -- ---- the actions
 

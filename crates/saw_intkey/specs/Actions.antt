@@ -1,8 +1,7 @@
 -- The next action of the IntegerKey family, version 1.0, by the payload and the replies so far.
 use Rattle.std.specs.Prelude.{◌≡◌, ℕ, true, List, [], ◌∷◌, map, drop, Option, Some, None, Result, Ok, Err, codes}
 use Rattle.sha2.specs.Sha512.{sha512}
-use Rattle.saw_messages.specs.Reasons.{has_own_reason}
-use Rattle.saw_messages.specs.declared.outcome.Reason.TheVariants.{Family}
+use Rattle.saw_messages.specs.Reasons.{has_own_reason, invalid}
 use Rattle.saw_messages.specs.declared.talk.Action.{Action}
 use Rattle.saw_messages.specs.declared.talk.Action.TheVariants as actions
 use Rattle.saw_messages.specs.declared.talk.Place.TheVariants.{At}
@@ -22,9 +21,6 @@ family_version = codes "1.0"
 -- `1cf126`, the first six hex digits of SHA-512 of the family's name, and then the last 32 bytes of SHA-512 of the name
 unfoldable pub address_of : List ℕ → List ℕ
 address_of name = 0x1c ∷ 0xf1 ∷ 0x26 ∷ drop 32 (sha512 name)
-
-abbrev pub invalid : ℕ → Action
-invalid number = actions.Invalid (Family number)
 
 -- the request of the address of the payload's name
 abbrev pub asked : Result Payload ℕ → Action

@@ -1,18 +1,15 @@
 //! The next action of the family.
 
-ghost use Rattle.std.specs.Prelude.{◌≡◌, ◌&&◌, ◌∷◌, [], length, IfOk};
+ghost use Rattle.std.specs.Prelude.{◌≡◌, ◌&&◌, IfOk};
 ghost use Rattle.std.specs.Str.{bytes_eq};
-ghost use Rattle.saw_messages.specs.declared.talk.Action.TheVariants as actions;
-ghost use Rattle.saw_messages.specs.declared.talk.Place.TheVariants.{At};
-ghost use Rattle.saw_intkey.specs.Actions.{RepliesDecide, ReasonsAreOwn, address_of, after_get, after_set, asked, changed_in, changing, family_name, family_version, invalid, next};
+ghost use Rattle.saw_intkey.specs.Actions.{RepliesDecide, ReasonsAreOwn, address_of, after_get, after_set, asked, changed_in, changing, family_name, family_version, next};
 ghost use Rattle.saw_intkey.specs.Payloads.{payload_of};
 ghost use Rattle.saw_intkey.specs.States.{names_of};
 
 use crate::payload::{Payload, read_payload};
 use crate::state::{change, kept_bytes, read_names};
 use saw_address::Address;
-use saw_messages::{Action, Entry, Place, Reason, Reply, Transcript, Tx};
-use saw_wire::{Bytes, Items};
+use saw_messages::{Action, Reply, Transcript, Tx};
 use sha2::{Digest, Sha512};
 use std::alloc::{AllocError, Global};
 
@@ -36,17 +33,7 @@ pub fn serves(family: &str, version: &str) -> bool
 pub fn address_of(name: &str) -> Address
     ensures { result ≡ address_of name.now }
 {
-    family_address(&Sha512::digest(name.as_bytes())[32..])
-}
-
-fn family_address(tail: &[u8]) -> Address
-    requires { length tail.now ≡ 32 }
-    ensures { result ≡ 0x1c ∷ 0xf1 ∷ 0x26 ∷ tail.now }
-{
-    let mut bytes = [0; 35];
-    bytes[..3].copy_from_slice(&FAMILY_BYTES);
-    bytes[3..].copy_from_slice(tail);
-    Address::new(bytes)
+    Address::under(FAMILY_BYTES, &Sha512::digest(name.as_bytes())[32..])
 }
 
 /// The next action, by the payload and the replies so far.
@@ -60,39 +47,12 @@ pub fn step(alloc: Global, tx: &Tx, talk: &Transcript) -> Result<Action, AllocEr
     }
 }
 
-fn invalid(number: u16) -> Action
-    ensures { result ≡ invalid number }
-{
-    Action::Invalid {
-        reason: Reason::Family(number),
-    }
-}
-
-fn get(alloc: Global, address: Address) -> Result<Action, AllocError>
-    ensures { IfOk result (λ action. action ≡ actions.Get (At address ∷ [])) }
-{
-    let mut places = Items::new(alloc);
-    places.push(Place::At(address))?;
-    Ok(Action::Get(places))
-}
-
-fn set(alloc: Global, address: Address, body: Bytes) -> Result<Action, AllocError>
-    ensures { IfOk result (λ action. action ≡ actions.Set (record { place = At address; body = body } ∷ [])) }
-{
-    let mut entries = Items::new(alloc);
-    entries.push(Entry {
-        place: Place::At(address),
-        body,
-    })?;
-    Ok(Action::Set(entries))
-}
-
 fn ask(alloc: Global, payload: &[u8]) -> Result<Action, AllocError>
     ensures { IfOk result (λ action. action ≡ asked (payload_of payload.now)) }
 {
     match read_payload(alloc, payload)? {
-        Ok(payload) => get(alloc, address_of(payload.name.as_str())),
-        Err(number) => Ok(invalid(number)),
+        Ok(payload) => Action::get(alloc, address_of(payload.name.as_str())),
+        Err(number) => Ok(Action::invalid(number)),
     }
 }
 
@@ -101,7 +61,7 @@ fn changing(alloc: Global, payload: &[u8], reply: &Reply) -> Result<Action, Allo
 {
     match read_payload(alloc, payload)? {
         Ok(payload) => after_get(alloc, payload, reply),
-        Err(number) => Ok(invalid(number)),
+        Err(number) => Ok(Action::invalid(number)),
     }
 }
 
@@ -111,10 +71,10 @@ fn after_get(alloc: Global, payload: Payload, reply: &Reply) -> Result<Action, A
     match reply {
         Reply::Entries(bodies) => match bodies.as_slice() {
             [body] => changed_in(alloc, payload, body.as_slice()),
-            _ => Ok(invalid(REFUSED)),
+            _ => Ok(Action::invalid(REFUSED)),
         },
-        Reply::Done => Ok(invalid(REFUSED)),
-        Reply::Unauthorized { index: _ } => Ok(invalid(REFUSED)),
+        Reply::Done => Ok(Action::invalid(REFUSED)),
+        Reply::Unauthorized { index: _ } => Ok(Action::invalid(REFUSED)),
     }
 }
 
@@ -122,12 +82,12 @@ fn changed_in(alloc: Global, payload: Payload, body: &[u8]) -> Result<Action, Al
     ensures { IfOk result (λ action. action ≡ changed_in payload (names_of body.now)) }
 {
     let Some(names) = read_names(alloc, body)? else {
-        return Ok(invalid(BAD_STATE));
+        return Ok(Action::invalid(BAD_STATE));
     };
     let address = address_of(payload.name.as_str());
     match change(payload, names)? {
-        Ok(names) => set(alloc, address, kept_bytes(alloc, names)?),
-        Err(number) => Ok(invalid(number)),
+        Ok(names) => Action::set(alloc, address, kept_bytes(alloc, names)?),
+        Err(number) => Ok(Action::invalid(number)),
     }
 }
 
@@ -135,9 +95,9 @@ fn after_set(reply: &Reply) -> Action
     ensures { result ≡ after_set reply.now }
 {
     match reply {
-        Reply::Entries(_) => invalid(REFUSED),
+        Reply::Entries(_) => Action::invalid(REFUSED),
         Reply::Done => Action::Ok,
-        Reply::Unauthorized { index: _ } => invalid(REFUSED),
+        Reply::Unauthorized { index: _ } => Action::invalid(REFUSED),
     }
 }
 

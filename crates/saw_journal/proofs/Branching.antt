@@ -24,18 +24,21 @@ module _ {A : Type 0} (record_of : A → BlockRecord) where
       → branch_of record_of (accepted ++ new ∷ []) (record_of new).id ≡ branch_of record_of accepted (record_of new).previous ++ new ∷ []
   branch_of-new accepted new =
       branch_of-push accepted new (record_of new).id
-      ∙ ap (λ b. if b then branch_of record_of accepted (record_of new).previous ++ new ∷ [] else branch_of record_of accepted (record_of new).id) (nat_list_eq_equiv.refl (record_of new).id)
+      ∙ ap (λ b. if b then branch_of record_of accepted (record_of new).previous ++ new ∷ [] else branch_of record_of accepted (record_of new).id)
+      (nat_list_eq_equiv.refl (record_of new).id)
 
   -- and that of another id
   pub branch_of-other : (accepted : List A) (new : A) (id : List ℕ) → bytes_eq (record_of new).id id ≡ false
       → branch_of record_of (accepted ++ new ∷ []) id ≡ branch_of record_of accepted id
   branch_of-other accepted new id other =
-      branch_of-push accepted new id ∙ ap (λ b. if b then branch_of record_of accepted (record_of new).previous ++ new ∷ [] else branch_of record_of accepted id) other
+      branch_of-push accepted new id ∙ ap (λ b. if b then branch_of record_of accepted (record_of new).previous ++ new
+      ∷ [] else branch_of record_of accepted id) other
 
   none_back : (back : List A) (id : List ℕ) → AllByRecursion (λ one. bytes_eq (record_of one).id id ≡ false) back → branch_back record_of back id ≡ []
   none_back [] id others = refl
   none_back (latest ∷ earlier) id others =
-      ap (λ b. if b then branch_back record_of earlier (record_of latest).previous ++ latest ∷ [] else branch_back record_of earlier id) others.0 ∙ none_back earlier id others.1
+      ap (λ b. if b then branch_back record_of earlier (record_of latest).previous ++ latest ∷ [] else branch_back record_of earlier id) others.0
+      ∙ none_back earlier id others.1
 
   -- no branch ends with an id that no block has
   pub no_branch : (accepted : List A) (id : List ℕ) → AllByRecursion (λ one. bytes_eq (record_of one).id id ≡ false) accepted

@@ -35,16 +35,19 @@ has_more blocks more id has =
 
 knows_more : (before : List BlockRecord) (more block : BlockRecord) → KnowsPrevious before block → KnowsPrevious (before ++ more ∷ []) block
 knows_more before more block knows =
-    or_more (bytes_eq block.previous no_block) (has_block before block.previous) (has_block (before ++ more ∷ []) block.previous) (has_more before more block.previous) knows
+    or_more (bytes_eq block.previous no_block) (has_block before block.previous) (has_block (before ++ more ∷ []) block.previous)
+    (has_more before more block.previous) knows
 
 all_know : (back : List BlockRecord) → AreBack back → AllByRecursion (KnowsPrevious (reverse back)) (reverse back)
 all_know [] are = tt
 all_know (latest ∷ earlier) are =
     subst (λ (blocks : List BlockRecord). AllByRecursion (KnowsPrevious blocks) blocks) (sym (latest_last earlier latest))
-    (all_weaker (KnowsPrevious (reverse earlier)) (KnowsPrevious (reverse earlier ++ latest ∷ [])) (knows_more (reverse earlier) latest) (reverse earlier ++ latest ∷ [])
+    (all_weaker (KnowsPrevious (reverse earlier)) (KnowsPrevious (reverse earlier ++ latest ∷ [])) (knows_more (reverse earlier) latest)
+    (reverse earlier ++ latest ∷ [])
     (all_push (KnowsPrevious (reverse earlier)) (reverse earlier) latest (all_know earlier are.1) are.0.known))
 
-not_previous : (before : List BlockRecord) (latest block : BlockRecord) → StandsBehind before latest → KnowsPrevious before block → (same : Bool) → bytes_eq block.previous latest.id ≡ same → same ≡ false
+not_previous : (before : List BlockRecord) (latest block : BlockRecord) → StandsBehind before latest → KnowsPrevious before block → (same : Bool)
+    → bytes_eq block.previous latest.id ≡ same → same ≡ false
 not_previous before latest block stands knows false is = refl
 not_previous before latest block stands knows true is =
     let there : (bytes_eq latest.id no_block || has_block before latest.id) ≡ true =
@@ -65,18 +68,22 @@ module _ (latest : BlockRecord) (earlier : List BlockRecord) (are : AreBack (lat
   not_latest one next states other = nat_list_eq_equiv.symm latest.id one.id ∙ ap (λ id. bytes_eq id latest.id) (sym states) ∙ other
 
   -- so the latest stands in a chain at its end only
-  all_before : (previous : List ℕ) (front : List BlockRecord) (last : BlockRecord) → AreChained previous (front ++ last ∷ []) → AllByRecursion (λ block. bytes_eq block.previous latest.id ≡ false) (front ++ last ∷ [])
+  all_before : (previous : List ℕ) (front : List BlockRecord) (last : BlockRecord) → AreChained previous (front ++ last ∷ [])
+      → AllByRecursion (λ block. bytes_eq block.previous latest.id ≡ false) (front ++ last ∷ [])
       → AllByRecursion (λ block. bytes_eq latest.id block.id ≡ false) front
   all_before previous [] last chained others = tt
   all_before previous (one ∷ []) last chained others = (not_latest one last chained.1.0 others.1.0, tt)
-  all_before previous (one ∷ next ∷ front) last chained others = (not_latest one next chained.1.0 others.1.0, all_before one.id (next ∷ front) last chained.1 others.1)
+  all_before previous (one ∷ next ∷ front) last chained others =
+      (not_latest one next chained.1.0 others.1.0, all_before one.id (next ∷ front) last chained.1 others.1)
 
-  front_before : (front : List BlockRecord) (last : BlockRecord) → AreChained no_block (front ++ last ∷ []) → AllByRecursion (IsIn (reverse earlier ++ latest ∷ [])) (front ++ last ∷ [])
+  front_before : (front : List BlockRecord) (last : BlockRecord) → AreChained no_block (front ++ last ∷ [])
+      → AllByRecursion (IsIn (reverse earlier ++ latest ∷ [])) (front ++ last ∷ [])
       → AllByRecursion (λ block. bytes_eq latest.id block.id ≡ false) front
   front_before front last chained among =
       all_before no_block front last chained
       (all_weaker (IsIn (reverse earlier ++ latest ∷ [])) (λ (block : BlockRecord). bytes_eq block.previous latest.id ≡ false)
-      (λ block found. holds_at (λ (block : BlockRecord). bytes_eq block.previous latest.id ≡ false) (reverse earlier ++ latest ∷ []) block.id block none_behind found) (front ++ last ∷ []) among)
+      (λ block found. holds_at (λ (block : BlockRecord). bytes_eq block.previous latest.id ≡ false)
+      (reverse earlier ++ latest ∷ []) block.id block none_behind found) (front ++ last ∷ []) among)
 
 -- ---- the branch is a chain
 
@@ -84,7 +91,8 @@ no_walk : (back : List BlockRecord) → AreBack back → walk back no_block ≡ 
 no_walk [] are = refl
 no_walk (latest ∷ earlier) are = ap (λ b. if b then walk earlier latest.previous ++ latest ∷ [] else walk earlier no_block) are.0.named ∙ no_walk earlier are.1
 
-chained_push : (previous : List ℕ) (front : List BlockRecord) (last new : BlockRecord) → AreChained previous (front ++ last ∷ []) → new.previous ≡ last.id → AreChained previous ((front ++ last ∷ []) ++ new ∷ [])
+chained_push : (previous : List ℕ) (front : List BlockRecord) (last new : BlockRecord) → AreChained previous (front ++ last ∷ [])
+    → new.previous ≡ last.id → AreChained previous ((front ++ last ∷ []) ++ new ∷ [])
 chained_push previous [] last new chained states = (chained.0, (states, tt))
 chained_push previous (one ∷ front) last new chained states = (chained.0, chained_push one.id front last new chained.1 states)
 
@@ -108,9 +116,11 @@ leads_first blocks new chain states none = record {
 }
 
 all_more : (blocks chain : List BlockRecord) (new : BlockRecord) → AllByRecursion (IsIn blocks) chain → AllByRecursion (IsIn (blocks ++ new ∷ [])) chain
-all_more blocks chain new among = all_weaker (IsIn blocks) (IsIn (blocks ++ new ∷ [])) (λ block found. block_at-more blocks (new ∷ []) block.id block found) chain among
+all_more blocks chain new among = all_weaker (IsIn blocks) (IsIn (blocks ++ new ∷ []))
+    (λ block found. block_at-more blocks (new ∷ []) block.id block found) chain among
 
-ends_with : (blocks : List BlockRecord) (new : BlockRecord) (id : List ℕ) (chain : List BlockRecord) → StandsBehind blocks new → bytes_eq new.id id ≡ true → LeadsTo blocks new chain → IsChainTo (blocks ++ new ∷ []) id (chain ++ new ∷ [])
+ends_with : (blocks : List BlockRecord) (new : BlockRecord) (id : List ℕ) (chain : List BlockRecord) → StandsBehind blocks new
+    → bytes_eq new.id id ≡ true → LeadsTo blocks new chain → IsChainTo (blocks ++ new ∷ []) id (chain ++ new ∷ [])
 ends_with blocks new id chain stands it to = record {
   among = all_push (IsIn (blocks ++ new ∷ [])) chain new (all_more blocks chain new to.among) (block_at-last blocks new stands.fresh);
   chained = to.chained;
@@ -120,8 +130,17 @@ ends_with blocks new id chain stands it to = record {
   named = same_text new.id id (sym it);
 }
 
-chain_more : (blocks : List BlockRecord) (new : BlockRecord) (id : List ℕ) (chain : List BlockRecord) → IsChainTo blocks id chain → IsChainTo (blocks ++ new ∷ []) id chain
-chain_more blocks new id chain is = record { among = all_more blocks chain new is.among; chained = is.chained; front = is.front; last = is.last; ends = is.ends; named = is.named }
+chain_more : (blocks : List BlockRecord) (new : BlockRecord) (id : List ℕ) (chain : List BlockRecord) → IsChainTo blocks id chain
+    → IsChainTo (blocks ++ new ∷ []) id chain
+chain_more blocks new id chain is = record {
+  among = all_more blocks chain new is.among;
+  chained = is.chained;
+  front = is.front;
+  last =
+      is.last;
+  ends = is.ends;
+  named = is.named;
+}
 
 or_nil : (a b : Bool) → (a || (b || false)) ≡ true → b ≡ false → a ≡ true
 or_nil true b e other = refl
@@ -144,7 +163,8 @@ module _ (latest : BlockRecord) (earlier : List BlockRecord) (are : AreBack (lat
   chain_by id true is has = ends_with (reverse earlier) latest id (walk earlier latest.previous) are.0 is (leads_by (bytes_eq latest.previous no_block) refl)
   chain_by id false is has =
       let old : has_block (reverse earlier) id ≡ true =
-      or_nil (has_block (reverse earlier) id) (bytes_eq latest.id id) (sym (list_any-append (λ (block : BlockRecord). bytes_eq block.id id) (reverse earlier) (latest ∷ [])) ∙ has) is in
+      or_nil (has_block (reverse earlier) id) (bytes_eq latest.id id)
+      (sym (list_any-append (λ (block : BlockRecord). bytes_eq block.id id) (reverse earlier) (latest ∷ [])) ∙ has) is in
       chain_more (reverse earlier) latest id (walk earlier id) (before id old)
 
 chain_back : (back : List BlockRecord) → AreBack back → (id : List ℕ) → has_block (reverse back) id ≡ true → IsChainTo (reverse back) id (walk back id)
@@ -152,7 +172,8 @@ chain_back [] are id has = absurd (grind (arith, has))
 chain_back (latest ∷ earlier) are id has =
     let blocks = latest_last earlier latest in
     subst (λ (blocks : List BlockRecord). IsChainTo blocks id (walk (latest ∷ earlier) id)) (sym blocks)
-    (chain_by latest earlier are (chain_back earlier are.1) id (bytes_eq latest.id id) refl (subst (λ (blocks : List BlockRecord). has_block blocks id ≡ true) blocks has))
+    (chain_by latest earlier are (chain_back earlier are.1) id (bytes_eq latest.id id) refl
+    (subst (λ (blocks : List BlockRecord). has_block blocks id ≡ true) blocks has))
 
 -- ---- and the only one
 
@@ -164,17 +185,20 @@ unsnoc (x ∷ xs) =
       | inr cut ↦ inr (x ∷ cut.0, cut.1, ap (λ others. x ∷ others) cut.2)
     ]
 
-chained_front : (previous : List ℕ) (front : List BlockRecord) (last new : BlockRecord) → AreChained previous ((front ++ last ∷ []) ++ new ∷ []) → AreChained previous (front ++ last ∷ []) × (new.previous ≡ last.id)
+chained_front : (previous : List ℕ) (front : List BlockRecord) (last new : BlockRecord) → AreChained previous ((front ++ last ∷ []) ++ new ∷ [])
+    → AreChained previous (front ++ last ∷ []) × (new.previous ≡ last.id)
 chained_front previous [] last new chained = ((chained.0, tt), chained.1.0)
 chained_front previous (one ∷ front) last new chained = let rest = chained_front one.id front last new chained.1 in ((chained.0, rest.0), rest.1)
 
 -- that a chain which ends with this block is the branch
 abbrev IsOnly : List BlockRecord → Type 0
 IsOnly back =
-    (front : List BlockRecord) (last : BlockRecord) → AllByRecursion (IsIn (reverse back)) (front ++ last ∷ []) → AreChained no_block (front ++ last ∷ []) → front ++ last ∷ [] ≡ walk back last.id
+    (front : List BlockRecord) (last : BlockRecord) → AllByRecursion (IsIn (reverse back)) (front ++ last ∷ [])
+    → AreChained no_block (front ++ last ∷ []) → front ++ last ∷ [] ≡ walk back last.id
 
 module _ (latest : BlockRecord) (earlier : List BlockRecord) (are : AreBack (latest ∷ earlier)) (before : IsOnly earlier) where
-  all_earlier : (chain : List BlockRecord) → AllByRecursion (λ block. bytes_eq latest.id block.id ≡ false) chain → AllByRecursion (IsIn (reverse earlier ++ latest ∷ [])) chain → AllByRecursion (IsIn (reverse earlier)) chain
+  all_earlier : (chain : List BlockRecord) → AllByRecursion (λ block. bytes_eq latest.id block.id ≡ false) chain
+      → AllByRecursion (IsIn (reverse earlier ++ latest ∷ [])) chain → AllByRecursion (IsIn (reverse earlier)) chain
   all_earlier [] others among = tt
   all_earlier (block ∷ chain) others among = (sym (block_at-other (reverse earlier) latest block.id others.0) ∙ among.0, all_earlier chain others.1 among.1)
 
@@ -190,11 +214,14 @@ module _ (latest : BlockRecord) (earlier : List BlockRecord) (are : AreBack (lat
   last_is : (last : BlockRecord) → bytes_eq latest.id last.id ≡ true → IsIn (reverse earlier ++ latest ∷ []) last → last ≡ latest
   last_is last is found =
       let same : latest.id ≡ last.id = same_text latest.id last.id (sym is) in
-      let there : Some last ≡ Some latest = sym found ∙ ap (block_at (reverse earlier ++ latest ∷ [])) (sym same) ∙ block_at-last (reverse earlier) latest are.0.fresh in
+      let there : Some last ≡ Some latest = sym found ∙ ap (block_at (reverse earlier ++ latest ∷ [])) (sym same)
+      ∙ block_at-last (reverse earlier) latest are.0.fresh in
       cc
 
-  only_by : (front : List BlockRecord) (last : BlockRecord) → AllByRecursion (IsIn (reverse earlier ++ latest ∷ [])) (front ++ last ∷ []) → AreChained no_block (front ++ last ∷ [])
-      → (here : Bool) → bytes_eq latest.id last.id ≡ here → front ++ last ∷ [] ≡ (if here then walk earlier latest.previous ++ latest ∷ [] else walk earlier last.id)
+  only_by : (front : List BlockRecord) (last : BlockRecord) → AllByRecursion (IsIn (reverse earlier ++ latest ∷ [])) (front ++ last ∷ [])
+      → AreChained no_block (front ++ last ∷ [])
+      → (here : Bool) → bytes_eq latest.id last.id ≡ here → front ++ last ∷ [] ≡
+      (if here then walk earlier latest.previous ++ latest ∷ [] else walk earlier last.id)
   only_by front last among chained here is =
       let others = front_before latest earlier are front last chained among in
       elim here as (λ h. here ≡ h → front ++ last ∷ [] ≡ (if h then walk earlier latest.previous ++ latest ∷ [] else walk earlier last.id)) [
@@ -206,14 +233,16 @@ module _ (latest : BlockRecord) (earlier : List BlockRecord) (are : AreBack (lat
             ap (λ (last : BlockRecord). front ++ last ∷ []) last_one ∙ ap (λ front. front ++ latest ∷ []) front_one
         | false ↦ λ e.
             before front last
-            (all_earlier (front ++ last ∷ []) (all_push (λ (block : BlockRecord). bytes_eq latest.id block.id ≡ false) front last others (is ∙ e)) among) chained
+            (all_earlier (front ++ last ∷ []) (all_push (λ (block : BlockRecord). bytes_eq latest.id block.id ≡ false) front last others (is ∙ e))
+            among) chained
       ] refl
 
 only_back : (back : List BlockRecord) → AreBack back → IsOnly back
 only_back [] are front last among chained =
     let found : None ≡ Some last = (all_right (IsIn []) front (last ∷ []) among).0 in absurd (grind (arith, found))
 only_back (latest ∷ earlier) are front last among chained =
-    only_by latest earlier are (only_back earlier are.1) front last (subst (λ (blocks : List BlockRecord). AllByRecursion (IsIn blocks) (front ++ last ∷ [])) (latest_last earlier latest) among) chained
+    only_by latest earlier are (only_back earlier are.1) front last
+    (subst (λ (blocks : List BlockRecord). AllByRecursion (IsIn blocks) (front ++ last ∷ [])) (latest_last earlier latest) among) chained
     (bytes_eq latest.id last.id) refl
 
 -- ---- the laws
@@ -228,7 +257,8 @@ module _ (blocks : List BlockRecord) (linked : AreLinked blocks) where
   only_chain id chain is =
       is.ends
       ∙ only_back (reverse blocks) (are_back blocks linked) is.front is.last
-      (subst (λ (all : List BlockRecord). AllByRecursion (IsIn all) (is.front ++ is.last ∷ [])) (sym (reverse-reverse blocks)) (subst (AllByRecursion (IsIn blocks)) is.ends is.among))
+      (subst (λ (all : List BlockRecord). AllByRecursion (IsIn all) (is.front ++ is.last ∷ [])) (sym (reverse-reverse blocks))
+      (subst (AllByRecursion (IsIn blocks)) is.ends is.among))
       (subst (AreChained no_block) is.ends is.chained)
       ∙ ap (walk (reverse blocks)) is.named
 
@@ -241,7 +271,9 @@ kept_back : (back : List Kept) (id : List ℕ) → map (λ kept. kept.block) (br
 kept_back [] id = refl
 kept_back (latest ∷ earlier) id =
     kept_by (bytes_eq latest.block.id id) latest (branch_back (λ kept. kept.block) earlier latest.block.previous) (branch_back (λ kept. kept.block) earlier id)
-    (walk (map (λ kept. kept.block) earlier) latest.block.previous) (walk (map (λ kept. kept.block) earlier) id) (kept_back earlier latest.block.previous) (kept_back earlier id)
+    (walk (map (λ kept. kept.block) earlier) latest.block.previous) (walk (map (λ kept. kept.block) earlier) id)
+    (kept_back earlier latest.block.previous) (kept_back earlier id)
 
-pub kept_branch_is : (accepted : List Kept) (id : List ℕ) → map (λ kept. kept.block) (branch_of (λ kept. kept.block) accepted id) ≡ branch_of (λ block. block) (map (λ kept. kept.block) accepted) id
+pub kept_branch_is : (accepted : List Kept) (id : List ℕ) → map (λ kept. kept.block) (branch_of (λ kept. kept.block) accepted id) ≡ branch_of
+    (λ block. block) (map (λ kept. kept.block) accepted) id
 kept_branch_is accepted id = kept_back (reverse accepted) id ∙ ap (λ back. walk back id) (map-reverse (λ (kept : Kept). kept.block) accepted)

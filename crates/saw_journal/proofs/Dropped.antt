@@ -1,7 +1,7 @@
 -- Blocks of which no batch is dropped.
 use Rattle.std.proofs.Common.{◌≡◌, List, [], ◌∷◌, map, None, refl, sym, ap, ◌∙◌, arith}
 use Rattle.saw_plan.proofs.Whole.{none_dropped}
-use Rattle.saw_plan.specs.Shapes.{BatchShape, batch_shape}
+use Rattle.saw_plan.specs.BatchShapes.{BatchShape, batch_shape}
 use Rattle.saw_plan.specs.Sorting.{IsSorted, dropped_by}
 use Rattle.saw_plan.specs.StaticRules.{Ids, causes}
 use Rattle.saw_plan.specs.declared.sorted.Dropped.{Dropped}

@@ -2,21 +2,21 @@
 use Rattle.std.proofs.Common.{◌≡◌, ◌⊎◌, inl, inr, ℕ, false, List, Option, Some, None, Ok, Err, Result, refl, sym, ap, ◌∙◌}
 use Rattle.std.specs.Str.{bytes_eq}
 use Rattle.saw_address.specs.Maps.{StateMap}
-use Rattle.saw_checks.specs.BlockFaults.{structure_fault, structure_fault_by}
+use Rattle.saw_checks.specs.StructureFaults.{structure_fault, structure_fault_by}
 use Rattle.saw_checks.specs.declared.fault.StructureFault.{StructureFault}
 use Rattle.saw_checks.specs.declared.fault.StructureFault.TheVariants.{Undecodable}
 use Rattle.saw_messages.specs.Blocks.{block, block_header}
 use Rattle.saw_messages.specs.declared.block.Block.{Block}
 use Rattle.saw_messages.specs.declared.block.BlockHeader.{BlockHeader}
-use Rattle.saw_plan.specs.Shapes.{txs_of}
+use Rattle.saw_plan.specs.BatchShapes.{txs_of}
 use Rattle.saw_receipts.specs.declared.block.BlockRecord.{BlockRecord}
 use Rattle.saw_receipts.specs.declared.verdict.BlockFault.TheVariants.{Structure}
 use Rattle.saw_wire.specs.declared.fault.MessageFault.{MessageFault}
 use Rattle.saw_journal.specs.BlockFaults.{fault_by, parent_of}
 use Rattle.saw_journal.specs.Branches.{no_block}
 use Rattle.saw_journal.specs.Judgement.{Kept, Rules, judged, judged_parts, judged_with, kept_of, left_parts, would_leave}
-use Rattle.saw_journal.specs.Parts.{Parts, parts_of}
-use Rattle.saw_journal.proofs.Accepting.{unless_ok}
+use Rattle.saw_journal.specs.BlockShapes.{Parts, parts_of}
+use Rattle.saw_journal.proofs.Judging.{unless_ok}
 use Rattle.saw_journal.proofs.Named.{named_of}
 
 module _ (rules : Rules) (content : List ℕ) where
@@ -79,7 +79,8 @@ module _ (rules : Rules) (content : List ℕ) where
     pub record IsFine : Type 0 where
       pub parts : Parts
       pub named : bytes_eq parts.id no_block ≡ false
-      pub faultless : let before = f (parent_of blocks parts.header) in fault_by rules.hash blocks before (rules.runs before (txs_of parts.batches)) parts ≡ None
+      pub faultless : let before = f (parent_of blocks parts.header) in
+          fault_by rules.hash blocks before (rules.runs before (txs_of parts.batches)) parts ≡ None
       pub made : let before = f (parent_of blocks parts.header) in kept_of rules.hash parts before (rules.runs before (txs_of parts.batches)) ≡ kept
 
     pub is_fine : judged rules f blocks content ≡ Ok kept → IsFine
@@ -88,6 +89,7 @@ module _ (rules : Rules) (content : List ℕ) where
       | inr is ↦
           let before = f (parent_of blocks is.parts.header) in
           let results = rules.runs before (txs_of is.parts.batches) in
-          let split = unless_ok (fault_by rules.hash blocks before results is.parts) (kept_of rules.hash is.parts before results) kept (sym (is.judged_as f blocks) ∙ fine) in
+          let split = unless_ok (fault_by rules.hash blocks before results is.parts) (kept_of rules.hash is.parts before results) kept
+          (sym (is.judged_as f blocks) ∙ fine) in
           record { parts = is.parts; named = is.named; faultless = split.0; made = split.1 }
     ]

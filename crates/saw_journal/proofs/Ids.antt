@@ -1,5 +1,6 @@
 -- Ids of branches, gathered from the latest block on.
-use Rattle.std.proofs.Common.{◌≡◌, ℕ, ◌+◌, ◌<◌, Bool, true, false, List, [], ◌∷◌, ◌++◌, length, map, take, get_or, reverse, refl, sym, ap, subst, ◌∙◌, ◌⊎◌, inl, inr, arith, ◌-◌, ◌≤◌}
+use Rattle.std.proofs.Common.{◌≡◌, ℕ, ◌+◌, ◌<◌, Bool, true, false, List, [], ◌∷◌, ◌++◌, length, map, take, get_or, reverse, refl, sym, ap, subst, ◌∙◌}
+use Rattle.std.proofs.Common.{◌⊎◌, inl, inr, arith, ◌-◌, ◌≤◌}
 use Rattle.std.specs.Prelude.{◌||◌}
 use Rattle.std.specs.Str.{bytes_eq}
 use Rattle.std.specs.BTreeSet.{BTreeSet}
@@ -9,14 +10,12 @@ use Rattle.std.proofs.lemmas.List.Concat.{flat_map-cons}
 use Rattle.std.proofs.lemmas.List.Folds.{list_any-append}
 use Rattle.saw_ids.specs.Seen.{HoldsIds, is_among}
 use Rattle.saw_messages.specs.declared.receipt.Receipt.{Receipt}
-use Rattle.saw_context.specs.Serial.{BatchResult}
+use Rattle.saw_context.specs.declared.batch_result.BatchResult.{BatchResult}
 use Rattle.saw_messages.specs.declared.tx.TxBatch.{TxBatch}
-use Rattle.saw_plan.specs.Shapes.{BatchShape, batch_shape}
-use Rattle.saw_schedule.specs.Results.{result_of}
-use Rattle.saw_schedule.specs.declared.results.BatchResult as code
+use Rattle.saw_plan.specs.BatchShapes.{BatchShape, batch_shape}
 use Rattle.saw_journal.specs.Judgement.{batch_records}
 use Rattle.saw_plan.specs.StaticRules.{Ids, Knows}
-use Rattle.saw_plan.specs.Steps.{both}
+use Rattle.saw_plan.specs.SortingSteps.{both}
 use Rattle.saw_plan.specs.declared.known.Known.{Known}
 use Rattle.saw_receipts.specs.declared.block.BatchRecord.{BatchRecord}
 use Rattle.saw_receipts.specs.declared.block.BlockRecord.{BlockRecord}
@@ -25,11 +24,14 @@ use Rattle.saw_journal.specs.Branches.{batch_ids, branch_back, ids_in}
 -- ---- the ids of one block
 
 pub receipt_ids_more : (receipts : List Receipt) (i : ℕ) (receipt : Receipt) → i < length receipts → receipt ≡ get_or receipts i receipt → (ids : List (List ℕ))
-    → (ids ++ map (λ receipt. receipt.transaction_id) (take i receipts)) ++ receipt.transaction_id ∷ [] ≡ ids ++ map (λ receipt. receipt.transaction_id) (take (i + 1) receipts)
+    → (ids ++ map (λ receipt. receipt.transaction_id) (take i receipts)) ++ receipt.transaction_id ∷ [] ≡ ids ++ map
+    (λ receipt. receipt.transaction_id) (take (i + 1) receipts)
 receipt_ids_more receipts i receipt more here ids =
-    let cut : take (i + 1) receipts ≡ take i receipts ++ receipt ∷ [] = take_more receipts i receipt more ∙ ap (λ one. take i receipts ++ one ∷ []) (sym here) in
+    let cut : take (i + 1) receipts ≡ take i receipts ++ receipt ∷ [] = take_more receipts i receipt more
+    ∙ ap (λ one. take i receipts ++ one ∷ []) (sym here) in
     append_assoc ids (map (λ (receipt : Receipt). receipt.transaction_id) (take i receipts)) (receipt.transaction_id ∷ [])
-    ∙ ap (λ more. ids ++ more) (sym (ap (map (λ (receipt : Receipt). receipt.transaction_id)) cut ∙ map_push (λ (receipt : Receipt). receipt.transaction_id) (take i receipts) receipt))
+    ∙ ap (λ more. ids ++ more) (sym (ap (map (λ (receipt : Receipt). receipt.transaction_id)) cut
+    ∙ map_push (λ (receipt : Receipt). receipt.transaction_id) (take i receipts) receipt))
 
 abbrev pub one_batch : BatchRecord → Ids
 one_batch batch = record { batches = batch.id ∷ []; transactions = map (λ receipt. receipt.transaction_id) batch.receipts }
@@ -47,7 +49,8 @@ same_ids : {a b c d : List (List ℕ)} → a ≡ b → c ≡ d → (◌≡◌ {A
 same_ids e f = rw (e, f) refl
 
 pub batch_ids_more : (batches : List BatchRecord) (i : ℕ) (batch : BatchRecord) → i < length batches → batch ≡ get_or batches i batch → (there : Ids)
-    → both (both there (batch_ids (take i batches))) (record { batches = batch.id ∷ []; transactions = map (λ receipt. receipt.transaction_id) batch.receipts }) ≡ both there (batch_ids (take (i + 1) batches))
+    → both (both there (batch_ids (take i batches))) (record
+    { batches = batch.id ∷ []; transactions = map (λ receipt. receipt.transaction_id) batch.receipts }) ≡ both there (batch_ids (take (i + 1) batches))
 batch_ids_more batches i batch more here there =
     let cut : take (i + 1) batches ≡ take i batches ++ batch ∷ [] = take_more batches i batch more ∙ ap (λ one. take i batches ++ one ∷ []) (sym here) in
     let pushed : batch_ids (take (i + 1) batches) ≡ both (batch_ids (take i batches)) (one_batch batch) = ap batch_ids cut ∙ ids_push (take i batches) batch in
@@ -102,11 +105,13 @@ ids_push_block blocks block =
       append-nil (batch_ids block.batches).transactions,
     ) refl
 
-latest_first : (blocks : List BlockRecord) (i : ℕ) (block : BlockRecord) → i < length blocks → block ≡ get_or blocks i block → reverse (take (i + 1) blocks) ≡ block ∷ reverse (take i blocks)
+latest_first : (blocks : List BlockRecord) (i : ℕ) (block : BlockRecord) → i < length blocks → block ≡ get_or blocks i block
+    → reverse (take (i + 1) blocks) ≡ block ∷ reverse (take i blocks)
 latest_first blocks i block more here =
     ap reverse (take_more blocks i block more ∙ ap (λ one. take i blocks ++ one ∷ []) (sym here)) ∙ reverse-append (take i blocks) (block ∷ [])
 
-module _ (blocks : List BlockRecord) (i : ℕ) (block : BlockRecord) (more : i < length blocks) (here : block ≡ get_or blocks i block) (wanted : List ℕ) (gathered whole : Ids)
+module _ (blocks : List BlockRecord) (i : ℕ) (block : BlockRecord) (more : i < length blocks) (here : block ≡ get_or blocks i block) (wanted : List ℕ)
+    (gathered whole : Ids)
     (covers : CoversIds gathered (ids_in (walk (reverse (take (i + 1) blocks)) wanted)) whole) where
   -- the block is not of the branch
   pub passed_by : bytes_eq block.id wanted ≡ false → CoversIds gathered (ids_in (walk (reverse (take i blocks)) wanted)) whole
@@ -115,7 +120,8 @@ module _ (blocks : List BlockRecord) (i : ℕ) (block : BlockRecord) (more : i <
       subst (λ (branch : List BlockRecord). CoversIds gathered (ids_in branch) whole) same covers
 
   -- the block is the next one of the branch
-  pub taken_in : bytes_eq block.id wanted ≡ true → CoversIds (both gathered (batch_ids block.batches)) (ids_in (walk (reverse (take i blocks)) block.previous)) whole
+  pub taken_in : bytes_eq block.id wanted ≡ true → CoversIds (both gathered (batch_ids block.batches))
+      (ids_in (walk (reverse (take i blocks)) block.previous)) whole
   taken_in it =
       let rest = walk (reverse (take i blocks)) block.previous in
       let same : walk (reverse (take (i + 1) blocks)) wanted ≡ rest ++ block ∷ [] = rw (latest_first blocks i block more here, it) refl in
@@ -129,8 +135,13 @@ module _ (blocks : List BlockRecord) (i : ℕ) (block : BlockRecord) (more : i <
 pub opens : (whole : Ids) → CoversIds (record { batches = []; transactions = [] }) whole whole
 opens whole = record { batches = none_gathered whole.batches; transactions = none_gathered whole.transactions }
 
-pub closes : (known : Known) (gathered whole : Ids) → Knows known gathered → CoversIds gathered (record { batches = []; transactions = [] }) whole → Knows known whole
-closes known gathered whole knows covers = (all_gathered known.batches gathered.batches whole.batches knows.0 covers.batches, all_gathered known.transactions gathered.transactions whole.transactions knows.1 covers.transactions)
+pub closes : (known : Known) (gathered whole : Ids) → Knows known gathered → CoversIds gathered (record { batches = []; transactions = [] }) whole
+    → Knows known whole
+closes known gathered whole knows covers = (
+  all_gathered known.batches gathered.batches whole.batches knows.0 covers.batches,
+  all_gathered
+      known.transactions gathered.transactions whole.transactions knows.1 covers.transactions,
+)
 
 -- ---- records of batches
 
@@ -140,17 +151,19 @@ no_records (batch ∷ batches) [] none = refl
 no_records (batch ∷ batches) (result ∷ results) (inl is) = absurd (grind (arith, is))
 no_records (batch ∷ batches) (result ∷ results) (inr is) = absurd (grind (arith, is))
 
-pub ended : (made whole : List BatchRecord) (batches : List TxBatch) (results : List code.BatchResult) → (batches ≡ []) ⊎ (results ≡ []) → made ++ batch_records (map batch_shape batches) (map result_of results) ≡ whole → made ≡ whole
+pub ended : (made whole : List BatchRecord) (batches : List TxBatch) (results : List BatchResult) → (batches ≡ []) ⊎ (results ≡ [])
+    → made ++ batch_records (map batch_shape batches) results ≡ whole → made ≡ whole
 ended made whole batches results none known =
-    sym (append-nil made) ∙ ap (λ rest. made ++ rest) (sym (no_records (map batch_shape batches) (map result_of results) (both_mapped batches results none))) ∙ known
+    sym (append-nil made) ∙ ap (λ rest. made ++ rest) (sym (no_records (map batch_shape batches) results (both_mapped batches results none))) ∙ known
   where
-    both_mapped : (batches : List TxBatch) (results : List code.BatchResult) → (batches ≡ []) ⊎ (results ≡ []) → (map batch_shape batches ≡ []) ⊎ (map result_of results ≡ [])
+    both_mapped : (batches : List TxBatch) (results : List BatchResult) → (batches ≡ []) ⊎ (results ≡ []) → (map batch_shape batches ≡ []) ⊎ (results ≡ [])
     both_mapped batches results (inl is) = inl (ap (map batch_shape) is)
-    both_mapped batches results (inr is) = inr (ap (map result_of) is)
+    both_mapped batches results (inr is) = inr is
 
 -- ---- a place of the walk
 
-module _ (blocks : List BlockRecord) (place : ℕ) (block : BlockRecord) (some : 0 < place) (within : place ≤ length blocks) (here : block ≡ get_or blocks (place - 1) block) (wanted : List ℕ) (gathered whole : Ids)
+module _ (blocks : List BlockRecord) (place : ℕ) (block : BlockRecord) (some : 0 < place) (within : place ≤ length blocks)
+    (here : block ≡ get_or blocks (place - 1) block) (wanted : List ℕ) (gathered whole : Ids)
     (covers : CoversIds gathered (ids_in (walk (reverse (take place blocks)) wanted)) whole) where
   again : CoversIds gathered (ids_in (walk (reverse (take (place - 1 + 1) blocks)) wanted)) whole
   again =
@@ -160,5 +173,6 @@ module _ (blocks : List BlockRecord) (place : ℕ) (block : BlockRecord) (some :
   pub passed_at : bytes_eq block.id wanted ≡ false → CoversIds gathered (ids_in (walk (reverse (take (place - 1) blocks)) wanted)) whole
   passed_at other = passed_by blocks (place - 1) block (omega (arith, some, within)) here wanted gathered whole again other
 
-  pub taken_at : bytes_eq block.id wanted ≡ true → CoversIds (both gathered (batch_ids block.batches)) (ids_in (walk (reverse (take (place - 1) blocks)) block.previous)) whole
+  pub taken_at : bytes_eq block.id wanted ≡ true → CoversIds (both gathered (batch_ids block.batches))
+      (ids_in (walk (reverse (take (place - 1) blocks)) block.previous)) whole
   taken_at it = taken_in blocks (place - 1) block (omega (arith, some, within)) here wanted gathered whole again it

@@ -1,5 +1,6 @@
 -- A block that joins the accepted ones.
-use Rattle.std.proofs.Common.{◌≡◌, ◌<◌, ℕ, zero, suc, Bool, true, false, cond, List, [], ◌∷◌, ◌++◌, length, map, Option, Some, None, refl, sym, ap, subst, ◌∙◌, arith}
+use Rattle.std.proofs.Common.{◌≡◌, ◌<◌, ℕ, zero, suc, Bool, true, false, cond, List, [], ◌∷◌, ◌++◌, length, map, Option, Some, None, refl, sym, ap}
+use Rattle.std.proofs.Common.{subst, ◌∙◌, arith}
 use Rattle.std.specs.Prelude.{Result, Ok, Err, IsOk, OnOk, ◌||◌, IsSome, slice_get, string_bytes, String, if◌then◌else◌}
 use Rattle.std.specs.FinMap as finite
 use Rattle.std.specs.Global.{Global}
@@ -28,29 +29,35 @@ use Rattle.saw_journal.proofs.Lookups.{heads}
 apart : (k a b : List ℕ) → a ≡ b → bytes_eq b k ≡ false → bytes_eq k a ≡ false
 apart k a b same other = ap (bytes_eq k) same ∙ nat_list_eq_equiv.symm k b ∙ other
 
-pub put_behind : (es : List (String Global × BlockRecord)) (key : String Global) (block : BlockRecord) → map string_bytes (keys_of es) ≡ map (λ block. block.id) (values_of es) → has_block (values_of es) (string_bytes key) ≡ false
+pub put_behind : (es : List (String Global × BlockRecord)) (key : String Global) (block : BlockRecord)
+    → map string_bytes (keys_of es) ≡ map (λ block. block.id) (values_of es) → has_block (values_of es) (string_bytes key) ≡ false
     → insert_entry (λ a b. bytes_eq (string_bytes a) (string_bytes b)) es key block ≡ es ++ (key, block) ∷ []
 put_behind [] key block same fresh = refl
 put_behind (e ∷ es) key block same fresh =
     let parts = heads same in
     let others = either_false (bytes_eq e.1.id (string_bytes key)) (has_block (values_of es) (string_bytes key)) fresh in
-    ap (λ b. if b then (e.0, block) ∷ es else e ∷ insert_entry (λ a b. bytes_eq (string_bytes a) (string_bytes b)) es key block) (apart (string_bytes key) (string_bytes e.0) e.1.id parts.0 others.0)
+    ap (λ b. if b then (e.0, block) ∷ es else e ∷ insert_entry (λ a b. bytes_eq (string_bytes a) (string_bytes b)) es key block)
+    (apart (string_bytes key) (string_bytes e.0) e.1.id parts.0 others.0)
     ∙ ap (λ rest. e ∷ rest) (put_behind es key block parts.1 others.1)
 
 -- ---- what stays so
 
 still_known : (states : States) (root : List ℕ) (m : StateMap) (at : List ℕ) → IsSome (state_at states at) → IsSome (state_at (finite.insert states root m) at)
-still_known states root m at known = subst (λ found. IsSome found) (sym (finite.get-insert nat_list_cmp_total states root m at)) (inserted (eq_by_cmp (slice_cmp nat_cmp) at root) (state_at states at) known)
+still_known states root m at known = subst (λ found. IsSome found) (sym (finite.get-insert nat_list_cmp_total states root m at))
+    (inserted (eq_by_cmp (slice_cmp nat_cmp) at root) (state_at states at) known)
   where
     inserted : (b : Bool) (found : Option StateMap) → IsSome found → IsSome (cond b (Some m) found)
     inserted true found known = refl
     inserted false found known = known
 
-all_still_known : (states : States) (root : List ℕ) (m : StateMap) (blocks : List BlockRecord) → AllByRecursion (λ block. IsSome (state_at states block.root)) blocks → AllByRecursion (λ block. IsSome (state_at (finite.insert states root m) block.root)) blocks
+all_still_known : (states : States) (root : List ℕ) (m : StateMap) (blocks : List BlockRecord)
+    → AllByRecursion (λ block. IsSome (state_at states block.root)) blocks
+    → AllByRecursion (λ block. IsSome (state_at (finite.insert states root m) block.root)) blocks
 all_still_known states root m [] known = tt
 all_still_known states root m (block ∷ blocks) known = (still_known states root m block.root known.0, all_still_known states root m blocks known.1)
 
-head_push : (head : Option BlockRecord) (blocks : List BlockRecord) (new : BlockRecord) → head_after head (blocks ++ new ∷ []) ≡ (if is_new_head (head_after head blocks) new then Some new else head_after head blocks)
+head_push : (head : Option BlockRecord) (blocks : List BlockRecord) (new : BlockRecord)
+    → head_after head (blocks ++ new ∷ []) ≡ (if is_new_head (head_after head blocks) new then Some new else head_after head blocks)
 head_push head [] new = refl
 head_push head (block ∷ blocks) new = head_push (if is_new_head head block then Some block else head) blocks new
 
@@ -76,22 +83,29 @@ or_true true = refl
 or_true false = refl
 
 -- a first block, or one came before
-some_first : (blocks : List BlockRecord) (new : BlockRecord) → has_first blocks ≡ has_any blocks → (bytes_eq new.previous no_block || has_block blocks new.previous) ≡ true
+some_first : (blocks : List BlockRecord) (new : BlockRecord) → has_first blocks ≡ has_any blocks
+    → (bytes_eq new.previous no_block || has_block blocks new.previous) ≡ true
     → (first : Bool) → bytes_eq new.previous no_block ≡ first → (has_first blocks || bytes_eq new.previous no_block) ≡ true
 some_first blocks new opened known true is = ap (λ b. has_first blocks || b) is ∙ or_true (has_first blocks)
 some_first blocks new opened known false is =
     let before = ap (λ b. b || has_block blocks new.previous) (sym is) ∙ known in
     ap (λ b. b || bytes_eq new.previous no_block) (opened ∙ any_from blocks new.previous before)
 
-module _ (hash : List ℕ → List ℕ) (ids : List (List ℕ)) (blocks : List BlockRecord) (head : Option ℕ) (states : States) (limit : ℕ) (stands : IsStanding hash ids blocks head states limit)
+module _ (hash : List ℕ → List ℕ) (ids : List (List ℕ)) (blocks : List BlockRecord) (head : Option ℕ) (states : States) (limit : ℕ)
+    (stands : IsStanding hash ids blocks head states limit)
     (new : BlockRecord) (m : StateMap) (root : new.root ≡ root_of_map hash m) (behind : StandsBehind blocks new) (room : length blocks < limit) where
   founded_more : (more : List (List ℕ)) → more ≡ map (λ block. block.id) (blocks ++ new ∷ []) → IsFounded hash more (blocks ++ new ∷ []) (knows hash states m)
   founded_more more ids_are = record {
     ids_are = ids_are;
     linked = linked_push blocks new stands.founded.linked behind;
-    known = all_push (λ (block : BlockRecord). IsSome (state_at (knows hash states m) block.root)) blocks new (all_still_known states (root_of_map hash m) m blocks stands.founded.known)
-        (subst (λ found. IsSome found) (sym (ap (state_at (knows hash states m)) root ∙ finite.get-insert nat_list_cmp_total states (root_of_map hash m) m (root_of_map hash m) ∙ ap (λ b. cond b (Some m) (state_at states (root_of_map hash m))) (own (root_of_map hash m)))) refl);
-    first = list_any-append (λ (block : BlockRecord). bytes_eq block.previous no_block) blocks (new ∷ []) ∙ or_nil (has_first blocks) (bytes_eq new.previous no_block) ∙ some_first blocks new stands.founded.first behind.known (bytes_eq new.previous no_block) refl ∙ sym (some_length blocks);
+    known = all_push (λ (block : BlockRecord). IsSome (state_at (knows hash states m) block.root)) blocks new
+        (all_still_known states (root_of_map hash m) m blocks stands.founded.known)
+        (subst (λ found. IsSome found) (sym (ap (state_at (knows hash states m)) root
+        ∙ finite.get-insert nat_list_cmp_total states (root_of_map hash m) m (root_of_map hash m)
+        ∙ ap (λ b. cond b (Some m) (state_at states (root_of_map hash m))) (own (root_of_map hash m)))) refl);
+    first = list_any-append (λ (block : BlockRecord). bytes_eq block.previous no_block) blocks (new ∷ [])
+        ∙ or_nil (has_first blocks) (bytes_eq new.previous no_block)
+        ∙ some_first blocks new stands.founded.first behind.known (bytes_eq new.previous no_block) refl ∙ sym (some_length blocks);
     opening = λ e. absurd (not_empty blocks new e);
   }
     where
@@ -108,16 +122,20 @@ module _ (hash : List ℕ → List ℕ) (ids : List (List ℕ)) (blocks : List B
       some_length (block ∷ blocks) = refl
 
   module _ (more : List (List ℕ)) (ids_are : more ≡ map (λ block. block.id) (blocks ++ new ∷ [])) where
-    stands_with : (place : Option ℕ) → head_at (blocks ++ new ∷ []) place ≡ head_of (blocks ++ new ∷ []) → IsStanding hash more (blocks ++ new ∷ []) place (knows hash states m) limit
+    stands_with : (place : Option ℕ) → head_at (blocks ++ new ∷ []) place ≡ head_of (blocks ++ new ∷ [])
+        → IsStanding hash more (blocks ++ new ∷ []) place (knows hash states m) limit
     stands_with place chosen = record { founded = founded_more more ids_are; chosen = chosen; room = omega (arith, length_push blocks new, room) }
 
     -- the new block is the head
-    pub new_head : (place : ℕ) → place ≡ length blocks → true ≡ is_new_head (head_of blocks) new → IsStanding hash more (blocks ++ new ∷ []) (Some place) (knows hash states m) limit
+    pub new_head : (place : ℕ) → place ≡ length blocks → true ≡ is_new_head (head_of blocks) new
+        → IsStanding hash more (blocks ++ new ∷ []) (Some place) (knows hash states m) limit
     new_head place is head_is =
         stands_with (Some place)
-        (ap (slice_get (blocks ++ new ∷ [])) is ∙ get_last blocks new ∙ sym (head_push None blocks new ∙ ap (λ b. if b then Some new else head_of blocks) (sym head_is)))
+        (ap (slice_get (blocks ++ new ∷ [])) is ∙ get_last blocks new
+        ∙ sym (head_push None blocks new ∙ ap (λ b. if b then Some new else head_of blocks) (sym head_is)))
 
-    still_at : (at : Option ℕ) (found : Option BlockRecord) → head_at blocks at ≡ found → false ≡ is_new_head found new → head_at (blocks ++ new ∷ []) at ≡ found
+    still_at : (at : Option ℕ) (found : Option BlockRecord) → head_at blocks at ≡ found → false ≡ is_new_head found new
+        → head_at (blocks ++ new ∷ []) at ≡ found
     still_at None found is head_is = is
     still_at (Some i) None is head_is = absurd (grind (arith, head_is))
     still_at (Some i) (Some block) is head_is = get_kept blocks new block i is
@@ -126,11 +144,14 @@ module _ (hash : List ℕ → List ℕ) (ids : List (List ℕ)) (blocks : List B
     pub old_head : false ≡ is_new_head (head_of blocks) new → IsStanding hash more (blocks ++ new ∷ []) head (knows hash states m) limit
     old_head head_is =
         stands_with head
-        (still_at head (head_of blocks) stands.chosen head_is ∙ sym (head_push None blocks new ∙ ap (λ b. if b then Some new else head_of blocks) (sym head_is)))
+        (still_at head (head_of blocks) stands.chosen head_is
+        ∙ sym (head_push None blocks new ∙ ap (λ b. if b then Some new else head_of blocks) (sym head_is)))
 
-module _ (hash : List ℕ → List ℕ) (ids : List (List ℕ)) (blocks : List BlockRecord) (head : Option ℕ) (states : States) (limit : ℕ) (stands : IsStanding hash ids blocks head states limit)
+module _ (hash : List ℕ → List ℕ) (ids : List (List ℕ)) (blocks : List BlockRecord) (head : Option ℕ) (states : States) (limit : ℕ)
+    (stands : IsStanding hash ids blocks head states limit)
     (new : BlockRecord) (m : StateMap) (root : new.root ≡ root_of_map hash m) (behind : StandsBehind blocks new) (room : length blocks < limit)
-    (more : List (List ℕ)) (all : List BlockRecord) (later : States) (put : all ≡ blocks ++ new ∷ []) (ids_are : more ≡ map (λ block. block.id) all) (known : later ≡ knows hash states m) where
+    (more : List (List ℕ)) (all : List BlockRecord) (later : States) (put : all ≡ blocks ++ new ∷ []) (ids_are : more ≡ map (λ block. block.id) all)
+    (known : later ≡ knows hash states m) where
   ids_put : more ≡ map (λ block. block.id) (blocks ++ new ∷ [])
   ids_put = ids_are ∙ ap (map (λ (block : BlockRecord). block.id)) put
 
@@ -147,9 +168,12 @@ pub on_ok_of : {A F P : Type 0} (r : Result A F) → IsOk r → OnOk r P → P
 on_ok_of (Ok x) ok on = on
 on_ok_of (Err e) ok on = absurd cc
 
-pub values_behind : (es more : List (String Global × BlockRecord)) (key : String Global) (block : BlockRecord) → more ≡ es ++ (key, block) ∷ [] → values_of more ≡ values_of es ++ block ∷ []
+pub values_behind : (es more : List (String Global × BlockRecord)) (key : String Global) (block : BlockRecord) → more ≡ es ++ (key, block) ∷ []
+    → values_of more ≡ values_of es ++ block ∷ []
 values_behind es more key block is = ap values_of is ∙ map_push (λ (e : String Global × BlockRecord). e.1) es (key, block)
 
-pub keys_behind : (es more : List (String Global × BlockRecord)) (key : String Global) (block : BlockRecord) → more ≡ es ++ (key, block) ∷ [] → map string_bytes (keys_of more) ≡ map string_bytes (keys_of es) ++ string_bytes key ∷ []
+pub keys_behind : (es more : List (String Global × BlockRecord)) (key : String Global) (block : BlockRecord) → more ≡ es ++ (key, block) ∷ []
+    → map string_bytes (keys_of more) ≡ map string_bytes (keys_of es) ++ string_bytes key ∷ []
 keys_behind es more key block is =
-    ap (λ es. map string_bytes (keys_of es)) is ∙ ap (map string_bytes) (map_push (λ (e : String Global × BlockRecord). e.0) es (key, block)) ∙ map_push string_bytes (keys_of es) key
+    ap (λ es. map string_bytes (keys_of es)) is ∙ ap (map string_bytes) (map_push (λ (e : String Global × BlockRecord). e.0) es (key, block))
+    ∙ map_push string_bytes (keys_of es) key

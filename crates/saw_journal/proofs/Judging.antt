@@ -1,35 +1,32 @@
 -- The tests of a block, one after another.
 use Rattle.std.proofs.Common.{◌≡◌, ℕ, Bool, true, false, List, [], ◌∷◌, map, Option, Some, None, refl, sym, ap, subst, ◌∙◌, arith, cond}
-use Rattle.std.specs.Prelude.{◌&&◌, ◌||◌, ◌==◌, not, Err, IsSome, if◌then◌else◌, unwrap_or}
+use Rattle.std.specs.Prelude.{◌&&◌, ◌||◌, ◌==◌, not, Err, Ok, IsSome, if◌then◌else◌, unwrap_or}
 use Rattle.std.specs.FinMap as finite
 use Rattle.std.specs.Str.{bytes_eq}
 use Rattle.std.specs.Cmp.{eq_by_cmp_equiv}
-use Rattle.std.specs.Cmp.Lexicographic.{nat_list_cmp_total}
+use Rattle.std.specs.Cmp.Lexicographic.{nat_list_cmp_total, same_text}
 use Rattle.std.proofs.lemmas.Bool.{eqb-true}
 use Rattle.saw_address.specs.Maps.{StateMap, no_entries}
 use Rattle.saw_checks.specs.Tests.{first_of, ◌<|>◌}
-use Rattle.saw_context.specs.Serial.{BatchResult, left_after}
+use Rattle.saw_context.specs.Serial.{left_after}
+use Rattle.saw_context.specs.declared.batch_result.BatchResult.{BatchResult}
 use Rattle.saw_messages.specs.declared.block.BlockHeader.{BlockHeader}
 use Rattle.saw_node.specs.Trees.{root_of_map}
-use Rattle.saw_messages.specs.declared.tx.TxBatch.{TxBatch}
-use Rattle.saw_plan.specs.Shapes.{batch_shape, txs_of}
-use Rattle.saw_plan.specs.StaticRules.{Ids}
-use Rattle.saw_plan.specs.declared.plan.Plan.{Plan}
-use Rattle.saw_journal.specs.declared.planned.Planned.{Planned}
-use Rattle.saw_journal.specs.declared.planned.Planned.TheVariants.{Dropped, Whole}
+use Rattle.saw_plan.specs.BatchShapes.{txs_of}
+use Rattle.saw_plan.specs.StaticRules.{Knows}
+use Rattle.saw_plan.specs.declared.known.Known.{Known}
 use Rattle.saw_receipts.specs.States.{States, knows, state_at}
 use Rattle.saw_receipts.specs.declared.block.BlockRecord.{BlockRecord}
 use Rattle.saw_receipts.specs.declared.verdict.BlockFault.{BlockFault}
 use Rattle.saw_journal.specs.BlockFaults.{due_behind, failure_fault, ids_before, is_first, parent_of, place_tests, root_fault, static_fault}
-use Rattle.saw_journal.specs.Branches.{block_at, has_block, has_first, no_block}
+use Rattle.saw_journal.specs.Branches.{block_at, branch_of, has_block, has_first, ids_in, no_block}
+use Rattle.saw_journal.specs.Heads.{branch_to}
 use Rattle.saw_journal.specs.Judgement.{Kept, Runs, judged_parts, kept_of, unless}
 use Rattle.saw_journal.specs.Ledger.{map_at, map_under}
 use Rattle.saw_journal.specs.Linked.{StandsBehind, parent_in}
-use Rattle.saw_journal.specs.Parted.{JudgedAs, Plans, RanAs, root_before, run_fault}
-use Rattle.saw_journal.specs.Parts.{Parts}
+use Rattle.saw_journal.specs.Parted.{root_before, run_fault}
+use Rattle.saw_journal.specs.BlockShapes.{Parts}
 use Rattle.saw_journal.specs.Standing.{IsFounded, has_any}
-use Rattle.saw_journal.specs.declared.judge.Judged.{Judged}
-use Rattle.saw_journal.specs.declared.judge.Judged.TheVariants.{Bad, Good}
 use Rattle.saw_journal.proofs.Linking.{holds_at}
 
 -- ---- the tests in order
@@ -51,28 +48,33 @@ module _ (hash : List ℕ → List ℕ) (runs : Runs) (blocks : List BlockRecord
   behind results m = failure_fault results <|> root_fault parts.header (root_of_map hash (left_after m results))
 
   -- a fault of its place
-  pub misplaced : (fault : BlockFault) → Some fault ≡ first_of (place_tests blocks parts.id parts.header) → judged_parts hash runs (map_under states) blocks parts ≡ Err fault
+  pub misplaced : (fault : BlockFault) → Some fault ≡ first_of (place_tests blocks parts.id parts.header)
+      → judged_parts hash runs (map_under states) blocks parts ≡ Err fault
   misplaced fault found =
-      decides (first_of (place_tests blocks parts.id parts.header)) (static_fault (ids_before blocks parts.header) parts.batches <|> behind came before) (kept_of hash parts before came) fault found
+      decides (first_of (place_tests blocks parts.id parts.header))
+      (static_fault (ids_before blocks parts.header) parts.batches <|> behind came before) (kept_of hash parts before came) fault found
 
   module _ (placed : None ≡ first_of (place_tests blocks parts.id parts.header)) where
-    to_static : judged_parts hash runs (map_under states) blocks parts ≡ unless (static_fault (ids_before blocks parts.header) parts.batches <|> behind came before) (kept_of hash parts before came)
-    to_static = goes_on (first_of (place_tests blocks parts.id parts.header)) (static_fault (ids_before blocks parts.header) parts.batches <|> behind came before) (kept_of hash parts before came) placed
+    to_static : judged_parts hash runs (map_under states) blocks parts ≡ unless
+        (static_fault (ids_before blocks parts.header) parts.batches <|> behind came before) (kept_of hash parts before came)
+    to_static = goes_on (first_of (place_tests blocks parts.id parts.header))
+        (static_fault (ids_before blocks parts.header) parts.batches <|> behind came before) (kept_of hash parts before came) placed
 
     -- a batch is dropped
-    pub dropped : (fault : BlockFault) → static_fault (ids_before blocks parts.header) parts.batches ≡ Some fault → judged_parts hash runs (map_under states) blocks parts ≡ Err fault
-    dropped fault found = to_static ∙ decides (static_fault (ids_before blocks parts.header) parts.batches) (behind came before) (kept_of hash parts before came) fault (sym found)
+    pub dropped : (fault : BlockFault) → static_fault (ids_before blocks parts.header) parts.batches ≡ Some fault
+        → judged_parts hash runs (map_under states) blocks parts ≡ Err fault
+    dropped fault found = to_static ∙ decides (static_fault (ids_before blocks parts.header) parts.batches) (behind came before)
+        (kept_of hash parts before came) fault (sym found)
 
-    module _ (whole : static_fault (ids_before blocks parts.header) parts.batches ≡ None) (results : List BatchResult) (at : List ℕ) (same : before ≡ map_at states at) (run : came ≡ results) where
-      by_run : judged_parts hash runs (map_under states) blocks parts ≡ unless (run_fault hash states at parts results) (kept_of hash parts (map_at states at) results)
+    module _ (whole : static_fault (ids_before blocks parts.header) parts.batches ≡ None) (results : List BatchResult) (at : List ℕ)
+        (same : before ≡ map_at states at) (run : came ≡ results) where
+      -- what comes of its results
+      pub by_run : judged_parts hash runs (map_under states) blocks parts ≡ unless (run_fault hash states at parts results)
+          (kept_of hash parts (map_at states at) results)
       by_run =
           to_static ∙ goes_on (static_fault (ids_before blocks parts.header) parts.batches) (behind came before) (kept_of hash parts before came) (sym whole)
           ∙ ap (λ results. unless (behind results before) (kept_of hash parts before results)) run
           ∙ ap (λ m. unless (behind results m) (kept_of hash parts m results)) same
-
-      pub ran : (judged : Judged) → RanAs hash states at parts results judged → JudgedAs hash runs blocks states parts judged
-      ran (Bad fault) is = by_run ∙ ap (λ found. unless found (kept_of hash parts (map_at states at) results)) is
-      ran (Good new) is = (kept_of hash parts (map_at states at) results, by_run ∙ ap (λ found. unless found (kept_of hash parts (map_at states at) results)) is.0, is.1)
 
 -- ---- the map before a block
 
@@ -100,20 +102,25 @@ module _ (blocks : List BlockRecord) (id : List ℕ) (header : BlockHeader) (pla
   first_once = first_not (is_first header && has_first blocks) _ _ (then_rest (has_block blocks id) _ _ placed)
 
   pub previous_known : (not (is_first header) && not (has_block blocks header.previous_block_id)) ≡ false
-  previous_known = first_not (not (is_first header) && not (has_block blocks header.previous_block_id)) _ _ (then_rest (is_first header && has_first blocks) _ _ (then_rest (has_block blocks id) _ _ placed))
+  previous_known = first_not (not (is_first header) && not (has_block blocks header.previous_block_id)) _ _
+      (then_rest (is_first header && has_first blocks) _ _ (then_rest (has_block blocks id) _ _ placed))
 
   pub number_due : header.block_num ≡ due_behind (parent_of blocks header)
   number_due =
-      let numbered = then_rest (not (is_first header) && not (has_block blocks header.previous_block_id)) _ _ (then_rest (is_first header && has_first blocks) _ _ (then_rest (has_block blocks id) _ _ placed)) in
+      let numbered = then_rest (not (is_first header) && not (has_block blocks header.previous_block_id)) _ _
+      (then_rest (is_first header && has_first blocks) _ _ (then_rest (has_block blocks id) _ _ placed)) in
       eqb-true header.block_num (due_behind (parent_of blocks header))
-      (not_not (header.block_num == due_behind (parent_of blocks header)) (first_not (not (header.block_num == due_behind (parent_of blocks header))) _ _ numbered))
+      (not_not (header.block_num == due_behind (parent_of blocks header))
+      (first_not (not (header.block_num == due_behind (parent_of blocks header))) _ _ numbered))
 
   -- a block with this id and header stands behind the others
-  pub stands : bytes_eq id no_block ≡ false → (block : BlockRecord) → block.id ≡ id → block.previous ≡ header.previous_block_id → block.number ≡ header.block_num → StandsBehind blocks block
+  pub stands : bytes_eq id no_block ≡ false → (block : BlockRecord) → block.id ≡ id → block.previous ≡ header.previous_block_id
+      → block.number ≡ header.block_num → StandsBehind blocks block
   stands named block id_is previous number = record {
     named = ap (λ id. bytes_eq id no_block) id_is ∙ named;
     fresh = ap (has_block blocks) id_is ∙ is_fresh;
-    known = ap (λ previous. bytes_eq previous no_block || has_block blocks previous) previous ∙ either_true (is_first header) (has_block blocks header.previous_block_id) previous_known;
+    known = ap (λ previous. bytes_eq previous no_block || has_block blocks previous) previous
+        ∙ either_true (is_first header) (has_block blocks header.previous_block_id) previous_known;
     once = ap (λ previous. bytes_eq previous no_block && has_first blocks) previous ∙ first_once;
     number = number ∙ number_due ∙ ap (λ previous. due_behind (parent_in blocks previous)) (sym previous);
   }
@@ -122,15 +129,19 @@ no_block_yet : (blocks : List BlockRecord) → has_any blocks ≡ false → bloc
 no_block_yet [] none = refl
 no_block_yet (block ∷ blocks) none = absurd cc
 
-opening_map : (hash : List ℕ → List ℕ) (states : States) → states ≡ knows hash finite.empty no_entries → state_at states (root_of_map hash no_entries) ≡ Some no_entries
+opening_map : (hash : List ℕ → List ℕ) (states : States) → states ≡ knows hash finite.empty no_entries
+    → state_at states (root_of_map hash no_entries) ≡ Some no_entries
 opening_map hash states is =
-    ap (λ s. state_at s (root_of_map hash no_entries)) is ∙ finite.get-insert nat_list_cmp_total finite.empty (root_of_map hash no_entries) no_entries (root_of_map hash no_entries)
-    ∙ ap (λ b. cond b (Some no_entries) (state_at finite.empty (root_of_map hash no_entries))) ((eq_by_cmp_equiv nat_list_cmp_total).refl (root_of_map hash no_entries))
+    ap (λ s. state_at s (root_of_map hash no_entries)) is ∙ finite.get-insert nat_list_cmp_total finite.empty (root_of_map hash no_entries) no_entries
+    (root_of_map hash no_entries)
+    ∙ ap (λ b. cond b (Some no_entries) (state_at finite.empty (root_of_map hash no_entries)))
+    ((eq_by_cmp_equiv nat_list_cmp_total).refl (root_of_map hash no_entries))
 
 at_opening : (found : Option StateMap) → found ≡ Some no_entries → (no_entries ≡ unwrap_or found no_entries) × IsSome found
 at_opening found is = rw is (refl, refl)
 
-missing_here : (b : Bool) (block : BlockRecord) (others : Option BlockRecord) (has : Bool) → (others ≡ None → has ≡ false) → (if b then Some block else others) ≡ None → (b || has) ≡ false
+missing_here : (b : Bool) (block : BlockRecord) (others : Option BlockRecord) (has : Bool) → (others ≡ None → has ≡ false)
+    → (if b then Some block else others) ≡ None → (b || has) ≡ false
 missing_here true block others has later e = absurd (grind (arith, e))
 missing_here false block others has later e = later e
 
@@ -138,7 +149,8 @@ pub missing_is : (blocks : List BlockRecord) (id : List ℕ) → block_at blocks
 missing_is [] id e = refl
 missing_is (block ∷ blocks) id e = missing_here (bytes_eq block.id id) block (block_at blocks id) (has_block blocks id) (missing_is blocks id) e
 
-module _ (hash : List ℕ → List ℕ) (ids : List (List ℕ)) (blocks : List BlockRecord) (states : States) (founded : IsFounded hash ids blocks states) (id : List ℕ) (header : BlockHeader)
+module _ (hash : List ℕ → List ℕ) (ids : List (List ℕ)) (blocks : List BlockRecord) (states : States) (founded : IsFounded hash ids blocks states)
+    (id : List ℕ) (header : BlockHeader)
     (placed : None ≡ first_of (place_tests blocks id header)) where
   -- the map before a block is that under the root before it, which is known
   abbrev pub IsBefore : Option BlockRecord → Type 0
@@ -155,7 +167,11 @@ module _ (hash : List ℕ → List ℕ) (ids : List (List ℕ)) (blocks : List B
       let there = ap (λ b. not b && not (has_block blocks header.previous_block_id)) (sym first) ∙ previous_known blocks id header placed in
       let missing = missing_is blocks header.previous_block_id e in
       absurd (grind (arith, there, missing))
-  before_other first (Some parent) e = (refl, holds_at (λ (block : BlockRecord). IsSome (state_at states block.root)) blocks header.previous_block_id parent founded.known e)
+  before_other first (Some parent) e = (
+    refl,
+    holds_at (λ (block : BlockRecord). IsSome (state_at states block.root)) blocks header.previous_block_id
+        parent founded.known e,
+  )
 
   by_first : (first : Bool) → is_first header ≡ first → IsBefore (if first then None else block_at blocks header.previous_block_id)
   by_first true e = before_first e
@@ -164,13 +180,51 @@ module _ (hash : List ℕ → List ℕ) (ids : List (List ℕ)) (blocks : List B
   pub is_before : IsBefore (parent_of blocks header)
   is_before = by_first (is_first header) refl
 
--- ---- the parts together
+-- ---- the ids before a block
 
-pub plan_is : (there : Ids) (batches : List TxBatch) (slice : List TxBatch) (planned : Planned) (plan : Plan) → planned ≡ Whole plan → slice ≡ batches → Plans there (map batch_shape slice) planned
-    → (static_fault there (map batch_shape batches) ≡ None) × (map batch_shape plan.batches ≡ map batch_shape batches)
-plan_is there batches slice planned plan is same plans =
-    subst (λ (batches : List TxBatch). Plans there (map batch_shape batches) (Whole plan)) same (subst (λ (planned : Planned). Plans there (map batch_shape slice) planned) is plans)
+named_here : (here : Bool) (one block : BlockRecord) (others : Option BlockRecord) (id : List ℕ) → bytes_eq one.id id ≡ here
+    → (others ≡ Some block → block.id ≡ id) → (if here then Some one else others) ≡ Some block → block.id ≡ id
+named_here true one block others id is later e = let same : one ≡ block = cc in ap (λ (block : BlockRecord). block.id) (sym same) ∙ same_text one.id id (sym is)
+named_here false one block others id is later e = later e
 
-pub dropped_is : (there : Ids) (batches : List TxBatch) (slice : List TxBatch) (planned : Planned) (fault : BlockFault) → planned ≡ Dropped fault → slice ≡ batches → Plans there (map batch_shape slice) planned → static_fault there (map batch_shape batches) ≡ Some fault
-dropped_is there batches slice planned fault is same plans =
-    subst (λ (batches : List TxBatch). Plans there (map batch_shape batches) (Dropped fault)) same (subst (λ (planned : Planned). Plans there (map batch_shape slice) planned) is plans)
+-- a block that is found by an id has it
+has_id : (blocks : List BlockRecord) (id : List ℕ) (block : BlockRecord) → block_at blocks id ≡ Some block → block.id ≡ id
+has_id [] id block e = absurd (grind (arith, e))
+has_id (one ∷ blocks) id block e = named_here (bytes_eq one.id id) one block (block_at blocks id) id refl (has_id blocks id block) e
+
+module _ (blocks : List BlockRecord) (id : List ℕ) (header : BlockHeader) (placed : None ≡ first_of (place_tests blocks id header)) where
+  behind_other : is_first header ≡ false → (found : Option BlockRecord) → block_at blocks header.previous_block_id ≡ found
+      → branch_to blocks found ≡ branch_of (λ block. block) blocks header.previous_block_id
+  behind_other other None e =
+      let there = ap (λ b. not b && not (has_block blocks header.previous_block_id)) (sym other) ∙ previous_known blocks id header placed in
+      let missing = missing_is blocks header.previous_block_id e in
+      absurd (grind (arith, there, missing))
+  behind_other other (Some parent) e = ap (branch_of (λ (block : BlockRecord). block) blocks) (has_id blocks header.previous_block_id parent e)
+
+  branch_behind : (first : Bool) → is_first header ≡ first
+      → branch_to blocks (if first then None else block_at blocks header.previous_block_id)
+      ≡ (if first then [] else branch_of (λ block. block) blocks header.previous_block_id)
+  branch_behind true e = refl
+  branch_behind false e = behind_other e (block_at blocks header.previous_block_id) refl
+
+  -- the ids before a block are those of its parent's branch
+  ids_behind : ids_in (branch_to blocks (parent_of blocks header)) ≡ ids_before blocks header
+  ids_behind = ap ids_in (branch_behind (is_first header) refl)
+
+  module _ (parent : Option BlockRecord) (is : parent ≡ parent_of blocks header) where
+    pub knows_before : (known : Known) → Knows known (ids_in (branch_to blocks parent)) → Knows known (ids_before blocks header)
+    knows_before known knows = subst (Knows known) (ap (λ parent. ids_in (branch_to blocks parent)) is ∙ ids_behind) knows
+
+    -- the root before a block is known, and has the map behind its parent
+    pub at_root : (hash : List ℕ → List ℕ) (ids : List (List ℕ)) (states : States) → IsFounded hash ids blocks states → (root : List ℕ)
+        → root ≡ root_before hash parent → (map_under states (parent_of blocks header) ≡ map_at states root) × IsSome (state_at states root)
+    at_root hash ids states founded root root_is =
+        let same = root_is ∙ ap (root_before hash) is in
+        let before = is_before hash ids blocks states founded id header placed in
+        (before.0 ∙ ap (map_at states) (sym same), subst (λ (root : List ℕ). IsSome (state_at states root)) (sym same) before.1)
+
+-- ---- results
+
+pub unless_ok : (fault : Option BlockFault) (kept k : Kept) → unless fault kept ≡ Ok k → (fault ≡ None) × (kept ≡ k)
+unless_ok None kept k is = (refl, cc)
+unless_ok (Some fault) kept k is = absurd cc

@@ -3,19 +3,21 @@ use Rattle.std.proofs.Common.{◌≡◌, inl, inr, ℕ, Bool, true, false, List,
 use Rattle.std.specs.Prelude.{option_map}
 use Rattle.saw_address.specs.Maps.{StateMap}
 use Rattle.saw_checks.specs.Tests.{first_of, ◌<|>◌}
-use Rattle.saw_context.specs.Serial.{BatchResult, left_after}
+use Rattle.saw_context.specs.Serial.{left_after}
+use Rattle.saw_context.specs.declared.batch_result.BatchResult.{BatchResult}
 use Rattle.saw_messages.specs.declared.outcome.Reason.{Reason}
 use Rattle.saw_node.specs.Trees.{root_of_map}
-use Rattle.saw_plan.specs.Shapes.{txs_of}
+use Rattle.saw_plan.specs.BatchShapes.{txs_of}
 use Rattle.saw_plan.specs.declared.sorted.Dropped.{Dropped}
 use Rattle.saw_receipts.specs.declared.block.BlockRecord.{BlockRecord}
 use Rattle.saw_receipts.specs.declared.verdict.BlockFault.{BlockFault}
-use Rattle.saw_receipts.specs.declared.verdict.BlockFault.TheVariants.{BatchInvalid, BlockNumber, Consensus, GenesisAgain, Known, PreviousUnknown, Root, Structure}
+use Rattle.saw_receipts.specs.declared.verdict.BlockFault.TheVariants.{BatchInvalid, BlockNumber, Consensus, GenesisAgain, Known, PreviousUnknown}
+use Rattle.saw_receipts.specs.declared.verdict.BlockFault.TheVariants.{Root, Structure}
 use Rattle.saw_journal.specs.BlockFaults.{early_fault, failure_fault, fault_by, first_dropped, ids_before, parent_of, place_tests, static_fault}
 use Rattle.saw_journal.specs.Judgement.{Kept, Rules, judged, kept_of, unless, unless_early, would_leave}
 use Rattle.saw_journal.specs.Left.{KeptIsLeft}
-use Rattle.saw_journal.proofs.Accepting.{unless_ok}
 use Rattle.saw_journal.proofs.FromBytes.{HasParts, from_bytes}
+use Rattle.saw_journal.proofs.Judging.{unless_ok}
 use Rattle.saw_journal.proofs.SameParts.{neither}
 
 unless_err : (fault : Option BlockFault) (kept : Kept) (e : BlockFault) → unless fault kept ≡ Err e → fault ≡ Some e
@@ -66,12 +68,14 @@ module _ (rules : Rules) (map_behind : Option BlockRecord → StateMap) (blocks 
   leaves : first_of (place_tests blocks has.parts.id has.parts.header) ≡ None → static_fault (ids_before blocks has.parts.header) has.parts.batches ≡ None
       → would_leave rules map_behind blocks content ≡ Some (left_after before results)
   leaves placed whole =
-      let early : early_fault blocks has.parts ≡ None = ap (λ first. first <|> static_fault (ids_before blocks has.parts.header) has.parts.batches) placed ∙ whole in
+      let early : early_fault blocks has.parts ≡ None = ap (λ first. first <|> static_fault (ids_before blocks has.parts.header) has.parts.batches)
+      placed ∙ whole in
       has.leaves map_behind blocks ∙ ap (λ found. unless_early found (left_after before results)) early
 
   fine_left : (kept : Kept) → judged rules map_behind blocks content ≡ Ok kept → would_leave rules map_behind blocks content ≡ Some kept.left
   fine_left kept fine =
-      let split = unless_ok (fault_by rules.hash blocks before results has.parts) (kept_of rules.hash has.parts before results) kept (sym (has.judged_as map_behind blocks) ∙ fine) in
+      let split = unless_ok (fault_by rules.hash blocks before results has.parts) (kept_of rules.hash has.parts before results) kept
+      (sym (has.judged_as map_behind blocks) ∙ fine) in
       let placed = neither (first_of (place_tests blocks has.parts.id has.parts.header)) _ split.0 in
       let whole = neither (static_fault (ids_before blocks has.parts.header) has.parts.batches) _ placed.1 in
       leaves placed.0 whole.0 ∙ ap (λ (kept : Kept). Some kept.left) split.1
@@ -79,9 +83,12 @@ module _ (rules : Rules) (map_behind : Option BlockRecord → StateMap) (blocks 
   root_left : (stated computed : List ℕ) → judged rules map_behind blocks content ≡ Err (Root stated computed)
       → (m : StateMap) × (would_leave rules map_behind blocks content ≡ Some m) × (computed ≡ root_of_map rules.hash m)
   root_left stated computed bad =
-      let found = unless_err (fault_by rules.hash blocks before results has.parts) (kept_of rules.hash has.parts before results) (Root stated computed) (sym (has.judged_as map_behind blocks) ∙ bad) in
-      let placed = others_none stated computed (first_of (place_tests blocks has.parts.id has.parts.header)) _ (place_other stated computed _ _ _ _ _ _ _) found in
-      let whole = others_none stated computed (static_fault (ids_before blocks has.parts.header) has.parts.batches) _ (static_other stated computed _) placed.1 in
+      let found = unless_err (fault_by rules.hash blocks before results has.parts) (kept_of rules.hash has.parts before results)
+      (Root stated computed) (sym (has.judged_as map_behind blocks) ∙ bad) in
+      let placed = others_none stated computed (first_of (place_tests blocks has.parts.id has.parts.header)) _
+      (place_other stated computed _ _ _ _ _ _ _) found in
+      let whole = others_none stated computed (static_fault (ids_before blocks has.parts.header) has.parts.batches) _
+      (static_other stated computed _) placed.1 in
       let run = others_none stated computed (failure_fault results) _ (failure_other stated computed _) whole.1 in
       (left_after before results, leaves placed.0 whole.0, root_is stated computed _ _ _ run.1)
 

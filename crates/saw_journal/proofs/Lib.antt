@@ -1,5 +1,6 @@
 pub mod Ids
 pub mod Lookups
+pub mod Placing
 pub mod Linking
 pub mod Chains
 pub mod Dropped
@@ -9,9 +10,11 @@ pub mod Testing
 pub mod Ways
 pub mod Judging
 pub mod SameParts
+pub mod Counted
 pub mod Named
+pub mod Judgements
+pub mod FromBytes
 pub mod Accepting
 pub mod OneByOne
 pub mod Branching
-pub mod FromBytes
 pub mod Leaving

@@ -5,7 +5,7 @@ use Rattle.std.specs.Cmp.Lexicographic.{unequal}
 use Rattle.std.specs.Str.{bytes_eq}
 use Rattle.std.proofs.lemmas.Bool.{eqb-true}
 use Rattle.saw_address.specs.Texts.{is_hex_text}
-use Rattle.saw_checks.specs.BlockFaults.{block_tests, structure_fault, structure_fault_by}
+use Rattle.saw_checks.specs.StructureFaults.{block_tests, structure_fault, structure_fault_by}
 use Rattle.saw_checks.specs.Readings.{IsBlockOf}
 use Rattle.saw_checks.specs.Tests.{first_of}
 use Rattle.saw_checks.specs.declared.checked.CheckedBlock.{CheckedBlock}
@@ -34,7 +34,8 @@ module _ (accepts : List ℕ → List ℕ → List ℕ → Bool) where
       hex_names b.header_signature (not_not (is_hex_text 128 b.header_signature) (first_not (not (is_hex_text 128 b.header_signature)) _ _ (sym tests)))
 
   -- the id of a checked block
-  pub named_by : (bytes : List ℕ) (checked : CheckedBlock) → structure_fault accepts bytes ≡ None → IsBlockOf bytes checked → bytes_eq checked.id no_block ≡ false
+  pub named_by : (bytes : List ℕ) (checked : CheckedBlock) → structure_fault accepts bytes ≡ None → IsBlockOf bytes checked
+      → bytes_eq checked.id no_block ≡ false
   unfolding structure_fault
   named_by bytes checked sound is =
       let said : structure_fault accepts bytes ≡ structure_fault_by accepts is.read (Ok checked.header) = rw (is.decoded, is.header) refl in

@@ -2,10 +2,12 @@
 use Rattle.std.proofs.Common.{◌≡◌, ℕ, ◌+◌, List, [], ◌∷◌, ◌++◌, None, refl, ap, arith}
 use Rattle.saw_address.specs.Maps.{StateMap}
 use Rattle.saw_context.specs.Outcome.{Processors}
-use Rattle.saw_context.specs.Serial.{Applied, BatchResult, Failed, batch_result, failed_with, left_after, left_by, serial, serial_from}
+use Rattle.saw_context.specs.Serial.{batch_result, failed_with, left_after, left_by, serial, serial_from}
+use Rattle.saw_context.specs.declared.batch_result.BatchResult.{BatchResult}
+use Rattle.saw_context.specs.declared.batch_result.BatchResult.TheVariants.{Applied, Failed}
 use Rattle.saw_journal.specs.Judgement.{Runs}
-use Rattle.saw_messages.specs.Shapes.{TxShape}
-use Rattle.saw_schedule.specs.Results.{first_failure}
+use Rattle.saw_messages.specs.TxShapes.{TxShape}
+use Rattle.saw_schedule.specs.BatchResults.{first_failure}
 
 module _ (processors : Processors) where
   -- where none failed, more batches are run over what was left
@@ -19,8 +21,10 @@ module _ (processors : Processors) where
       → ((k : ℕ) (failed : List TxShape) (m : StateMap) → GoesOn a b k failed m)
       → let first = result ∷ serial_from processors (failed_with failed txs result) (left_by m result) a in
       first_failure k first ≡ None
-      → (result ∷ serial_from processors (failed_with failed txs result) (left_by m result) (a ++ b)) ≡ first ++ serial_from processors failed (left_after m first) b
-  first_done txs a b k failed m (Applied outcomes) others none = ap (λ results. Applied outcomes ∷ results) (others (k + 1) failed (left_by m (Applied outcomes)) none)
+      → (result ∷ serial_from processors (failed_with failed txs result) (left_by m result) (a ++ b)) ≡ first ++ serial_from processors failed
+      (left_after m first) b
+  first_done txs a b k failed m (Applied outcomes) others none =
+      ap (λ results. Applied outcomes ∷ results) (others (k + 1) failed (left_by m (Applied outcomes)) none)
   first_done txs a b k failed m (Failed t reason) others none = absurd (grind (arith, none))
 
   serial-append : (a b : List (List TxShape)) (k : ℕ) (failed : List TxShape) (m : StateMap) → GoesOn a b k failed m

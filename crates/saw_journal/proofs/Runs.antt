@@ -1,26 +1,32 @@
 -- A block's batches over the map before it.
-use Rattle.std.proofs.Common.{◌≡◌, ◌<◌, ◌^◌, ℕ, List, [], ◌∷◌, length, map, Option, Some, None, refl, sym, ap, ◌∙◌, arith}
+use Rattle.std.proofs.Common.{◌≡◌, ◌<◌, ◌^◌, ℕ, List, [], ◌∷◌, length, map, Option, Some, None, Result, Ok, Err, refl, sym, ap, ◌∙◌, arith}
 use Rattle.std.specs.Prelude.{IfSome, IsSome, unwrap_or}
 use Rattle.std.proofs.lemmas.List.{length-map}
 use Rattle.saw_address.specs.Maps.{StateMap, no_entries}
 use Rattle.saw_checks.specs.Tests.{◌<|>◌}
 use Rattle.saw_context.specs.Changed.{AreRising}
-use Rattle.saw_context.specs.Outcome.{map_after}
-use Rattle.saw_context.specs.Serial.{BatchResult, left_after}
-use Rattle.saw_messages.specs.Shapes.{TxShape}
+use Rattle.saw_context.specs.Outcome.{Processors, map_after}
+use Rattle.saw_context.specs.Possible.{MayComeOfAll}
+use Rattle.saw_context.specs.Serial.{left_after}
+use Rattle.saw_context.specs.declared.batch_result.BatchResult.{BatchResult}
+use Rattle.saw_messages.specs.TxShapes.{TxShape}
+use Rattle.saw_messages.specs.declared.outcome.Change.{Change}
 use Rattle.saw_messages.specs.declared.tx.TxBatch.{TxBatch}
 use Rattle.saw_node.specs.Trees.{root_of_map}
-use Rattle.saw_plan.specs.Shapes.{batch_shape, txs_of}
+use Rattle.saw_plan.specs.BatchShapes.{batch_shape, txs_of}
 use Rattle.saw_receipts.specs.States.{States, state_at}
 use Rattle.saw_receipts.specs.declared.block.BlockRecord.{BlockRecord}
 use Rattle.saw_receipts.specs.declared.verdict.BlockFault.{BlockFault}
-use Rattle.saw_schedule.specs.Results.{AreResultsFor, result_of, results_of}
-use Rattle.saw_schedule.specs.declared.results.Results.{Results}
+use Rattle.saw_schedule.specs.BatchResults.{AreResultsFor}
 use Rattle.saw_journal.specs.BlockFaults.{failure_fault, root_fault}
-use Rattle.saw_journal.specs.Judgement.{batch_records, kept_of}
+use Rattle.saw_journal.specs.Judgement.{batch_records}
 use Rattle.saw_journal.specs.Ledger.{map_at}
-use Rattle.saw_journal.specs.Parted.{IsNew, run_fault}
-use Rattle.saw_journal.specs.Parts.{parts_in}
+use Rattle.saw_journal.specs.Parted.{RunsAs, run_fault}
+use Rattle.saw_journal.specs.Stops.{IsStop}
+use Rattle.saw_journal.specs.declared.judge.New.{New}
+use Rattle.saw_journal.specs.declared.stop.Stop.{Stop}
+use Rattle.saw_journal.specs.declared.stop.Stop.TheVariants.{Refused, Failed}
+use Rattle.saw_journal.specs.BlockShapes.{parts_in}
 use Rattle.saw_checks.specs.declared.checked.CheckedBlock.{CheckedBlock}
 
 -- ---- the map of a known root
@@ -41,37 +47,77 @@ same_length [] (result ∷ results) are = absurd are
 same_length (txs ∷ batches) [] are = absurd are
 same_length (txs ∷ batches) (result ∷ results) are = omega (arith, same_length batches results are.1)
 
-pub few_results : (planned batches : List TxBatch) (results : Results) → map batch_shape planned ≡ map batch_shape batches → AreResultsFor (txs_of (map batch_shape planned)) (results_of results)
-    → length batches < 2 ^ 32 → length results.batches < 2 ^ 32
+pub few_results : (planned batches : List TxBatch) (results : List BatchResult) → map batch_shape planned ≡ map batch_shape batches
+    → AreResultsFor (txs_of (map batch_shape planned)) results
+    → length batches < 2 ^ 32 → length results < 2 ^ 32
 few_results planned batches results same are few =
     omega (
       arith,
-      sym (length-map results.batches result_of) ∙ same_length (txs_of (map batch_shape planned)) (results_of results) are
+      same_length (txs_of (map batch_shape planned)) results are
           ∙ length-map (map batch_shape planned) (λ batch. batch.txs) ∙ ap length same ∙ length-map batches batch_shape,
       few,
     )
 
 -- ---- the tests behind the run
 
-module _ (hash : List ℕ → List ℕ) (states : States) (before : List ℕ) (checked : CheckedBlock) (results : List BatchResult) where
-  pub failed_first : (fault : BlockFault) → Some fault ≡ failure_fault results → run_fault hash states before (parts_in checked) results ≡ Some fault
-  failed_first fault failed = ap (λ found. found <|> root_fault checked.header (root_of_map hash (left_after (map_at states before) results))) (sym failed)
+module _ (processors : Processors) (hash : List ℕ → List ℕ) (states : States) (before : List ℕ) (checked : CheckedBlock) (results : List BatchResult)
+    (may : MayComeOfAll processors (map_at states before) (txs_of (map batch_shape checked.batches)) results) where
+  abbrev Answers : Result New Stop → Type 0
+  Answers = RunsAs processors hash states before (parts_in checked)
 
-  module _ (none : None ≡ failure_fault results) (root : List ℕ) (changes : _) (left : map_after (map_at states before) changes ≡ left_after (map_at states before) results) (is : root ≡ root_of_map hash (map_after (map_at states before) changes)) where
+  -- a batch failed
+  pub failed_first : (fault : BlockFault) → failure_fault results ≡ Some fault → Answers (Err (Refused fault))
+  failed_first fault failed = (
+    results,
+    record {
+      may = may;
+      tested = ap (λ found. found <|> root_fault checked.header (root_of_map hash (left_after (map_at states before) results))) failed;
+    },
+  )
+
+  module _ (none : failure_fault results ≡ None) (root : List ℕ) (changes : List Change)
+      (left : map_after (map_at states before) changes ≡ left_after (map_at states before) results)
+      (is : root ≡ root_of_map hash (map_after (map_at states before) changes)) where
     root_is : root ≡ root_of_map hash (left_after (map_at states before) results)
     root_is = is ∙ ap (root_of_map hash) left
 
-    pub then_root : (found : Option BlockFault) → found ≡ root_fault checked.header root → run_fault hash states before (parts_in checked) results ≡ found
+    then_root : (found : Option BlockFault) → root_fault checked.header root ≡ found → run_fault hash states before (parts_in checked) results ≡ found
     then_root found told =
-        ap (λ first. first <|> root_fault checked.header (root_of_map hash (left_after (map_at states before) results))) (sym none)
-        ∙ ap (root_fault checked.header) (sym root_is) ∙ sym told
+        ap (λ first. first <|> root_fault checked.header (root_of_map hash (left_after (map_at states before) results))) none
+        ∙ ap (root_fault checked.header) (sym root_is) ∙ told
 
-    pub is_new : (block : BlockRecord) → IsSome (state_at states before) → AreRising changes
-        → block ≡ record { id = checked.id; number = checked.header.block_num; previous = checked.header.previous_block_id; signer = checked.header.signer_public_key; root = root; batches = batch_records (map batch_shape checked.batches) results }
-        → IsNew states (kept_of hash (parts_in checked) (map_at states before) results) (record { block = block; before = before; changes = changes })
-    is_new block known rising made = record {
-      block = made ∙ ap (λ root. record { id = checked.id; number = checked.header.block_num; previous = checked.header.previous_block_id; signer = checked.header.signer_public_key; root = root; batches = batch_records (map batch_shape checked.batches) results }) root_is;
-      rising = rising;
-      known = known;
-      left = sym left;
-    }
+    -- it states another root
+    pub other_root : (stop : Stop) → IsStop (root_fault checked.header root) stop → Answers (Err stop)
+    other_root (Refused fault) told = (results, record { may = may; tested = then_root (Some fault) told })
+    other_root (Failed fault) told = tt
+
+    -- or there is a record of it
+    pub is_new : (block : BlockRecord) → root_fault checked.header root ≡ None → IsSome (state_at states before) → AreRising changes
+        → block ≡ record {
+          id = checked.id;
+          number = checked.header.block_num;
+          previous = checked.header.previous_block_id;
+          signer =
+              checked.header.signer_public_key;
+          root = root;
+          batches = batch_records (map batch_shape checked.batches) results;
+        }
+        → Answers (Ok (record { block = block; before = before; changes = changes }))
+    is_new block told known rising made = (
+      results,
+      record { may = may; tested = then_root None told },
+      record {
+        block = made ∙ ap (λ root. record {
+          id = checked.id;
+          number = checked.header.block_num;
+          previous = checked.header.previous_block_id;
+          signer =
+              checked.header.signer_public_key;
+          root = root;
+          batches = batch_records (map batch_shape checked.batches) results;
+        }) root_is;
+        rising = rising;
+        known = known;
+        left = sym left;
+      },
+    )

@@ -5,7 +5,7 @@ use Rattle.std.specs.Arc.{arc_value}
 use Rattle.std.specs.declared.sync.Arc.{Arc}
 use Rattle.std.specs.Global.{Global}
 use Rattle.saw_checks.specs.BatchFaults.{batch_fault}
-use Rattle.saw_checks.specs.BlockFaults.{batch_ids_of, batches_fault, block_tests, structure_fault, structure_fault_by}
+use Rattle.saw_checks.specs.StructureFaults.{batch_ids_of, batches_fault, block_tests, structure_fault, structure_fault_by}
 use Rattle.saw_checks.specs.Readings.{IsTxOf, AreTxsOf, IsBatchOf, AreBatchesOf, IsBlockOf}
 use Rattle.saw_checks.specs.Tests.{◌<|>◌, first_of, first_difference}
 use Rattle.saw_checks.specs.declared.checked.CheckedBlock.{CheckedBlock}
@@ -15,7 +15,7 @@ use Rattle.saw_checks.specs.declared.fault.StructureFault.TheVariants as faults
 use Rattle.saw_messages.specs.Batches.{batch_header}
 use Rattle.saw_messages.specs.Blocks.{block, block_header}
 use Rattle.saw_messages.specs.Transactions.{transaction_header}
-use Rattle.saw_messages.specs.Shapes.{TxShape, shape_of, shape_in, header_by}
+use Rattle.saw_messages.specs.TxShapes.{TxShape, shape_of, shape_in, header_by}
 use Rattle.saw_messages.specs.declared.batch.Batch.{Batch}
 use Rattle.saw_messages.specs.declared.batch.BatchHeader.{BatchHeader}
 use Rattle.saw_messages.specs.declared.block.Block.{Block}
@@ -24,15 +24,16 @@ use Rattle.saw_messages.specs.declared.transaction.Transaction.{Transaction}
 use Rattle.saw_messages.specs.declared.transaction.TransactionHeader.{TransactionHeader}
 use Rattle.saw_messages.specs.declared.tx.Tx.{Tx}
 use Rattle.saw_messages.specs.declared.tx.TxBatch.{TxBatch}
-use Rattle.saw_plan.specs.Shapes.{batch_shape, shapes_of}
+use Rattle.saw_plan.specs.BatchShapes.{batch_shape, shapes_of}
 use Rattle.saw_receipts.specs.declared.block.BlockRecord.{BlockRecord}
 use Rattle.saw_receipts.specs.declared.verdict.BlockFault.TheVariants.{Structure}
 use Rattle.saw_wire.specs.declared.fault.MessageFault.{MessageFault}
 use Rattle.saw_address.specs.Maps.{StateMap}
 use Rattle.saw_journal.specs.Judgement.{Runs, judged, judged_header, judged_parts, rules_with}
-use Rattle.saw_journal.specs.Parts.{batch_in, parts_in, parts_of, signer_by}
+use Rattle.saw_journal.specs.BlockShapes.{batch_in, parts_in, parts_of, signer_by}
 
-same_shape : (id id' bytes bytes' payload payload' : List ℕ) (header header' : TransactionHeader) → id ≡ id' → header ≡ header' → bytes ≡ bytes' → payload ≡ payload'
+same_shape : (id id' bytes bytes' payload payload' : List ℕ) (header header' : TransactionHeader) → id ≡ id' → header ≡ header' → bytes ≡ bytes'
+    → payload ≡ payload'
     → (let first : TxShape = record { id = id; header = header; header_bytes = bytes; payload = payload } in
     let second : TxShape = record { id = id'; header = header'; header_bytes = bytes'; payload = payload' } in first ≡ second)
 same_shape id id' bytes bytes' payload payload' header header' a b c d = rw (a, b, c, d) refl
@@ -59,7 +60,8 @@ map_none f None e = refl
 map_none f (Some x) e = absurd cc
 
 module _ (accepts : List ℕ → List ℕ → List ℕ → Bool) where
-  said_by : (batch : Batch) → batch_fault accepts batch ≡ None → (read : Result BatchHeader MessageFault) → batch_header batch.header ≡ read → (signer : List ℕ) → ((header : BatchHeader) → batch_header batch.header ≡ Ok header → signer ≡ header.signer_public_key) → signer ≡ signer_by read
+  said_by : (batch : Batch) → batch_fault accepts batch ≡ None → (read : Result BatchHeader MessageFault) → batch_header batch.header ≡ read
+      → (signer : List ℕ) → ((header : BatchHeader) → batch_header batch.header ≡ Ok header → signer ≡ header.signer_public_key) → signer ≡ signer_by read
   unfolding batch_fault
   said_by batch fine (Ok header) is signer says = says header is
   said_by batch fine (Err e) is signer says =
@@ -67,9 +69,15 @@ module _ (accepts : List ℕ → List ℕ → List ℕ → Bool) where
       absurd (grind (arith, bad, fine))
 
   batch_is : (batch : Batch) (read : TxBatch) → batch_fault accepts batch ≡ None → IsBatchOf batch read → batch_shape read ≡ batch_in batch
-  batch_is batch read fine is = rw (is.id, said_by batch fine (batch_header batch.header) refl read.signer is.signer, tx_shapes batch.transactions read.txs is.txs) refl
+  batch_is batch read fine is = rw (
+    is.id,
+    said_by batch fine
+        (batch_header batch.header) refl read.signer is.signer,
+    tx_shapes batch.transactions read.txs is.txs,
+  ) refl
 
-  batches_are : (k : ℕ) (batches : List Batch) (reads : List TxBatch) → batches_fault accepts k batches ≡ None → AreBatchesOf batches reads → map batch_shape reads ≡ map batch_in batches
+  batches_are : (k : ℕ) (batches : List Batch) (reads : List TxBatch) → batches_fault accepts k batches ≡ None → AreBatchesOf batches reads
+      → map batch_shape reads ≡ map batch_in batches
   batches_are k [] [] fine are = refl
   batches_are k [] (read ∷ reads) fine are = absurd are
   batches_are k (batch ∷ batches) [] fine are = absurd are
@@ -77,24 +85,35 @@ module _ (accepts : List ℕ → List ℕ → List ℕ → Bool) where
       let both = neither (option_map (faults.Batch k) (batch_fault accepts batch)) (batches_fault accepts (k + 1) batches) fine in
       rw (batch_is batch read (map_none (faults.Batch k) (batch_fault accepts batch) both.0) are.0, batches_are (k + 1) batches reads both.1 are.1) refl
 
-  fine_batches : (b : Block) (header : BlockHeader) (bytes : List ℕ) → block bytes ≡ Ok b → block_header b.header ≡ Ok header → structure_fault accepts bytes ≡ None → batches_fault accepts 0 b.batches ≡ None
+  fine_batches : (b : Block) (header : BlockHeader) (bytes : List ℕ) → block bytes ≡ Ok b → block_header b.header ≡ Ok header
+      → structure_fault accepts bytes ≡ None → batches_fault accepts 0 b.batches ≡ None
   unfolding structure_fault
   fine_batches b header bytes decoded read fine =
       let said : structure_fault accepts bytes ≡ structure_fault_by accepts b (Ok header) = rw (decoded, read) refl in
-      (neither (batches_fault accepts 0 b.batches) _ (neither (option_map faults.BatchIds (first_difference header.batch_ids (batch_ids_of b.batches))) _ (neither (first_of (block_tests b header)) _ (sym said ∙ fine)).1).1).0
+      (neither (batches_fault accepts 0 b.batches) _ (neither
+      (option_map faults.BatchIds (first_difference header.batch_ids (batch_ids_of b.batches))) _
+      (neither (first_of (block_tests b header)) _ (sym said ∙ fine)).1).1).0
 
-  pub same_parts : (bytes : List ℕ) (checked : CheckedBlock) (is : IsBlockOf bytes checked) → structure_fault accepts bytes ≡ None → parts_in checked ≡ parts_of is.read checked.header
-  same_parts bytes checked is fine = rw (is.id, batches_are 0 is.read.batches checked.batches (fine_batches is.read checked.header bytes is.decoded is.header fine) is.batches) refl
+  pub same_parts : (bytes : List ℕ) (checked : CheckedBlock) (is : IsBlockOf bytes checked) → structure_fault accepts bytes ≡ None
+      → parts_in checked ≡ parts_of is.read checked.header
+  same_parts bytes checked is fine = rw (
+    is.id,
+    batches_are 0 is.read.batches checked.batches
+        (fine_batches is.read checked.header bytes is.decoded is.header fine) is.batches,
+  ) refl
 
   module _ (hash : List ℕ → List ℕ) (runs : Runs) (map_behind : Option BlockRecord → StateMap) (blocks : List BlockRecord) (content : List ℕ) where
     -- what comes of bytes without a structure fault is what comes of their checked block
-    pub judged_is : (checked : CheckedBlock) → structure_fault accepts content ≡ None → IsBlockOf content checked → judged (rules_with hash accepts runs) map_behind blocks content ≡ judged_parts hash runs map_behind blocks (parts_in checked)
+    pub judged_is : (checked : CheckedBlock) → structure_fault accepts content ≡ None → IsBlockOf content checked
+        → judged (rules_with hash accepts runs) map_behind blocks content ≡ judged_parts hash runs map_behind blocks (parts_in checked)
     unfolding judged
     judged_is checked fine is =
-        let read : judged (rules_with hash accepts runs) map_behind blocks content ≡ judged_header hash runs map_behind blocks is.read (Ok checked.header) = rw (fine, is.decoded, is.header) refl in
+        let read : judged (rules_with hash accepts runs) map_behind blocks content ≡ judged_header hash runs map_behind blocks is.read
+        (Ok checked.header) = rw (fine, is.decoded, is.header) refl in
         read ∙ ap (judged_parts hash runs map_behind blocks) (sym (same_parts content checked is fine))
 
     -- and a structure fault is its fault
-    pub judged_bad : (fault : StructureFault) → structure_fault accepts content ≡ Some fault → judged (rules_with hash accepts runs) map_behind blocks content ≡ Err (Structure fault)
+    pub judged_bad : (fault : StructureFault) → structure_fault accepts content ≡ Some fault
+        → judged (rules_with hash accepts runs) map_behind blocks content ≡ Err (Structure fault)
     unfolding judged
     judged_bad fault bad = rw bad refl

@@ -6,10 +6,11 @@ use Rattle.std.specs.FinMap as finite
 use Rattle.saw_address.specs.Maps.{StateMap}
 use Rattle.saw_context.specs.Outcome.{Processors}
 use Rattle.saw_context.specs.Possible.{MayComeOfAll}
-use Rattle.saw_context.specs.Serial.{BatchResult, serial}
+use Rattle.saw_context.specs.Serial.{serial}
+use Rattle.saw_context.specs.declared.batch_result.BatchResult.{BatchResult}
 use Rattle.saw_context.proofs.Coming.{from_comes}
 use Rattle.saw_messages.specs.Reasons.{has_own_reason}
-use Rattle.saw_messages.specs.Shapes.{TxShape}
+use Rattle.saw_messages.specs.TxShapes.{TxShape}
 use Rattle.saw_messages.specs.declared.talk.Turn.{Turn}
 use Rattle.saw_journal.specs.Judgement.{Runs}
 use Rattle.saw_journal.specs.Ledger.{RunsBy}
@@ -30,7 +31,8 @@ pub or_here : Processors → StateMap → List (List TxShape) → List BatchResu
 or_here processors m batches results = λ n others. if are_one coded_place (m, batches) (n, others) then results else serial processors n others
 
 -- the results are those of the batches over the map
-pub here_are : (processors : Processors) (m : StateMap) (batches : List (List TxShape)) (results : List BatchResult) → or_here processors m batches results m batches ≡ results
+pub here_are : (processors : Processors) (m : StateMap) (batches : List (List TxShape)) (results : List BatchResult)
+    → or_here processors m batches results m batches ≡ results
 unfolding or_here
 here_are processors m batches results = ap (λ b. if b then results else serial processors m batches) (one_itself coded_place (m, batches))
 
@@ -39,11 +41,13 @@ module _ (processors : Processors) (own : (tx : TxShape) (turns : List Turn) →
   is_by_serial = record { serial = λ m batches. from_comes processors own [] m batches }
 
   -- results that may come there are a way to run batches
-  pub is_or_here : (m : StateMap) (batches : List (List TxShape)) (results : List BatchResult) → MayComeOfAll processors m batches results → RunsBy processors (or_here processors m batches results)
+  pub is_or_here : (m : StateMap) (batches : List (List TxShape)) (results : List BatchResult) → MayComeOfAll processors m batches results
+      → RunsBy processors (or_here processors m batches results)
   unfolding or_here
   is_or_here m batches results may = record {
     serial = λ n others.
-        elim (are_one coded_place (m, batches) (n, others)) as (λ b. are_one coded_place (m, batches) (n, others) ≡ b → MayComeOfAll processors n others (if b then results else serial processors n others)) [
+        elim (are_one coded_place (m, batches) (n, others)) as
+        (λ b. are_one coded_place (m, batches) (n, others) ≡ b → MayComeOfAll processors n others (if b then results else serial processors n others)) [
           | true ↦ λ same. subst (λ (place : Place). MayComeOfAll processors place.0 place.1 results) (one_is coded_place (m, batches) (n, others) same) may
           | false ↦ λ same. from_comes processors own [] n others
         ] refl;

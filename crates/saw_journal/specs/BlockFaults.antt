@@ -5,19 +5,20 @@ use Rattle.std.specs.Str.{bytes_eq}
 use Rattle.hex.specs.Hex.{encode_lower}
 use Rattle.saw_address.specs.Maps.{StateMap}
 use Rattle.saw_checks.specs.Tests.{first_of, ◌<|>◌}
-use Rattle.saw_context.specs.Serial.{BatchResult, left_after}
+use Rattle.saw_context.specs.Serial.{left_after}
+use Rattle.saw_context.specs.declared.batch_result.BatchResult.{BatchResult}
 use Rattle.saw_messages.specs.declared.block.BlockHeader.{BlockHeader}
 use Rattle.saw_node.specs.Trees.{root_of_map}
-use Rattle.saw_plan.specs.Shapes.{BatchShape}
+use Rattle.saw_plan.specs.BatchShapes.{BatchShape}
 use Rattle.saw_plan.specs.Sorting.{dropped_by}
 use Rattle.saw_plan.specs.StaticRules.{Ids, causes}
 use Rattle.saw_plan.specs.declared.sorted.Dropped.{Dropped}
 use Rattle.saw_receipts.specs.declared.block.BlockRecord.{BlockRecord}
 use Rattle.saw_receipts.specs.declared.verdict.BlockFault.{BlockFault}
 use Rattle.saw_receipts.specs.declared.verdict.BlockFault.TheVariants.{Known, GenesisAgain, PreviousUnknown, BlockNumber, Consensus, Static, BatchInvalid, Root}
-use Rattle.saw_schedule.specs.Results.{first_failure}
+use Rattle.saw_schedule.specs.BatchResults.{first_failure}
 use Rattle.saw_journal.specs.Branches.{no_block, has_block, has_first, block_at, branch_of, ids_in}
-use Rattle.saw_journal.specs.Parts.{Parts}
+use Rattle.saw_journal.specs.BlockShapes.{Parts}
 
 -- a block that states that none is before it
 abbrev pub is_first : BlockHeader → Bool

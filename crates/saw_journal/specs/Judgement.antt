@@ -2,17 +2,19 @@
 use Rattle.std.specs.Prelude.{ℕ, Bool, List, [], map, Option, Some, None, Result, Ok, Err}
 use Rattle.std.specs.List.{zip}
 use Rattle.saw_address.specs.Maps.{StateMap}
-use Rattle.saw_checks.specs.BlockFaults.{structure_fault}
+use Rattle.saw_checks.specs.StructureFaults.{structure_fault}
 use Rattle.saw_checks.specs.declared.fault.StructureFault.{StructureFault}
 use Rattle.saw_checks.specs.declared.fault.StructureFault.TheVariants.{Undecodable}
-use Rattle.saw_context.specs.Serial.{BatchResult, Applied, Failed, left_after}
+use Rattle.saw_context.specs.Serial.{left_after}
+use Rattle.saw_context.specs.declared.batch_result.BatchResult.{BatchResult}
+use Rattle.saw_context.specs.declared.batch_result.BatchResult.TheVariants.{Applied, Failed}
 use Rattle.saw_messages.specs.Blocks.{block, block_header}
-use Rattle.saw_messages.specs.Shapes.{TxShape}
+use Rattle.saw_messages.specs.TxShapes.{TxShape}
 use Rattle.saw_messages.specs.declared.block.Block.{Block}
 use Rattle.saw_messages.specs.declared.block.BlockHeader.{BlockHeader}
 use Rattle.saw_messages.specs.declared.outcome.Outcome.{Outcome}
 use Rattle.saw_node.specs.Trees.{root_of_map}
-use Rattle.saw_plan.specs.Shapes.{BatchShape, ids_of, txs_of}
+use Rattle.saw_plan.specs.BatchShapes.{BatchShape, ids_of, txs_of}
 use Rattle.saw_receipts.specs.Receipts.{receipts}
 use Rattle.saw_receipts.specs.declared.block.BatchRecord.{BatchRecord}
 use Rattle.saw_receipts.specs.declared.block.BlockRecord.{BlockRecord}
@@ -20,7 +22,7 @@ use Rattle.saw_receipts.specs.declared.verdict.BlockFault.{BlockFault}
 use Rattle.saw_receipts.specs.declared.verdict.BlockFault.TheVariants.{Structure}
 use Rattle.saw_wire.specs.declared.fault.MessageFault.{MessageFault}
 use Rattle.saw_journal.specs.BlockFaults.{early_fault, fault_by, parent_of}
-use Rattle.saw_journal.specs.Parts.{Parts, parts_of}
+use Rattle.saw_journal.specs.BlockShapes.{Parts, parts_of}
 
 -- what is kept of a block without fault
 pub record Kept : Type 0 where

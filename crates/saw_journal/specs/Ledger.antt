@@ -3,7 +3,7 @@ use Rattle.std.specs.Prelude.{◌≡◌, ◌<◌, ℕ, Bool, true, false, List, 
 use Rattle.saw_address.specs.Maps.{StateMap, no_entries}
 use Rattle.saw_context.specs.Outcome.{Processors}
 use Rattle.saw_context.specs.Possible.{MayComeOfAll}
-use Rattle.saw_messages.specs.Shapes.{TxShape}
+use Rattle.saw_messages.specs.TxShapes.{TxShape}
 use Rattle.saw_receipts.specs.States.{States, knows, state_at}
 use Rattle.saw_receipts.specs.declared.block.BlockRecord.{BlockRecord}
 use Rattle.saw_receipts.specs.declared.verdict.BlockFault.{BlockFault}

@@ -1,7 +1,8 @@
-pub mod Faults
+pub mod CrewFaults
+pub mod Stops
 pub mod Branches
 pub mod Heads
-pub mod Parts
+pub mod BlockShapes
 pub mod BlockFaults
 pub mod Judgement
 pub mod Linked

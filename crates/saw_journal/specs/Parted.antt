@@ -1,43 +1,44 @@
 -- What the parts of a judgement answer.
-use Rattle.std.specs.Prelude.{◌≡◌, ◌<◌, ℕ, Bool, true, false, List, [], ◌∷◌, ◌++◌, length, map, Option, Some, None, IsSome, Ok, Err}
+use Rattle.std.specs.Prelude.{◌≡◌, ◌<◌, ℕ, Bool, true, false, List, [], ◌∷◌, ◌++◌, length, map, Option, Some, None, option_copied, IsSome}
+use Rattle.std.specs.Prelude.{Result, Ok, Err}
+use denote.Ref.{Bor}
 use Rattle.saw_address.specs.Maps.{no_entries}
-use Rattle.saw_checks.specs.BlockFaults.{structure_fault}
-use Rattle.saw_checks.specs.Readings.{IsBlockOf}
-use Rattle.saw_checks.specs.Tests.{◌<|>◌}
+use Rattle.saw_checks.specs.Tests.{first_of, ◌<|>◌}
 use Rattle.saw_context.specs.Changed.{AreRising}
-use Rattle.saw_context.specs.Outcome.{map_after}
-use Rattle.saw_context.specs.Serial.{BatchResult, left_after}
+use Rattle.saw_context.specs.Outcome.{Processors, map_after}
+use Rattle.saw_context.specs.Possible.{MayComeOfAll}
+use Rattle.saw_context.specs.Serial.{left_after}
+use Rattle.saw_context.specs.declared.batch_result.BatchResult.{BatchResult}
+use Rattle.saw_messages.specs.declared.block.BlockHeader.{BlockHeader}
 use Rattle.saw_node.specs.Trees.{root_of_map}
-use Rattle.saw_plan.specs.Shapes.{BatchShape, batch_shape}
+use Rattle.saw_plan.specs.BatchShapes.{BatchShape, batch_shape, txs_of}
 use Rattle.saw_plan.specs.StaticRules.{Ids}
+use Rattle.saw_plan.specs.declared.plan.Plan.{Plan}
 use Rattle.saw_receipts.specs.States.{States, knows, state_at}
 use Rattle.saw_receipts.specs.declared.block.BlockRecord.{BlockRecord}
 use Rattle.saw_receipts.specs.declared.verdict.BlockFault.{BlockFault}
 use Rattle.saw_receipts.specs.declared.verdict.Verdict.{Verdict}
-use Rattle.saw_receipts.specs.declared.verdict.Verdict.TheVariants.{Committed, Stored, Refused}
-use Rattle.saw_journal.specs.BlockFaults.{failure_fault, root_fault, static_fault}
+use Rattle.saw_receipts.specs.declared.verdict.Verdict.TheVariants as verdicts
+use Rattle.saw_journal.specs.BlockFaults.{failure_fault, parent_of, place_tests, root_fault, static_fault}
+use Rattle.saw_journal.specs.BlockShapes.{Parts}
 use Rattle.saw_journal.specs.Heads.{head_of, is_new_head}
-use Rattle.saw_journal.specs.Judgement.{Kept, Runs, judged_parts, kept_of}
-use Rattle.saw_journal.specs.Ledger.{Ledger, map_at, map_under}
+use Rattle.saw_journal.specs.Judgement.{Kept, Runs, judged, kept_of, rules_with}
+use Rattle.saw_journal.specs.Ledger.{Ledger, RunsBy, map_at, map_under}
 use Rattle.saw_journal.specs.Linked.{StandsBehind}
-use Rattle.saw_journal.specs.Parts.{Parts}
-use Rattle.saw_journal.specs.declared.checked.Checked.{Checked}
-use Rattle.saw_journal.specs.declared.checked.Checked.TheVariants as checks
-use Rattle.saw_journal.specs.declared.judge.Judged.{Judged}
-use Rattle.saw_journal.specs.declared.judge.Judged.TheVariants.{Bad, Good}
+use Rattle.saw_journal.specs.Stops.{IsStop}
 use Rattle.saw_journal.specs.declared.judge.New.{New}
-use Rattle.saw_journal.specs.declared.planned.Planned.{Planned}
-use Rattle.saw_journal.specs.declared.planned.Planned.TheVariants.{Dropped, Whole}
+use Rattle.saw_journal.specs.declared.stop.Stop.{Stop}
+use Rattle.saw_journal.specs.declared.stop.Stop.TheVariants.{Refused, Failed}
 
--- a structure fault, or the block that was read
-abbrev pub ChecksAs : (List ℕ → List ℕ → List ℕ → Bool) → List ℕ → Checked → Type 0
-ChecksAs accepts bytes (checks.Bad fault) = structure_fault accepts bytes ≡ Some fault
-ChecksAs accepts bytes (checks.Good checked) = (structure_fault accepts bytes ≡ None) × IsBlockOf bytes checked
+-- the accepted block before one that states this place, or the first fault of the place
+abbrev pub PlacedAs : List BlockRecord → List ℕ → BlockHeader → Result (Option (Bor BlockRecord)) Stop → Type 0
+PlacedAs blocks id header (Ok parent) = (first_of (place_tests blocks id header) ≡ None) × (option_copied parent ≡ parent_of blocks header)
+PlacedAs blocks id header (Err stop) = IsStop (first_of (place_tests blocks id header)) stop
 
--- the fault of the first batch that is dropped, or a plan of all
-abbrev pub Plans : Ids → List BatchShape → Planned → Type 0
-Plans there batches (Dropped fault) = static_fault there batches ≡ Some fault
-Plans there batches (Whole plan) = (static_fault there batches ≡ None) × (map batch_shape plan.batches ≡ batches)
+-- a plan of all batches, or the fault of the first that is dropped
+abbrev pub PlansAs : Ids → List BatchShape → Result Plan Stop → Type 0
+PlansAs there batches (Ok plan) = (static_fault there batches ≡ None) × (map batch_shape plan.batches ≡ batches)
+PlansAs there batches (Err stop) = IsStop (static_fault there batches) stop
 
 -- the root under which the map before a block stands
 abbrev pub root_before : (List ℕ → List ℕ) → Option BlockRecord → List ℕ
@@ -51,19 +52,36 @@ pub record IsNew (states : States) (kept : Kept) (new : New) : Type 0 where
   pub known : IsSome (state_at states new.before)
   pub left : kept.left ≡ map_after (map_at states new.before) new.changes
 
-module _ (hash : List ℕ → List ℕ) (states : States) (before : List ℕ) (parts : Parts) (results : List BatchResult) where
-  -- the tests of a block that need the results of its batches
-  abbrev pub run_fault : Option BlockFault
-  run_fault = failure_fault results <|> root_fault parts.header (root_of_map hash (left_after (map_at states before) results))
+-- the tests of a block that need the results of its batches
+abbrev pub run_fault : (List ℕ → List ℕ) → States → List ℕ → Parts → List BatchResult → Option BlockFault
+run_fault hash states before parts results =
+    failure_fault results <|> root_fault parts.header (root_of_map hash (left_after (map_at states before) results))
 
-  abbrev pub RanAs : Judged → Type 0
-  RanAs (Bad fault) = run_fault ≡ Some fault
-  RanAs (Good new) = (run_fault ≡ None) × IsNew states (kept_of hash parts (map_at states before) results) new
+module _ (processors : Processors) (hash : List ℕ → List ℕ) (states : States) (before : List ℕ) (parts : Parts) where
+  -- results that may come of the batches, of which these tests come
+  pub record HasRun (results : List BatchResult) (found : Option BlockFault) : Type 0 where
+    pub may : MayComeOfAll processors (map_at states before) (txs_of parts.batches) results
+    pub tested : run_fault hash states before parts results ≡ found
 
-module _ (hash : List ℕ → List ℕ) (runs : Runs) (blocks : List BlockRecord) (states : States) (parts : Parts) where
-  abbrev pub JudgedAs : Judged → Type 0
-  JudgedAs (Bad fault) = judged_parts hash runs (map_under states) blocks parts ≡ Err fault
-  JudgedAs (Good new) = (kept : Kept) × (judged_parts hash runs (map_under states) blocks parts ≡ Ok kept) × IsNew states kept new
+  -- what the run of a block's batches answers
+  abbrev pub RunsAs : Result New Stop → Type 0
+  RunsAs (Ok new) = (results : List BatchResult) × HasRun results None × IsNew states (kept_of hash parts (map_at states before) results) new
+  RunsAs (Err (Refused fault)) = (results : List BatchResult) × HasRun results (Some fault)
+  RunsAs (Err (Failed fault)) = Unit {0}
+
+module _ (processors : Processors) (hash : List ℕ → List ℕ) (accepts : List ℕ → List ℕ → List ℕ → Bool) (blocks : List BlockRecord) (states : States)
+    (content : List ℕ) where
+  -- this comes of the bytes, by some way to run batches
+  pub record ComesTo (came : Result Kept BlockFault) : Type 0 where
+    pub runs : Runs
+    pub by : RunsBy processors runs
+    pub judged_as : judged (rules_with hash accepts runs) (map_under states) blocks content ≡ came
+
+  -- what a judgement of the bytes answers
+  abbrev pub JudgedAs : Result New Stop → Type 0
+  JudgedAs (Ok new) = (kept : Kept) × ComesTo (Ok kept) × IsNew states kept new
+  JudgedAs (Err (Refused fault)) = ComesTo (Err fault)
+  JudgedAs (Err (Failed fault)) = Unit {0}
 
 -- what a new block has, so that it may join: it stands behind the accepted ones, and has the root of the map that
 -- it leaves
@@ -88,6 +106,6 @@ pub record Joins (hash : List ℕ → List ℕ) (old : Ledger) (new : New) (is_h
   pub is : after ≡ joined hash old new
 
 abbrev pub JoinsAs : (List ℕ → List ℕ) → Ledger → New → Verdict → Ledger → Type 0
-JoinsAs hash old new Committed after = Joins hash old new true after
-JoinsAs hash old new Stored after = Joins hash old new false after
-JoinsAs hash old new (Refused fault) after = ⊥
+JoinsAs hash old new verdicts.Committed after = Joins hash old new true after
+JoinsAs hash old new verdicts.Stored after = Joins hash old new false after
+JoinsAs hash old new (verdicts.Refused fault) after = ⊥

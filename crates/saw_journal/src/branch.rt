@@ -1,16 +1,15 @@
 //! The ids of a branch.
 
-ghost use Rattle.std.specs.Prelude.{◌≡◌, ◌<◌, ◌++◌, ◌∷◌, [], ℕ, List, length, get_or, map, OnOk, IfOk};
+ghost use Rattle.std.specs.Prelude.{◌≡◌, ◌<◌, ◌++◌, ◌∷◌, [], ℕ, List, length, get_or, map, option_copied, OnOk, IfOk};
 ghost use Rattle.indexmap.specs.IndexMap.{values};
 ghost use Rattle.saw_ids.specs.Seen.{HoldsIds};
-ghost use Rattle.saw_journal.specs.BlockFaults.{ids_before};
 ghost use Rattle.saw_journal.specs.Branches.{batch_ids, branch_of, ids_in};
+ghost use Rattle.saw_journal.specs.Heads.{branch_to};
 ghost use Rattle.saw_plan.specs.StaticRules.{Ids, Knows};
-ghost use Rattle.saw_plan.specs.Steps.{both};
+ghost use Rattle.saw_plan.specs.SortingSteps.{both};
 
-use crate::place::is_first;
 use saw_ids::add_id;
-use saw_messages::{BlockHeader, Receipt};
+use saw_messages::Receipt;
 use saw_plan::Known;
 use saw_receipts::{BatchRecord, BlockMap, BlockRecord};
 use saw_wire::Text;
@@ -61,8 +60,8 @@ fn block_in(blocks: &BlockMap, place: usize) -> &BlockRecord
     }
 }
 
-/// The ids of the branch that ends with the block of this id.
-pub(crate) fn known_in(alloc: Global, blocks: &BlockMap, id: &Text) -> Result<Known, AllocError>
+// The ids of the branch that ends with the block of this id.
+fn known_in(alloc: Global, blocks: &BlockMap, id: &Text) -> Result<Known, AllocError>
     ensures { IfOk result (λ known.
         Knows known (ids_in (branch_of (λ block. block) (values blocks.now) id.now))) }
 {
@@ -81,16 +80,17 @@ pub(crate) fn known_in(alloc: Global, blocks: &BlockMap, id: &Text) -> Result<Kn
     Ok(known)
 }
 
-/// The ids that are there before a block.
-pub(crate) fn known_before(
+/// The ids of the branch that ends with this block; of none there are none.
+pub(crate) fn known_behind(
     alloc: Global,
     blocks: &BlockMap,
-    header: &BlockHeader,
+    last: Option<&BlockRecord>,
 ) -> Result<Known, AllocError>
-    ensures { IfOk result (λ known. Knows known (ids_before (values blocks.now) header.now)) }
+    ensures { IfOk result (λ known.
+        Knows known (ids_in (branch_to (values blocks.now) (option_copied last.entry)))) }
 {
-    if is_first(header) {
-        return Ok(Known::new(alloc));
+    match last {
+        None => Ok(Known::new(alloc)),
+        Some(last) => known_in(alloc, blocks, &last.id),
     }
-    known_in(alloc, blocks, &header.previous_block_id)
 }

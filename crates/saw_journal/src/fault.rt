@@ -22,7 +22,7 @@ pub enum JournalFault {
 }
 
 impl From<CrewFault> for JournalFault {
-    ghost use Rattle.saw_journal.specs.Faults.{fault_of_crew};
+    ghost use Rattle.saw_journal.specs.CrewFaults.{fault_of_crew};
 
     ghost from_gives = { λ fault e. e ≡ fault_of_crew fault };
 

@@ -18,15 +18,15 @@ ghost use Rattle.saw_plan.specs.StaticRules.{Knows};
 ghost use Rattle.saw_receipts.specs.States.{AreRooted, knows, state_at};
 ghost use Rattle.saw_station.specs.Serving.{processors_at};
 
-use crate::branch::known_in;
-use crate::checked::{Checked, check};
+use crate::branch::known_behind;
 use crate::fault::JournalFault;
 use crate::head::choose;
-use crate::judge::{Judged, New, judge};
+use crate::judge::{New, judge};
+use crate::stop::Stop;
 use indexmap::IndexMap;
 use saw_node::NodeHasher;
 use saw_plan::Known;
-use saw_receipts::{BlockFault, BlockMap, BlockRecord, Parent, State, Verdict};
+use saw_receipts::{BlockMap, BlockRecord, Parent, State, Verdict};
 use saw_station::{Desk, Station};
 use saw_verify::Verifier;
 use std::alloc::{AllocError, Global};
@@ -164,10 +164,7 @@ impl<H: NodeHasher> Journal<H> {
     pub fn known(&self) -> Result<Known, AllocError>
         ensures { IfOk result (λ known. Knows known (ids_in (head_branch self.now.blocks))) }
     {
-        match self.head() {
-            None => Ok(Known::new(self.alloc)),
-            Some(head) => known_in(self.alloc, &self.blocks, &head.id),
-        }
+        known_behind(self.alloc, &self.blocks, self.head())
     }
 
     /// The head, as the block that a new one is put behind.
@@ -239,16 +236,17 @@ impl<H: NodeHasher> Journal<H> {
         ensures desks { KeepsDesks R.faults R.offered desks.old desks.new }
         ensures cause { IsErrOf result JournalFault.PeerFailed → Failed R.faults desks.old desks.new }
     {
-        match check(self.alloc, bytes, verifier)? {
-            Checked::Bad(fault) => Ok(Verdict::Refused {
-                fault: BlockFault::Structure(fault),
-            }),
-            Checked::Good(checked) => {
-                match judge(self.alloc, &self.blocks, &self.state, checked, desks)? {
-                    Judged::Bad(fault) => Ok(Verdict::Refused { fault }),
-                    Judged::Good(new) => self.join(new),
-                }
-            }
+        match judge(
+            self.alloc,
+            &self.blocks,
+            &self.state,
+            bytes,
+            verifier,
+            desks,
+        ) {
+            Ok(new) => self.join(new),
+            Err(Stop::Refused(fault)) => Ok(Verdict::Refused { fault }),
+            Err(Stop::Failed(fault)) => Err(fault),
         }
     }
 }

@@ -1,27 +1,24 @@
-//! The judgement of a block whose structure has no fault.
+//! The judgement of a block.
 
-ghost use Rattle.std.specs.Prelude.{◌≡◌, ◌<◌, ◌^◌, true, map, length, string_bytes, IfOk, IsErrOf};
+ghost use Rattle.std.specs.Prelude.{◌≡◌, ◌<◌, ◌^◌, map, length, string_bytes, option_copied, IfOk, IsErrOf};
 ghost use Rattle.indexmap.specs.IndexMap.{keys, values};
 ghost use Rattle.saw_crew.specs.Desks.{Failed, HaveSameOffers, KeepsDesks, offers_at};
-ghost use Rattle.saw_journal.specs.BlockFaults.{parent_of};
-ghost use Rattle.saw_journal.specs.Judgement.{Runs};
-ghost use Rattle.saw_journal.specs.Ledger.{RunsBy};
 ghost use Rattle.saw_journal.specs.Parted.{JudgedAs, root_before};
-ghost use Rattle.saw_journal.specs.Parts.{parts_in};
 ghost use Rattle.saw_journal.specs.Standing.{IsFounded};
-ghost use Rattle.saw_plan.specs.Shapes.{batch_shape, transactions_in};
 ghost use Rattle.saw_station.specs.Serving.{processors_at};
 
-use crate::branch::known_before;
+use crate::branch::known_behind;
 use crate::fault::JournalFault;
-use crate::place::{parent_of, place_fault};
-use crate::planned::{Planned, plan_all};
+use crate::place::parent_of;
+use crate::planned::plan_all;
 use crate::run::run;
-use saw_checks::CheckedBlock;
-use saw_messages::{BlockHeader, Change, TxBatch};
+use crate::stop::Stop;
+use saw_checks::check_block;
+use saw_messages::Change;
 use saw_node::{NodeHash, NodeHasher, root_by};
-use saw_receipts::{BlockFault, BlockMap, BlockRecord, State};
+use saw_receipts::{BlockMap, BlockRecord, State};
 use saw_station::{Desk, Station};
+use saw_verify::Verifier;
 use saw_wire::Items;
 use std::alloc::{AllocError, Global};
 use std::collections::BTreeMap;
@@ -35,37 +32,13 @@ pub(crate) struct New {
     pub(crate) changes: Items<Change>,
 }
 
-/// What comes of a block.
-#[derive(Drop)]
-pub(crate) enum Judged {
-    Bad(BlockFault),
-    Good(New),
-}
-
-// Whether 32 bits count the batches and their transactions. The bytes of more would not fit a frame.
-fn fits(batches: &[TxBatch]) -> bool
-    ensures batches { result ≡ true → length batches.now < 2 ^ 32 }
-    ensures transactions { result ≡ true → transactions_in (map batch_shape batches.now) < 2 ^ 32 }
-{
-    let mut room: usize = 0xffff_ffff;
-    for batch in batches {
-        if batch.txs.len() > room {
-            return false;
-        }
-        room -= batch.txs.len();
-    }
-    batches.len() <= 0xffff_ffff
-}
-
 fn root_before<H: NodeHasher>(
     alloc: Global,
-    blocks: &BlockMap,
-    header: &BlockHeader,
+    parent: Option<&BlockRecord>,
 ) -> Result<NodeHash, AllocError>
-    requires { map string_bytes (keys blocks.now) ≡ map (λ block. block.id) (values blocks.now) }
-    ensures { IfOk result (λ root. root ≡ root_before H.hash_of (parent_of (values blocks.now) header.now)) }
+    ensures { IfOk result (λ root. root ≡ root_before H.hash_of (option_copied parent.entry)) }
 {
-    match parent_of(blocks, header) {
+    match parent {
         Some(parent) => Ok(parent.root),
         None => {
             let root = root_by::<H>(alloc, &BTreeMap::new(alloc))?;
@@ -74,37 +47,32 @@ fn root_before<H: NodeHasher>(
     }
 }
 
-/// Judges a block whose structure has no fault.
-pub(crate) fn judge<H: NodeHasher, R: Station>(
+/// Judges the bytes of a block. It stops at the first fault.
+pub(crate) fn judge<H: NodeHasher, V: Verifier, R: Station>(
     alloc: Global,
     blocks: &BlockMap,
     state: &State<H>,
-    checked: CheckedBlock,
+    bytes: &[u8],
+    verifier: &V,
     desks: &mut [Desk<R>],
-) -> Result<Judged, JournalFault>
+) -> Result<New, Stop>
     requires founded { IsFounded H.hash_of (map string_bytes (keys blocks.now))
         (values blocks.now) state.now }
+    requires small { length bytes.now < 2 ^ 32 }
     requires some { 0 < length desks.old }
     requires alike { HaveSameOffers desks.old }
-    ensures judged { IfOk result (λ judged. (runs : Runs)
-        × RunsBy (processors_at R.next R.tells (offers_at desks.old)) runs
-        × JudgedAs H.hash_of runs (values blocks.now) state.now (parts_in checked) judged) }
-    ensures room { IsErrOf result JournalFault.Full → ⊥ }
+    ensures judged { let processors = processors_at R.next R.tells (offers_at desks.old) in
+        JudgedAs processors H.hash_of (V.accepts verifier.now)
+        (values blocks.now) state.now bytes.now result }
+    ensures room { IsErrOf result (Stop.Failed JournalFault.Full) → ⊥ }
     ensures desks { KeepsDesks R.faults R.offered desks.old desks.new }
-    ensures cause { IsErrOf result JournalFault.PeerFailed → Failed R.faults desks.old desks.new }
+    ensures cause { IsErrOf result (Stop.Failed JournalFault.PeerFailed)
+        → Failed R.faults desks.old desks.new }
 {
-    if let Some(fault) = place_fault(blocks, &checked.id, &checked.header)? {
-        return Ok(Judged::Bad(fault));
-    }
-    if !fits(checked.batches.as_slice()) {
-        return Err(JournalFault::OutOfMemory);
-    }
-    let known = known_before(alloc, blocks, &checked.header)?;
-    match plan_all(alloc, &known, checked.batches.as_slice())? {
-        Planned::Dropped(fault) => Ok(Judged::Bad(fault)),
-        Planned::Whole(plan) => {
-            let before = root_before::<H>(alloc, blocks, &checked.header)?;
-            run(alloc, state, before, checked, plan, desks)
-        }
-    }
+    let checked = check_block(alloc, bytes, verifier, 1)?;
+    let parent = parent_of(blocks, &checked.id, &checked.header)?;
+    let known = known_behind(alloc, blocks, parent)?;
+    let plan = plan_all(alloc, &known, checked.batches.as_slice())?;
+    let before = root_before::<H>(alloc, parent)?;
+    run(alloc, state, before, checked, plan, desks)
 }

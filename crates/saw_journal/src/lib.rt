@@ -2,7 +2,6 @@
 #![tactic(auto)]
 
 mod branch;
-mod checked;
 mod fault;
 mod head;
 mod journal;
@@ -12,6 +11,7 @@ mod place;
 mod planned;
 mod results;
 mod run;
+mod stop;
 
 pub use fault::JournalFault;
 pub use head::choose;

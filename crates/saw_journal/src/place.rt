@@ -1,12 +1,13 @@
 //! Where a block stands among the accepted ones.
 
-ghost use Rattle.std.specs.Prelude.{◌≡◌, map, string_bytes, option_copied, nat_eq, codes, IfOk};
+ghost use Rattle.std.specs.Prelude.{◌≡◌, ◌&&◌, not, is_none, map, string_bytes, option_copied, nat_eq, codes, IfOk};
 ghost use Rattle.std.specs.List.{starts_with};
 ghost use Rattle.indexmap.specs.IndexMap.{keys, values};
-ghost use Rattle.saw_checks.specs.Tests.{first_of};
-ghost use Rattle.saw_journal.specs.BlockFaults.{due_behind, is_first, parent_of, place_tests};
+ghost use Rattle.saw_journal.specs.BlockFaults.{due_behind, is_first, parent_of};
 ghost use Rattle.saw_journal.specs.Branches.{block_at, has_block, has_first};
+ghost use Rattle.saw_journal.specs.Parted.{PlacedAs};
 
+use crate::stop::Stop;
 use saw_messages::BlockHeader;
 use saw_receipts::{BlockFault, BlockMap, BlockRecord};
 use saw_wire::Text;
@@ -18,8 +19,7 @@ const NO_BLOCK: &str = "0000000000000000";
 /// What the consensus bytes of every other block begin with.
 const DEVMODE: &[u8] = b"Devmode";
 
-/// Whether a block states that none is before it.
-pub(crate) fn is_first(header: &BlockHeader) -> bool
+fn is_first(header: &BlockHeader) -> bool
     ensures { result ≡ is_first header.now }
 {
     header.previous_block_id.as_str() == NO_BLOCK
@@ -53,8 +53,26 @@ fn has_devmode(header: &BlockHeader) -> bool
     header.consensus.as_slice().starts_with(DEVMODE)
 }
 
-/// The accepted block before it.
-pub(crate) fn parent_of<'a>(blocks: &'a BlockMap, header: &BlockHeader) -> Option<&'a BlockRecord>
+fn is_other_first(blocks: &BlockMap, header: &BlockHeader) -> bool
+    ensures { result ≡ (is_first header.now && has_first (values blocks.now)) }
+{
+    is_first(header) && has_first(blocks)
+}
+
+fn is_orphan(header: &BlockHeader, parent: Option<&BlockRecord>) -> bool
+    ensures { result ≡ (not (is_first header.now) && is_none parent.entry) }
+{
+    !is_first(header) && parent.is_none()
+}
+
+fn has_other_consensus(header: &BlockHeader) -> bool
+    ensures { result ≡ (not (is_first header.now)
+        && not (starts_with nat_eq header.now.consensus (codes "Devmode"))) }
+{
+    !is_first(header) && !has_devmode(header)
+}
+
+fn stated_parent<'a>(blocks: &'a BlockMap, header: &BlockHeader) -> Option<&'a BlockRecord>
     requires { map string_bytes (keys blocks.now) ≡ map (λ block. block.id) (values blocks.now) }
     ensures { option_copied result ≡ parent_of (values blocks.now) header.now }
 {
@@ -77,32 +95,33 @@ fn due_behind(parent: Option<&BlockRecord>) -> Result<u64, AllocError>
     }
 }
 
-/// The first fault of the place that a block states.
-pub(crate) fn place_fault(
-    blocks: &BlockMap,
+/// The accepted block before this one; `None` where none is before it. It stops at the first fault of the place that the
+/// block states.
+pub(crate) fn parent_of<'a>(
+    blocks: &'a BlockMap,
     id: &Text,
     header: &BlockHeader,
-) -> Result<Option<BlockFault>, AllocError>
+) -> Result<Option<&'a BlockRecord>, Stop>
     requires { map string_bytes (keys blocks.now) ≡ map (λ block. block.id) (values blocks.now) }
-    ensures { IfOk result (λ found. found ≡ first_of (place_tests (values blocks.now) id.now header.now)) }
+    ensures { PlacedAs (values blocks.now) id.now header.now result }
 {
     if has_block(blocks, id) {
-        return Ok(Some(BlockFault::Known));
+        return Err(Stop::Refused(BlockFault::Known));
     }
-    let first = is_first(header);
-    if first && has_first(blocks) {
-        return Ok(Some(BlockFault::GenesisAgain));
+    if is_other_first(blocks, header) {
+        return Err(Stop::Refused(BlockFault::GenesisAgain));
     }
-    if !first && !has_block(blocks, &header.previous_block_id) {
-        return Ok(Some(BlockFault::PreviousUnknown));
+    let parent = stated_parent(blocks, header);
+    if is_orphan(header, parent) {
+        return Err(Stop::Refused(BlockFault::PreviousUnknown));
     }
-    let due = due_behind(parent_of(blocks, header))?;
+    let due = due_behind(parent)?;
     if header.block_num != due {
         let stated = header.block_num;
-        return Ok(Some(BlockFault::BlockNumber { stated, due }));
+        return Err(Stop::Refused(BlockFault::BlockNumber { stated, due }));
     }
-    if !first && !has_devmode(header) {
-        return Ok(Some(BlockFault::Consensus));
+    if has_other_consensus(header) {
+        return Err(Stop::Refused(BlockFault::Consensus));
     }
-    Ok(None)
+    Ok(parent)
 }

@@ -1,34 +1,23 @@
 //! The batches of a block by the static rules.
 
-ghost use Rattle.std.specs.Prelude.{◌≡◌, ◌<◌, ◌^◌, length, map, IfOk};
+ghost use Rattle.std.specs.Prelude.{◌≡◌, ◌<◌, ◌^◌, length, map};
 ghost use Rattle.saw_journal.specs.BlockFaults.{first_dropped};
-ghost use Rattle.saw_journal.specs.Parted.{Plans};
-ghost use Rattle.saw_plan.specs.Shapes.{batch_shape, transactions_in};
+ghost use Rattle.saw_journal.specs.Parted.{PlansAs};
+ghost use Rattle.saw_plan.specs.BatchShapes.{batch_shape, transactions_in};
 ghost use Rattle.saw_plan.specs.StaticRules.{Ids, Knows};
 
+use crate::stop::Stop;
 use saw_messages::TxBatch;
-use saw_plan::{Dropped as DroppedBatch, Known, Plan, Sorted, precheck};
+use saw_plan::{Dropped, Known, Plan, Sorted, precheck};
 use saw_receipts::BlockFault;
 use saw_wire::Items;
-use std::alloc::{AllocError, Global};
+use std::alloc::Global;
 
-/// A plan of all batches, or the fault of the first that is dropped.
-#[derive(Drop)]
-pub(crate) enum Planned {
-    Dropped(BlockFault),
-    Whole(Plan),
-}
-
-/// Plans all batches of a block, against the ids that are there.
-pub(crate) fn plan_all(
-    alloc: Global,
-    known: &Known,
-    batches: &[TxBatch],
-) -> Result<Planned, AllocError>
+/// Plans all batches of a block, against the ids that are there. It stops at the first that the static rules drop.
+pub(crate) fn plan_all(alloc: Global, known: &Known, batches: &[TxBatch]) -> Result<Plan, Stop>
     requires batches { length batches.now < 2 ^ 32 }
     requires transactions { transactions_in (map batch_shape batches.now) < 2 ^ 32 }
-    ensures { IfOk result (λ planned. (there : Ids) → Knows known.now there
-        → Plans there (map batch_shape batches.now) planned) }
+    ensures { (there : Ids) → Knows known.now there → PlansAs there (map batch_shape batches.now) result }
 {
     let Sorted {
         plan,
@@ -36,16 +25,16 @@ pub(crate) fn plan_all(
         dropped,
     } = precheck(alloc, known, batches)?;
     match first_dropped(dropped) {
-        None => Ok(Planned::Whole(plan)),
-        Some(fault) => Ok(Planned::Dropped(fault)),
+        None => Ok(plan),
+        Some(fault) => Err(Stop::Refused(fault)),
     }
 }
 
-fn first_dropped(dropped: Items<DroppedBatch>) -> Option<BlockFault>
+fn first_dropped(dropped: Items<Dropped>) -> Option<BlockFault>
     ensures { result ≡ first_dropped dropped }
 {
     match dropped.into_vec().into_iter().next() {
         None => None,
-        Some(DroppedBatch { place: k, cause }) => Some(BlockFault::Static { k, cause }),
+        Some(Dropped { place: k, cause }) => Some(BlockFault::Static { k, cause }),
     }
 }

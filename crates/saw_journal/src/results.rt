@@ -1,10 +1,10 @@
 //! What the results of a block's batches say.
 
 ghost use Rattle.std.specs.Prelude.{◌≡◌, ◌<◌, ◌^◌, length, map, IfOk};
+ghost use Rattle.saw_checks.specs.BatchParts.{Tells};
 ghost use Rattle.saw_journal.specs.BlockFaults.{failure_fault};
 ghost use Rattle.saw_journal.specs.Judgement.{batch_record, batch_records, outcomes_in};
-ghost use Rattle.saw_plan.specs.Shapes.{batch_shape};
-ghost use Rattle.saw_schedule.specs.Results.{result_of, results_of};
+ghost use Rattle.saw_plan.specs.BatchShapes.{batch_shape};
 
 use saw_messages::{Outcome, TxBatch};
 use saw_receipts::{BatchRecord, BlockFault, batch_receipts};
@@ -12,25 +12,25 @@ use saw_schedule::{BatchResult, Results};
 use saw_wire::Items;
 use std::alloc::{AllocError, Global};
 
-/// The fault of the first failed batch.
-pub(crate) fn failure_fault(results: &Results) -> Option<BlockFault>
+/// Tests that no batch failed; the fault is that of the first.
+pub(crate) fn test_results(results: &Results) -> Result<(), BlockFault>
     requires { length results.now.batches < 2 ^ 32 }
-    ensures { result ≡ failure_fault (results_of results.now) }
+    ensures { Tells result (failure_fault results.now.batches) }
 {
     for (k, batch) in results.batches.as_slice().iter().enumerate() {
         if let BatchResult::Failed { t, reason } = batch {
-            return Some(BlockFault::BatchInvalid {
+            return Err(BlockFault::BatchInvalid {
                 k: k as u32,
                 t: *t,
                 reason: *reason,
             });
         }
     }
-    None
+    Ok(())
 }
 
 fn outcomes_in(done: &BatchResult) -> &[Outcome]
-    ensures { result.now ≡ outcomes_in (result_of done.now) }
+    ensures { result.now ≡ outcomes_in done.now }
 {
     match done {
         BatchResult::Applied { outcomes } => outcomes.as_slice(),
@@ -43,7 +43,7 @@ fn batch_record(
     batch: &TxBatch,
     done: &BatchResult,
 ) -> Result<BatchRecord, AllocError>
-    ensures { IfOk result (λ made. made ≡ batch_record (batch_shape batch.now) (result_of done.now)) }
+    ensures { IfOk result (λ made. made ≡ batch_record (batch_shape batch.now) done.now) }
 {
     let receipts = batch_receipts(alloc, batch, outcomes_in(done))?;
     Ok(BatchRecord {
@@ -59,7 +59,7 @@ pub(crate) fn batch_records(
     results: &Results,
 ) -> Result<Items<BatchRecord>, AllocError>
     ensures { IfOk result (λ made.
-        made ≡ batch_records (map batch_shape batches.now) (results_of results.now)) }
+        made ≡ batch_records (map batch_shape batches.now) results.now.batches) }
 {
     let mut made = Items::new(alloc);
     for (batch, done) in batches.iter().zip(results.batches.as_slice()) {

@@ -1,22 +1,23 @@
 //! A block's batches over the map before it.
 
-ghost use Rattle.std.specs.Prelude.{◌≡◌, ◌<◌, ◌^◌, List, map, length, IfOk, IsErrOf, IsSome};
+ghost use Rattle.std.specs.Prelude.{◌≡◌, ◌<◌, ◌^◌, map, length, IfOk, IsErrOf, IsSome};
 ghost use Rattle.saw_context.specs.Possible.{MayComeOfAll};
-ghost use Rattle.saw_context.specs.Serial.{BatchResult};
 ghost use Rattle.saw_crew.specs.Desks.{Failed, HaveSameOffers, KeepsDesks, offers_at};
 ghost use Rattle.saw_journal.specs.BlockFaults.{root_fault};
 ghost use Rattle.saw_journal.specs.Judgement.{batch_records};
 ghost use Rattle.saw_journal.specs.Ledger.{map_at};
-ghost use Rattle.saw_journal.specs.Parted.{RanAs};
-ghost use Rattle.saw_journal.specs.Parts.{parts_in};
-ghost use Rattle.saw_plan.specs.Shapes.{batch_shape, transactions_in, txs_of};
+ghost use Rattle.saw_journal.specs.Parted.{RunsAs};
+ghost use Rattle.saw_journal.specs.Stops.{TestsAs};
+ghost use Rattle.saw_journal.specs.BlockShapes.{parts_in};
+ghost use Rattle.saw_plan.specs.BatchShapes.{batch_shape, transactions_in, txs_of};
 ghost use Rattle.saw_receipts.specs.States.{state_at};
-ghost use Rattle.saw_schedule.specs.Results.{AreResultsFor, results_of};
+ghost use Rattle.saw_schedule.specs.BatchResults.{AreResultsFor};
 ghost use Rattle.saw_station.specs.Serving.{processors_at};
 
 use crate::fault::JournalFault;
-use crate::judge::{Judged, New};
-use crate::results::{batch_records, failure_fault};
+use crate::judge::New;
+use crate::results::{batch_records, test_results};
+use crate::stop::Stop;
 use saw_checks::CheckedBlock;
 use saw_crew::execute;
 use saw_messages::BlockHeader;
@@ -42,9 +43,9 @@ fn execute_over<H: NodeHasher, R: Station>(
     ensures results { let processors = processors_at R.next R.tells (offers_at desks.old) in
         let batches = txs_of (map batch_shape plan.batches) in
         IfOk result (λ results.
-        MayComeOfAll processors (map_at state.now before) batches (results_of results)) }
+        MayComeOfAll processors (map_at state.now before) batches results.batches) }
     ensures whole { IfOk result (λ results. AreResultsFor (txs_of (map batch_shape plan.batches))
-        (results_of results)) }
+        results.batches) }
     ensures room { IsErrOf result JournalFault.Full → ⊥ }
     ensures desks { KeepsDesks R.faults R.offered desks.old desks.new }
     ensures cause { IsErrOf result JournalFault.PeerFailed → Failed R.faults desks.old desks.new }
@@ -58,17 +59,13 @@ fn execute_over<H: NodeHasher, R: Station>(
     }
 }
 
-fn root_fault(
-    alloc: Global,
-    header: &BlockHeader,
-    root: NodeHash,
-) -> Result<Option<BlockFault>, AllocError>
-    ensures { IfOk result (λ found. found ≡ root_fault header.now root) }
+fn test_root(alloc: Global, header: &BlockHeader, root: NodeHash) -> Result<(), Stop>
+    ensures { TestsAs (root_fault header.now root) result }
 {
     if header.state_root_hash.as_str().as_bytes() == root.to_hex().as_slice() {
-        return Ok(None);
+        return Ok(());
     }
-    Ok(Some(BlockFault::Root {
+    Err(Stop::Refused(BlockFault::Root {
         stated: header.state_root_hash.try_clone(alloc)?,
         computed: root,
     }))
@@ -86,7 +83,7 @@ fn record_of(
       previous = checked.header.previous_block_id;
       signer = checked.header.signer_public_key;
       root = root;
-      batches = batch_records (map batch_shape checked.batches) (results_of results.now);
+      batches = batch_records (map batch_shape checked.batches) results.now.batches;
     }) }
 {
     let batches = batch_records(alloc, checked.batches.as_slice(), results)?;
@@ -105,7 +102,7 @@ fn record_of(
     })
 }
 
-/// Runs the planned batches of a block over the map under the root `before`, and makes the tests that need their results.
+/// Runs the planned batches of a block over the map under the root `before`. It stops at the tests that need their results.
 pub(crate) fn run<H: NodeHasher, R: Station>(
     alloc: Global,
     state: &State<H>,
@@ -113,7 +110,7 @@ pub(crate) fn run<H: NodeHasher, R: Station>(
     checked: CheckedBlock,
     plan: Plan,
     desks: &mut [Desk<R>],
-) -> Result<Judged, JournalFault>
+) -> Result<New, Stop>
     requires known { IsSome (state_at state.now before) }
     requires plan { map batch_shape plan.batches ≡ map batch_shape checked.batches }
     requires counted { transactions_in (map batch_shape plan.batches) < 2 ^ 32 }
@@ -121,27 +118,20 @@ pub(crate) fn run<H: NodeHasher, R: Station>(
     requires some { 0 < length desks.old }
     requires alike { HaveSameOffers desks.old }
     ensures ran { let processors = processors_at R.next R.tells (offers_at desks.old) in
-        let batches = txs_of (map batch_shape checked.batches) in
-        IfOk result (λ judged. (results : List BatchResult)
-        × MayComeOfAll processors (map_at state.now before) batches results
-        × RanAs H.hash_of state.now before (parts_in checked) results judged) }
-    ensures room { IsErrOf result JournalFault.Full → ⊥ }
+        RunsAs processors H.hash_of state.now before (parts_in checked) result }
+    ensures room { IsErrOf result (Stop.Failed JournalFault.Full) → ⊥ }
     ensures desks { KeepsDesks R.faults R.offered desks.old desks.new }
-    ensures cause { IsErrOf result JournalFault.PeerFailed → Failed R.faults desks.old desks.new }
+    ensures cause { IsErrOf result (Stop.Failed JournalFault.PeerFailed) → Failed R.faults desks.old desks.new }
 {
     let results = execute_over(alloc, state, before, plan, desks)?;
-    if let Some(fault) = failure_fault(&results) {
-        return Ok(Judged::Bad(fault));
-    }
+    test_results(&results)?;
     let changes = results.changes(alloc)?;
     let root = state.root_after(&before, changes.as_slice(), 1)?;
-    if let Some(fault) = root_fault(alloc, &checked.header, root)? {
-        return Ok(Judged::Bad(fault));
-    }
+    test_root(alloc, &checked.header, root)?;
     let block = record_of(alloc, checked, root, &results)?;
-    Ok(Judged::Good(New {
+    Ok(New {
         block,
         before,
         changes,
-    }))
+    })
 }

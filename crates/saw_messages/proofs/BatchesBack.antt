@@ -5,11 +5,13 @@ use Rattle.std.specs.List.{filter_map}
 use Rattle.saw_wire.specs.Pieces.{Piece}
 use Rattle.saw_wire.specs.Writing.{spelled}
 use Rattle.saw_wire.specs.Fields.{all_bytes, number_in}
-use Rattle.saw_wire.proofs.FieldsBack.{field_values, bytes_values, number_values, bytes_back, flag_back, items_back, IsFine, ◌and◌, text_fine, texts_fine, items_fine, ComesBack, comes_back, is_read}
+use Rattle.saw_wire.proofs.FieldsBack.{field_values, bytes_values, number_values, bytes_back, flag_back, items_back, IsFine, ◌and◌, text_fine}
+use Rattle.saw_wire.proofs.FieldsBack.{texts_fine, items_fine, ComesBack, comes_back, is_read}
 use Rattle.saw_messages.specs.declared.batch.Batch.{Batch}
 use Rattle.saw_messages.specs.declared.batch.BatchHeader.{BatchHeader}
 use Rattle.saw_messages.specs.declared.batch.BatchList.{BatchList}
-use Rattle.saw_messages.specs.Batches.{batch_of, batch_fault, batch_pieces, batch_header_of, batch_header_fault, batch_header_pieces, batch_list_of, batch_list_fault, batch_list_pieces}
+use Rattle.saw_messages.specs.Batches.{batch_of, batch_fault, batch_pieces, batch_header_of, batch_header_fault, batch_header_pieces, batch_list_of}
+use Rattle.saw_messages.specs.Batches.{batch_list_fault, batch_list_pieces}
 use Rattle.saw_messages.specs.Transactions.{transaction_pieces}
 use Rattle.saw_messages.specs.ReadBack.{IsBatch, IsBatchHeader, IsBatchList, BatchIsReadBack, BatchHeaderIsReadBack, BatchListIsReadBack}
 use Rattle.saw_messages.proofs.TransactionsBack.{transaction_back}
@@ -65,7 +67,8 @@ header_fine m pieces is shown =
 
 pub batch_header_back : (m : BatchHeader) → IsBatchHeader m → ComesBack batch_header_of batch_header_fault batch_header_pieces m
 batch_header_back m is =
-    comes_back batch_header_of batch_header_fault batch_header_pieces m is.fits (header_fine m (batch_header_pieces m) is (header_shows m)) (header_says m (batch_header_pieces m) (header_shows m))
+    comes_back batch_header_of batch_header_fault batch_header_pieces m is.fits (header_fine m (batch_header_pieces m) is (header_shows m))
+    (header_says m (batch_header_pieces m) (header_shows m))
 
 pub batch_header_is_read : BatchHeaderIsReadBack
 batch_header_is_read m is = is_read (batch_header_back m is)
@@ -75,12 +78,14 @@ batch_header_is_read m is = is_read (batch_header_back m is)
 batches_shown : (m : BatchList) → all_bytes 1 (batch_list_pieces m) ≡ map (λ one. spelled (batch_pieces one)) m.batches
 batches_shown m = simp field_values
 
-list_says : (m : BatchList) (pieces : List Piece) → IsBatchList m → all_bytes 1 pieces ≡ map (λ one. spelled (batch_pieces one)) m.batches → batch_list_of pieces ≡ m
+list_says : (m : BatchList) (pieces : List Piece) → IsBatchList m → all_bytes 1 pieces ≡ map (λ one. spelled (batch_pieces one)) m.batches
+    → batch_list_of pieces ≡ m
 list_says m pieces is shown = rw (items_back batch_back 1 pieces m.batches shown is.batches) refl
 
 pub batch_list_back : (m : BatchList) → IsBatchList m → ComesBack batch_list_of batch_list_fault batch_list_pieces m
 batch_list_back m is =
-    comes_back batch_list_of batch_list_fault batch_list_pieces m is.fits (items_fine batch_back 1 (batch_list_pieces m) m.batches (batches_shown m) is.batches) (list_says m (batch_list_pieces m) is (batches_shown m))
+    comes_back batch_list_of batch_list_fault batch_list_pieces m is.fits
+    (items_fine batch_back 1 (batch_list_pieces m) m.batches (batches_shown m) is.batches) (list_says m (batch_list_pieces m) is (batches_shown m))
 
 pub batch_list_is_read : BatchListIsReadBack
 batch_list_is_read m is = is_read (batch_list_back m is)

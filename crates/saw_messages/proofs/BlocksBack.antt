@@ -4,7 +4,8 @@ use Rattle.std.specs.List.{filter_map}
 use Rattle.saw_wire.specs.Pieces.{Piece}
 use Rattle.saw_wire.specs.Writing.{spelled}
 use Rattle.saw_wire.specs.Fields.{all_bytes, number_in}
-use Rattle.saw_wire.proofs.FieldsBack.{field_values, bytes_values, number_values, bytes_back, number_back, items_back, IsFine, ◌and◌, text_fine, texts_fine, items_fine, ComesBack, comes_back, is_read}
+use Rattle.saw_wire.proofs.FieldsBack.{field_values, bytes_values, number_values, bytes_back, number_back, items_back, IsFine, ◌and◌, text_fine}
+use Rattle.saw_wire.proofs.FieldsBack.{texts_fine, items_fine, ComesBack, comes_back, is_read}
 use Rattle.saw_messages.specs.declared.block.Block.{Block}
 use Rattle.saw_messages.specs.declared.block.BlockHeader.{BlockHeader}
 use Rattle.saw_messages.specs.Batches.{batch_pieces}
@@ -25,7 +26,12 @@ shows m = record { header = simp field_values; header_signature = simp field_val
 
 says : (m : Block) (pieces : List Piece) → IsBlock m → Shows m pieces → block_of pieces ≡ m
 says m pieces is shown =
-    rw (bytes_back 1 pieces m.header shown.header, bytes_back 2 pieces m.header_signature shown.header_signature, items_back batch_back 3 pieces m.batches shown.batches is.batches) refl
+    rw (
+      bytes_back 1 pieces m.header shown.header,
+      bytes_back 2 pieces m.header_signature shown.header_signature,
+      items_back batch_back 3 pieces
+          m.batches shown.batches is.batches,
+    ) refl
 
 fine : (m : Block) (pieces : List Piece) → IsBlock m → Shows m pieces → IsFine block_fault pieces
 fine m pieces is shown =
@@ -78,7 +84,8 @@ header_fine m pieces is shown =
 
 pub block_header_back : (m : BlockHeader) → IsBlockHeader m → ComesBack block_header_of block_header_fault block_header_pieces m
 block_header_back m is =
-    comes_back block_header_of block_header_fault block_header_pieces m is.fits (header_fine m (block_header_pieces m) is (header_shows m)) (header_says m (block_header_pieces m) (header_shows m))
+    comes_back block_header_of block_header_fault block_header_pieces m is.fits (header_fine m (block_header_pieces m) is (header_shows m))
+    (header_says m (block_header_pieces m) (header_shows m))
 
 pub block_header_is_read : BlockHeaderIsReadBack
 block_header_is_read m is = is_read (block_header_back m is)

@@ -4,12 +4,14 @@ use Rattle.std.specs.List.{filter_map}
 use Rattle.saw_wire.specs.Pieces.{Piece}
 use Rattle.saw_wire.specs.Writing.{spelled}
 use Rattle.saw_wire.specs.Fields.{all_bytes, number_in}
-use Rattle.saw_wire.proofs.FieldsBack.{field_values, bytes_values, number_values, bytes_back, small_back, items_back, IsFine, ◌and◌, text_fine, items_fine, ComesBack, comes_back, is_read}
+use Rattle.saw_wire.proofs.FieldsBack.{field_values, bytes_values, number_values, bytes_back, small_back, items_back, IsFine, ◌and◌, text_fine}
+use Rattle.saw_wire.proofs.FieldsBack.{items_fine, ComesBack, comes_back, is_read}
 use Rattle.saw_messages.specs.declared.receipt.Attribute.{Attribute}
 use Rattle.saw_messages.specs.declared.receipt.Event.{Event}
 use Rattle.saw_messages.specs.declared.receipt.Receipt.{Receipt}
 use Rattle.saw_messages.specs.declared.receipt.StateChange.{StateChange}
-use Rattle.saw_messages.specs.Receipts.{attribute_of, attribute_fault, attribute_pieces, event_of, event_fault, event_pieces, state_change_of, state_change_fault, state_change_pieces, receipt_of, receipt_fault, receipt_pieces}
+use Rattle.saw_messages.specs.Receipts.{attribute_of, attribute_fault, attribute_pieces, event_of, event_fault, event_pieces, state_change_of}
+use Rattle.saw_messages.specs.Receipts.{state_change_fault, state_change_pieces, receipt_of, receipt_fault, receipt_pieces}
 use Rattle.saw_messages.specs.ReadBack.{IsAttribute, IsEvent, IsStateChange, IsReceipt, EventIsReadBack, StateChangeIsReadBack, ReceiptIsReadBack}
 
 -- ---- attributes
@@ -30,7 +32,8 @@ attribute_fine m pieces is shown = text_fine 1 pieces m.key shown.key is.key and
 
 pub attribute_back : (m : Attribute) → IsAttribute m → ComesBack attribute_of attribute_fault attribute_pieces m
 attribute_back m is =
-    comes_back attribute_of attribute_fault attribute_pieces m is.fits (attribute_fine m (attribute_pieces m) is (attribute_shows m)) (attribute_says m (attribute_pieces m) (attribute_shows m))
+    comes_back attribute_of attribute_fault attribute_pieces m is.fits (attribute_fine m (attribute_pieces m) is (attribute_shows m))
+    (attribute_says m (attribute_pieces m) (attribute_shows m))
 
 -- ---- events
 
@@ -44,7 +47,12 @@ event_shows m = record { event_type = simp field_values; attributes = simp field
 
 event_says : (m : Event) (pieces : List Piece) → IsEvent m → EventShows m pieces → event_of pieces ≡ m
 event_says m pieces is shown =
-    rw (bytes_back 1 pieces m.event_type shown.event_type, items_back attribute_back 2 pieces m.attributes shown.attributes is.attributes, bytes_back 3 pieces m.body shown.body) refl
+    rw (
+      bytes_back 1 pieces m.event_type shown.event_type,
+      items_back attribute_back 2 pieces m.attributes shown.attributes is.attributes,
+      bytes_back
+          3 pieces m.body shown.body,
+    ) refl
 
 event_fine : (m : Event) (pieces : List Piece) → IsEvent m → EventShows m pieces → IsFine event_fault pieces
 event_fine m pieces is shown =
@@ -52,7 +60,8 @@ event_fine m pieces is shown =
     and items_fine attribute_back 2 pieces m.attributes shown.attributes is.attributes
 
 pub event_back : (m : Event) → IsEvent m → ComesBack event_of event_fault event_pieces m
-event_back m is = comes_back event_of event_fault event_pieces m is.fits (event_fine m (event_pieces m) is (event_shows m)) (event_says m (event_pieces m) is (event_shows m))
+event_back m is = comes_back event_of event_fault event_pieces m is.fits (event_fine m (event_pieces m) is (event_shows m))
+    (event_says m (event_pieces m) is (event_shows m))
 
 pub event_is_read : EventIsReadBack
 event_is_read m is = is_read (event_back m is)
@@ -76,7 +85,8 @@ change_fine m pieces is shown = text_fine 1 pieces m.address shown.address is.ad
 
 pub state_change_back : (m : StateChange) → IsStateChange m → ComesBack state_change_of state_change_fault state_change_pieces m
 state_change_back m is =
-    comes_back state_change_of state_change_fault state_change_pieces m is.fits (change_fine m (state_change_pieces m) is (change_shows m)) (change_says m (state_change_pieces m) is (change_shows m))
+    comes_back state_change_of state_change_fault state_change_pieces m is.fits (change_fine m (state_change_pieces m) is (change_shows m))
+    (change_says m (state_change_pieces m) is (change_shows m))
 
 pub state_change_is_read : StateChangeIsReadBack
 state_change_is_read m is = is_read (state_change_back m is)
@@ -109,7 +119,8 @@ receipt_fine m pieces is shown =
 
 pub receipt_back : (m : Receipt) → IsReceipt m → ComesBack receipt_of receipt_fault receipt_pieces m
 receipt_back m is =
-    comes_back receipt_of receipt_fault receipt_pieces m is.fits (receipt_fine m (receipt_pieces m) is (receipt_shows m)) (receipt_says m (receipt_pieces m) is (receipt_shows m))
+    comes_back receipt_of receipt_fault receipt_pieces m is.fits (receipt_fine m (receipt_pieces m) is (receipt_shows m))
+    (receipt_says m (receipt_pieces m) is (receipt_shows m))
 
 pub receipt_is_read : ReceiptIsReadBack
 receipt_is_read m is = is_read (receipt_back m is)

@@ -5,7 +5,8 @@ use Rattle.saw_wire.specs.Fields.{all_bytes}
 use Rattle.saw_wire.proofs.FieldsBack.{field_values, bytes_values, bytes_back, IsFine, ◌and◌, text_fine, texts_fine, ComesBack, comes_back, is_read}
 use Rattle.saw_messages.specs.declared.transaction.Transaction.{Transaction}
 use Rattle.saw_messages.specs.declared.transaction.TransactionHeader.{TransactionHeader}
-use Rattle.saw_messages.specs.Transactions.{transaction_of, transaction_fault, transaction_pieces, transaction_header_of, transaction_header_fault, transaction_header_pieces}
+use Rattle.saw_messages.specs.Transactions.{transaction_of, transaction_fault, transaction_pieces, transaction_header_of, transaction_header_fault}
+use Rattle.saw_messages.specs.Transactions.{transaction_header_pieces}
 use Rattle.saw_messages.specs.ReadBack.{IsTransaction, IsTransactionHeader, TransactionIsReadBack, TransactionHeaderIsReadBack}
 
 -- ---- transactions
@@ -20,13 +21,19 @@ shows : (m : Transaction) → Shows m (transaction_pieces m)
 shows m = record { header = simp field_values; header_signature = simp field_values; payload = simp field_values }
 
 says : (m : Transaction) (pieces : List Piece) → Shows m pieces → transaction_of pieces ≡ m
-says m pieces shown = rw (bytes_back 1 pieces m.header shown.header, bytes_back 2 pieces m.header_signature shown.header_signature, bytes_back 3 pieces m.payload shown.payload) refl
+says m pieces shown = rw (
+  bytes_back 1 pieces m.header shown.header,
+  bytes_back 2 pieces m.header_signature shown.header_signature,
+  bytes_back 3
+      pieces m.payload shown.payload,
+) refl
 
 fine : (m : Transaction) (pieces : List Piece) → IsTransaction m → Shows m pieces → IsFine transaction_fault pieces
 fine m pieces is shown = text_fine 2 pieces m.header_signature shown.header_signature is.header_signature
 
 pub transaction_back : (m : Transaction) → IsTransaction m → ComesBack transaction_of transaction_fault transaction_pieces m
-transaction_back m is = comes_back transaction_of transaction_fault transaction_pieces m is.fits (fine m (transaction_pieces m) is (shows m)) (says m (transaction_pieces m) (shows m))
+transaction_back m is = comes_back transaction_of transaction_fault transaction_pieces m is.fits (fine m (transaction_pieces m) is (shows m))
+    (says m (transaction_pieces m) (shows m))
 
 pub transaction_is_read : TransactionIsReadBack
 transaction_is_read m is = is_read (transaction_back m is)
@@ -83,9 +90,11 @@ header_fine m pieces is shown =
     and text_fine 9 pieces m.payload_sha512 shown.payload_sha512 is.payload_sha512
     and text_fine 10 pieces m.signer_public_key shown.signer_public_key is.signer_public_key
 
-pub transaction_header_back : (m : TransactionHeader) → IsTransactionHeader m → ComesBack transaction_header_of transaction_header_fault transaction_header_pieces m
+pub transaction_header_back : (m : TransactionHeader) → IsTransactionHeader m
+    → ComesBack transaction_header_of transaction_header_fault transaction_header_pieces m
 transaction_header_back m is =
-    comes_back transaction_header_of transaction_header_fault transaction_header_pieces m is.fits (header_fine m (transaction_header_pieces m) is (header_shows m)) (header_says m (transaction_header_pieces m) (header_shows m))
+    comes_back transaction_header_of transaction_header_fault transaction_header_pieces m is.fits
+    (header_fine m (transaction_header_pieces m) is (header_shows m)) (header_says m (transaction_header_pieces m) (header_shows m))
 
 pub transaction_header_is_read : TransactionHeaderIsReadBack
 transaction_header_is_read m is = is_read (transaction_header_back m is)

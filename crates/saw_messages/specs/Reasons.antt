@@ -1,5 +1,5 @@
 -- The reasons by which processors refuse transactions.
-use Rattle.std.specs.Prelude.{Bool, true, false, nat_lt}
+use Rattle.std.specs.Prelude.{ℕ, Bool, true, false, nat_lt}
 use Rattle.saw_messages.specs.declared.outcome.Reason.{Reason}
 use Rattle.saw_messages.specs.declared.outcome.Reason.TheVariants.{BadDeclared, NoProcessor, DependencyFailed, TooManyRequests, Remote, Family}
 use Rattle.saw_messages.specs.declared.talk.Action.{Action}
@@ -13,6 +13,10 @@ is_own_reason DependencyFailed = false
 is_own_reason TooManyRequests = false
 is_own_reason Remote = true
 is_own_reason (Family number) = nat_lt 100 number
+
+-- a refusal by a family's number
+abbrev pub invalid : ℕ → Action
+invalid number = actions.Invalid (Family number)
 
 -- an action that refuses by such a reason, or refuses nothing
 abbrev pub has_own_reason : Action → Bool

@@ -1,9 +1,15 @@
 //! The conversation of a transaction's processor: what it asks and what it is told.
 
+ghost use Rattle.std.specs.Prelude.{◌≡◌, ◌∷◌, [], IfOk};
+ghost use Rattle.saw_messages.specs.Reasons.{invalid};
+ghost use Rattle.saw_messages.specs.declared.talk.Action.TheVariants as actions;
+ghost use Rattle.saw_messages.specs.declared.talk.Place.TheVariants.{At};
+
 use crate::outcome::Reason;
 use crate::receipt::Event;
 use saw_address::Address;
 use saw_wire::{Bytes, Items};
+use std::alloc::{AllocError, Global};
 
 /// Where a request reads or writes.
 #[derive(Clone, Copy)]
@@ -29,6 +35,47 @@ pub enum Action {
     AddEvent(Event),
     Ok,
     Invalid { reason: Reason },
+}
+
+impl Action {
+    /// The refusal with a family's number.
+    pub fn invalid(number: u16) -> Self
+        ensures { result ≡ invalid number }
+    {
+        Action::Invalid {
+            reason: Reason::Family(number),
+        }
+    }
+
+    /// The request of what is kept at one address.
+    pub fn get(alloc: Global, address: Address) -> Result<Self, AllocError>
+        ensures { IfOk result (λ action. action ≡ actions.Get (At address ∷ [])) }
+    {
+        let mut places = Items::new(alloc);
+        places.push(Place::At(address))?;
+        Ok(Action::Get(places))
+    }
+
+    /// The request to keep bytes at one address.
+    pub fn set(alloc: Global, address: Address, body: Bytes) -> Result<Self, AllocError>
+        ensures { IfOk result (λ action. action ≡ actions.Set (record { place = At address; body = body } ∷ [])) }
+    {
+        let mut entries = Items::new(alloc);
+        entries.push(Entry {
+            place: Place::At(address),
+            body,
+        })?;
+        Ok(Action::Set(entries))
+    }
+
+    /// The request to delete what is kept at one address.
+    pub fn delete(alloc: Global, address: Address) -> Result<Self, AllocError>
+        ensures { IfOk result (λ action. action ≡ actions.Delete (At address ∷ [])) }
+    {
+        let mut places = Items::new(alloc);
+        places.push(Place::At(address))?;
+        Ok(Action::Delete(places))
+    }
 }
 
 /// What a processor is told.

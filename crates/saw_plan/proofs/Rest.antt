@@ -1,17 +1,18 @@
 -- The batches that are sorted, and the rest of the list.
-use Rattle.std.proofs.Common.{◌≡◌, ℕ, zero, suc, ◌+◌, ◌<◌, ◌≤◌, List, [], ◌∷◌, ◌++◌, length, map, drop, get_or, Some, None, Option, refl, sym, ap, subst, ◌∙◌, arith}
+use Rattle.std.proofs.Common.{◌≡◌, ℕ, zero, suc, ◌+◌, ◌<◌, ◌≤◌, List, [], ◌∷◌, ◌++◌, length, map, drop, get_or, Some, None, Option, refl, sym, ap}
+use Rattle.std.proofs.Common.{subst, ◌∙◌, arith}
 use Rattle.std.proofs.lemmas.List.{append_assoc, append-nil, drop_more, drop_all, length-map}
 use Rattle.std.proofs.lemmas.List.Sums.{sum_by-cons}
 use Rattle.std.specs.Arc.{arc_value}
 use Rattle.std.specs.Global.{Global}
 use Rattle.std.specs.declared.sync.Arc.{Arc}
-use Rattle.saw_messages.specs.Shapes.{shape_of}
+use Rattle.saw_messages.specs.TxShapes.{shape_of}
 use Rattle.saw_messages.specs.declared.tx.Tx.{Tx}
 use Rattle.saw_messages.specs.declared.tx.TxBatch.{TxBatch}
-use Rattle.saw_plan.specs.Shapes.{BatchShape, batch_shape, ids_of, transactions_in}
+use Rattle.saw_plan.specs.BatchShapes.{BatchShape, batch_shape, ids_of, transactions_in}
 use Rattle.saw_plan.specs.Sorting.{kept_by, places_by, dropped_by, IsSorted}
 use Rattle.saw_plan.specs.StaticRules.{Ids, batch_cause, after_batch, causes}
-use Rattle.saw_plan.specs.Steps.{Sorting, sorting_of, both, with_batch}
+use Rattle.saw_plan.specs.SortingSteps.{Sorting, sorting_of, both, with_batch}
 use Rattle.saw_plan.specs.declared.sorted.DropCause.{DropCause}
 use Rattle.saw_plan.specs.declared.sorted.Sorted.{Sorted}
 
@@ -21,21 +22,25 @@ pub record GoesOn (there now : Ids) (place : ℕ) (rest all : List BatchShape) (
   pub places : sorting.places ++ places_by place (causes now rest) ≡ places_by 0 (causes there all)
   pub dropped : sorting.dropped ++ dropped_by place (causes now rest) ≡ dropped_by 0 (causes there all)
 
-both_after : (cause : Option DropCause) (there more : Ids) (batch : BatchShape) → both there (after_batch cause more batch) ≡ after_batch cause (both there more) batch
+both_after : (cause : Option DropCause) (there more : Ids) (batch : BatchShape)
+    → both there (after_batch cause more batch) ≡ after_batch cause (both there more) batch
 both_after None there more batch =
     rw (append_assoc there.batches more.batches (batch.id ∷ []), append_assoc there.transactions more.transactions (ids_of batch.txs)) refl
 both_after (Some cause) there more batch = refl
 
 module _ (place : ℕ) (batch : BatchShape) (others : List (Option DropCause)) (sorting : Sorting) where
-  plan_more : (cause : Option DropCause) (rest : List BatchShape) → (with_batch cause place batch sorting).plan ++ kept_by others rest ≡ sorting.plan ++ kept_by (cause ∷ others) (batch ∷ rest)
+  plan_more : (cause : Option DropCause) (rest : List BatchShape)
+      → (with_batch cause place batch sorting).plan ++ kept_by others rest ≡ sorting.plan ++ kept_by (cause ∷ others) (batch ∷ rest)
   plan_more None rest = append_assoc sorting.plan (batch ∷ []) (kept_by others rest)
   plan_more (Some cause) rest = refl
 
-  places_more : (cause : Option DropCause) → (with_batch cause place batch sorting).places ++ places_by (place + 1) others ≡ sorting.places ++ places_by place (cause ∷ others)
+  places_more : (cause : Option DropCause) → (with_batch cause place batch sorting).places ++ places_by (place + 1) others ≡ sorting.places
+      ++ places_by place (cause ∷ others)
   places_more None = append_assoc sorting.places (place ∷ []) (places_by (place + 1) others)
   places_more (Some cause) = refl
 
-  dropped_more : (cause : Option DropCause) → (with_batch cause place batch sorting).dropped ++ dropped_by (place + 1) others ≡ sorting.dropped ++ dropped_by place (cause ∷ others)
+  dropped_more : (cause : Option DropCause) → (with_batch cause place batch sorting).dropped ++ dropped_by (place + 1) others ≡ sorting.dropped
+      ++ dropped_by place (cause ∷ others)
   dropped_more None = refl
   dropped_more (Some cause) = append_assoc sorting.dropped (record { place = place; cause = cause } ∷ []) (dropped_by (place + 1) others)
 
@@ -53,10 +58,12 @@ step there now place batch rest all sorting so_far =
 pub goes_on : (there more : Ids) (batches : List TxBatch) (place : ℕ) (batch : TxBatch) → place < length batches → batch ≡ get_or batches place batch
     → (sorting new : Sorting) → new ≡ with_batch (batch_cause (both there more) (batch_shape batch)) place (batch_shape batch) sorting
     → GoesOn there (both there more) place (map batch_shape (drop place batches)) (map batch_shape batches) sorting
-    → GoesOn there (both there (after_batch (batch_cause (both there more) (batch_shape batch)) more (batch_shape batch))) (place + 1) (map batch_shape (drop (place + 1) batches)) (map batch_shape batches) new
+    → GoesOn there (both there (after_batch (batch_cause (both there more) (batch_shape batch)) more (batch_shape batch))) (place + 1)
+    (map batch_shape (drop (place + 1) batches)) (map batch_shape batches) new
 goes_on there more batches place batch below here sorting new is so_far =
     let shape = batch_shape batch in
-    let cut : map batch_shape (drop place batches) ≡ shape ∷ map batch_shape (drop (place + 1) batches) = rw (drop_more batches place batch below, ← here) refl in
+    let cut : map batch_shape (drop place batches) ≡ shape ∷ map batch_shape (drop (place + 1) batches) =
+    rw (drop_more batches place batch below, ← here) refl in
     rw (is, both_after (batch_cause (both there more) shape) there more shape)
     (step there (both there more) place shape (map batch_shape (drop (place + 1) batches)) (map batch_shape batches) sorting
     (subst (λ (rest : List BatchShape). GoesOn there (both there more) place rest (map batch_shape batches) sorting) cut so_far))
@@ -69,7 +76,8 @@ begins there all sorting is =
 
 -- nothing is left
 pub ends : (there now : Ids) (place : ℕ) (batches : List TxBatch) (sorted : Sorted) → length batches ≤ place
-    → GoesOn there now place (map batch_shape (drop place batches)) (map batch_shape batches) (sorting_of sorted) → IsSorted there (map batch_shape batches) sorted
+    → GoesOn there now place (map batch_shape (drop place batches)) (map batch_shape batches) (sorting_of sorted)
+    → IsSorted there (map batch_shape batches) sorted
 ends there now place batches sorted over so_far =
     let none = ap (map batch_shape) (drop_all place batches over) in
     let all = subst (λ (rest : List BatchShape). GoesOn there now place rest (map batch_shape batches) (sorting_of sorted)) none so_far in
@@ -80,10 +88,22 @@ ends there now place batches sorted over so_far =
     }
 
 -- a batch has no more transactions than all have
-few_at : (batches : List TxBatch) (place : ℕ) (d : TxBatch) → place < length batches → length (get_or batches place d).txs ≤ transactions_in (map batch_shape batches)
+few_at : (batches : List TxBatch) (place : ℕ) (d : TxBatch) → place < length batches
+    → length (get_or batches place d).txs ≤ transactions_in (map batch_shape batches)
 few_at [] place d below = absurd (omega arith)
-few_at (first ∷ batches) zero d below = omega (arith, sum_by-cons (λ (b : BatchShape). length b.txs) (batch_shape first) (map batch_shape batches), length-map first.txs (λ (tx : Arc Tx Global). shape_of (arc_value tx)))
-few_at (first ∷ batches) (suc place) d below = omega (arith, sum_by-cons (λ (b : BatchShape). length b.txs) (batch_shape first) (map batch_shape batches), few_at batches place d (omega arith))
+few_at (first ∷ batches) zero d below = omega (
+  arith,
+  sum_by-cons (λ (b : BatchShape). length b.txs) (batch_shape first)
+      (map batch_shape batches),
+  length-map first.txs (λ (tx : Arc Tx Global). shape_of (arc_value tx)),
+)
+few_at (first ∷ batches) (suc place) d below = omega (
+  arith,
+  sum_by-cons (λ (b : BatchShape). length b.txs) (batch_shape first)
+      (map batch_shape batches),
+  few_at batches place d (omega arith),
+)
 
-pub few : (batches : List TxBatch) (place : ℕ) (batch : TxBatch) → place < length batches → batch ≡ get_or batches place batch → length batch.txs ≤ transactions_in (map batch_shape batches)
+pub few : (batches : List TxBatch) (place : ℕ) (batch : TxBatch) → place < length batches → batch ≡ get_or batches place batch
+    → length batch.txs ≤ transactions_in (map batch_shape batches)
 few batches place batch below here = rw here (few_at batches place batch below)

@@ -1,5 +1,5 @@
-pub mod Shapes
+pub mod BatchShapes
 pub mod StaticRules
 pub mod Sorting
-pub mod Steps
+pub mod SortingSteps
 pub mod Laws

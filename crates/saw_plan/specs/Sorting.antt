@@ -1,6 +1,6 @@
 -- The kept and the dropped batches of a list.
 use Rattle.std.specs.Prelude.{◌≡◌, ℕ, ◌+◌, List, [], ◌∷◌, map, Option, Some, None}
-use Rattle.saw_plan.specs.Shapes.{BatchShape, batch_shape}
+use Rattle.saw_plan.specs.BatchShapes.{BatchShape, batch_shape}
 use Rattle.saw_plan.specs.StaticRules.{Ids, causes}
 use Rattle.saw_plan.specs.declared.sorted.DropCause.{DropCause}
 use Rattle.saw_plan.specs.declared.sorted.Dropped.{Dropped}

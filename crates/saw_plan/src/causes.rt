@@ -2,10 +2,10 @@
 
 ghost use Rattle.std.specs.Prelude.{◌≡◌, ◌<◌, ◌^◌, ◌++◌, [], ℕ, List, length, IfOk};
 ghost use Rattle.saw_ids.specs.Seen.{HoldsIds, is_among};
-ghost use Rattle.saw_messages.specs.Shapes.{shape_of};
-ghost use Rattle.saw_plan.specs.Shapes.{batch_shape, shapes_of};
+ghost use Rattle.saw_messages.specs.TxShapes.{shape_of};
+ghost use Rattle.saw_plan.specs.BatchShapes.{batch_shape, shapes_of};
 ghost use Rattle.saw_plan.specs.StaticRules.{Ids, Knows, first_missing, tx_cause, txs_cause, batch_cause};
-ghost use Rattle.saw_plan.specs.Steps.{both};
+ghost use Rattle.saw_plan.specs.SortingSteps.{both};
 
 use crate::known::Known;
 use crate::sorted::DropCause;

@@ -2,9 +2,9 @@
 
 ghost use Rattle.std.specs.Prelude.{◌≡◌, ◌<◌, ◌^◌, ◌++◌, ℕ, List, None, length, map, IfOk, OnOk};
 ghost use Rattle.saw_ids.specs.Seen.{HoldsIds};
-ghost use Rattle.saw_plan.specs.Shapes.{batch_shape, shapes_of, ids_of, transactions_in};
+ghost use Rattle.saw_plan.specs.BatchShapes.{batch_shape, shapes_of, ids_of, transactions_in};
 ghost use Rattle.saw_plan.specs.Sorting.{IsSorted};
-ghost use Rattle.saw_plan.specs.Steps.{both, sorting_of, with_batch};
+ghost use Rattle.saw_plan.specs.SortingSteps.{both, sorting_of, with_batch};
 ghost use Rattle.saw_plan.specs.StaticRules.{Ids, Knows, batch_cause, after_batch};
 
 use crate::causes::batch_cause;

@@ -1,7 +1,7 @@
 //! The batches that are to be run.
 
 ghost use Rattle.std.specs.Prelude.{◌≡◌, IfOk};
-ghost use Rattle.saw_plan.specs.Shapes.{batch_shape, shapes_of};
+ghost use Rattle.saw_plan.specs.BatchShapes.{batch_shape, shapes_of};
 
 use saw_messages::{Tx, TxBatch};
 use saw_wire::Items;

@@ -1,8 +1,8 @@
 //! What becomes of a list of batches by the static rules.
 
 ghost use Rattle.std.specs.Prelude.{◌≡◌, [], OnOk};
-ghost use Rattle.saw_plan.specs.Shapes.{batch_shape};
-ghost use Rattle.saw_plan.specs.Steps.{sorting_of, with_kept, with_dropped};
+ghost use Rattle.saw_plan.specs.BatchShapes.{batch_shape};
+ghost use Rattle.saw_plan.specs.SortingSteps.{sorting_of, with_kept, with_dropped};
 
 use crate::plan::Plan;
 use saw_messages::TxBatch;

@@ -24,7 +24,8 @@ use Rattle.saw_receipts.proofs.Shown.{Kept}
 abbrev NoneElsewhere : (List ℕ → Option (List ℕ)) → Type 0
 NoneElsewhere at = (q : List ℕ) → is_address q ≡ false → at q ≡ None
 
-found_first : (es : Entries) (key value : List ℕ) (address : Bool) → is_address key ≡ address → NoneElsewhere (λ q. find (slice_cmp nat_cmp) q ((key, value) ∷ es)) → address ≡ true
+found_first : (es : Entries) (key value : List ℕ) (address : Bool) → is_address key ≡ address
+    → NoneElsewhere (λ q. find (slice_cmp nat_cmp) q ((key, value) ∷ es)) → address ≡ true
 found_first es key value true is none = refl
 found_first es key value false is none =
     let tied : eq_by_cmp (slice_cmp nat_cmp) key key ≡ true = (eq_by_cmp_equiv nat_list_cmp_total).refl key in
@@ -67,7 +68,8 @@ in_map m all = λ q other. finite.get-entries m q ∙ none_elsewhere (finite.ent
 of_map : (m : StateMap) → NoneElsewhere (value_at m) → AreAddresses (finite.entries m)
 of_map m none = are_addresses (finite.entries m) (λ q other. sym (finite.get-entries m q) ∙ none q other)
 
-changed_elsewhere : (m : StateMap) (address : List ℕ) (value : Option (List ℕ)) → is_address address ≡ true → NoneElsewhere (value_at m) → NoneElsewhere (value_at (changed_at m address value))
+changed_elsewhere : (m : StateMap) (address : List ℕ) (value : Option (List ℕ)) → is_address address ≡ true → NoneElsewhere (value_at m)
+    → NoneElsewhere (value_at (changed_at m address value))
 changed_elsewhere m address value is none = λ q other.
     value_at-changed_at m address value q ∙ ap (λ b. cond b value (value_at m q)) (other_key address q is other (bytes_eq address q) refl) ∙ none q other
 
@@ -77,7 +79,8 @@ after_elsewhere (change ∷ changes) m all none =
     let parts = and_both (is_address change.address) (list_all (λ (change : Change). is_address change.address) changes) all in
     after_elsewhere changes (changed_at m change.address change.value) parts.1 (changed_elsewhere m change.address change.value parts.0 none)
 
-pub addresses_after : (m : StateMap) (changes : List Change) → AreAtAddresses changes → AreAddresses (finite.entries m) → AreAddresses (finite.entries (map_after m changes))
+pub addresses_after : (m : StateMap) (changes : List Change) → AreAtAddresses changes → AreAddresses (finite.entries m)
+    → AreAddresses (finite.entries (map_after m changes))
 addresses_after m changes all are = of_map (map_after m changes) (after_elsewhere changes m all (in_map m are))
 
 -- ---- states
@@ -95,7 +98,8 @@ module _ (hash : List ℕ → List ℕ) where
   pub more_rooted : (states : States) (m : StateMap) → AreRooted hash states → AreAddresses (finite.entries m) → AreRooted hash (knows hash states m)
   more_rooted states m rooted all = λ root.
       let found : state_at (knows hash states m) root ≡ cond (bytes_eq root (root_of_map hash m)) (Some m) (state_at states root) =
-      finite.get-insert nat_list_cmp_total states (root_of_map hash m) m root ∙ ap (λ b. cond b (Some m) (state_at states root)) (sym (texts_ties root (root_of_map hash m))) in
+      finite.get-insert nat_list_cmp_total states (root_of_map hash m) m root
+      ∙ ap (λ b. cond b (Some m) (state_at states root)) (sym (texts_ties root (root_of_map hash m))) in
       subst (λ (found : Option StateMap). IfSome found (IsRooted hash root)) (sym found)
       (known_rooted root m (state_at states root) all (rooted root) (bytes_eq root (root_of_map hash m)) refl)
 
@@ -103,18 +107,22 @@ module _ (hash : List ℕ → List ℕ) where
   pub opening_rooted : AreRooted hash (knows hash finite.empty no_entries)
   opening_rooted = more_rooted finite.empty no_entries none_rooted (of_map no_entries (λ q other. finite.get-empty (slice_cmp nat_cmp) q))
 
-  updated : (old new : States) (root answer : List ℕ) (changes : List Change) → AreRooted hash old → AreAtAddresses changes → (found : Option StateMap) → IsSome found → IfSome found (IsRooted hash root)
+  updated : (old new : States) (root answer : List ℕ) (changes : List Change) → AreRooted hash old → AreAtAddresses changes
+      → (found : Option StateMap) → IsSome found → IfSome found (IsRooted hash root)
       → IfSome found (λ m. (answer ≡ root_of_map hash (map_after m changes)) × (new ≡ knows hash old (map_after m changes))) → AreRooted hash new
   updated old new root answer changes rooted all None known is updates = absurd (grind (arith, known))
   updated old new root answer changes rooted all (Some m) known is updates =
       subst (AreRooted hash) (sym updates.1) (more_rooted old (map_after m changes) rooted (addresses_after m changes all is.addresses))
 
   -- the map after changes
-  pub update_rooted : (old new : States) (root answer : List ℕ) (changes : List Change) → AreRooted hash old → AreAtAddresses changes → IsSome (state_at old root) → Updates hash old root changes answer new → AreRooted hash new
-  update_rooted old new root answer changes rooted all known updates = updated old new root answer changes rooted all (state_at old root) known (rooted root) updates
+  pub update_rooted : (old new : States) (root answer : List ℕ) (changes : List Change) → AreRooted hash old → AreAtAddresses changes
+      → IsSome (state_at old root) → Updates hash old root changes answer new → AreRooted hash new
+  update_rooted old new root answer changes rooted all known updates =
+      updated old new root answer changes rooted all (state_at old root) known (rooted root) updates
 
   -- what is kept shows the empty map alone
-  pub opening_shown : (root : List ℕ) (empty : BTreeMap (List ℕ) (List ℕ)) (kept new : Kept) → empty.entries ≡ [] → kept ≡ [] → root ≡ root_of_map hash (map_of empty.entries)
+  pub opening_shown : (root : List ℕ) (empty : BTreeMap (List ℕ) (List ℕ)) (kept new : Kept) → empty.entries ≡ [] → kept ≡ []
+      → root ≡ root_of_map hash (map_of empty.entries)
       → new ≡ insert_entry (slice_cmp nat_cmp) kept root empty → AreRooted hash (shown new)
   opening_shown root empty kept new none first is put =
       let map_is : map_of empty.entries ≡ no_entries = ap map_of none in
@@ -124,6 +132,7 @@ module _ (hash : List ℕ → List ℕ) where
       subst (AreRooted hash) (sym whole) opening_rooted
 
   -- what is kept shows rooted maps, and so does one of them
-  pub shown_rooted : (kept : Kept) (states : States) (root : List ℕ) (m : BTreeMap (List ℕ) (List ℕ)) → shown kept ≡ states → AreRooted hash (shown kept) → state_at states root ≡ Some (map_of m.entries) → IsRooted hash root (map_of m.entries)
+  pub shown_rooted : (kept : Kept) (states : States) (root : List ℕ) (m : BTreeMap (List ℕ) (List ℕ)) → shown kept ≡ states
+      → AreRooted hash (shown kept) → state_at states root ≡ Some (map_of m.entries) → IsRooted hash root (map_of m.entries)
   shown_rooted kept states root m is rooted found =
       subst (λ (found : Option StateMap). IfSome found (IsRooted hash root)) (ap (λ s. state_at s root) is ∙ found) (rooted root)

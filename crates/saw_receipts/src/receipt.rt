@@ -1,7 +1,7 @@
 //! Receipts of transactions.
 
 ghost use Rattle.std.specs.Prelude.{◌≡◌, map, IfOk};
-ghost use Rattle.saw_plan.specs.Shapes.{ids_of, shapes_of};
+ghost use Rattle.saw_plan.specs.BatchShapes.{ids_of, shapes_of};
 ghost use Rattle.saw_receipts.specs.Receipts.{told, receipt, receipts};
 
 use saw_messages::{Change, Event, Outcome, Receipt, StateChange, TxBatch};

@@ -1,5 +1,8 @@
 //! What is said of a block.
 
+ghost use Rattle.std.specs.Prelude.{◌≡◌};
+ghost use Rattle.saw_receipts.specs.Verdicts.{is_accepted};
+
 use saw_checks::StructureFault;
 use saw_messages::Reason;
 use saw_node::NodeHash;
@@ -37,4 +40,16 @@ pub enum Verdict {
     /// It is accepted, and the head stays.
     Stored,
     Refused { fault: BlockFault },
+}
+
+impl Verdict {
+    /// Whether the block is accepted.
+    pub fn is_accepted(&self) -> bool
+        ensures { result ≡ is_accepted self.now }
+    {
+        match self {
+            Verdict::Committed | Verdict::Stored => true,
+            Verdict::Refused { fault: _ } => false,
+        }
+    }
 }

@@ -1,5 +1,5 @@
 -- The lines of the answer. Each ends with a line feed, and one space parts its words.
-use Rattle.std.specs.Prelude.{ℕ, List, [], ◌∷◌, ◌++◌, length, sum_by, Bool, true, false, Option, Some, None, codes}
+use Rattle.std.specs.Prelude.{ℕ, List, [], ◌∷◌, ◌++◌, length, sum_by, Option, Some, None, codes}
 use Rattle.std.specs.Fmt.{decimal}
 use Rattle.hex.specs.Hex.{encode_lower}
 use Rattle.saw_checks.specs.declared.fault.BatchFault.{BatchFault}
@@ -82,12 +82,6 @@ fault_text faults.Consensus = codes "12 Consensus"
 fault_text (faults.Static k cause) = codes "13 Static" ++ spaced k ++ codes " " ++ cause_text cause
 fault_text (faults.BatchInvalid k t reason) = codes "14 BatchInvalid" ++ spaced k ++ spaced t ++ spaced (reason_number reason)
 fault_text (faults.Root stated computed) = codes "15 Root " ++ encode_lower computed
-
--- whether a verdict accepts its block
-abbrev pub is_accepted : Verdict → Bool
-is_accepted Committed = true
-is_accepted Stored = true
-is_accepted (Refused fault) = false
 
 -- of an accepted block besides the numbers of its batches and transactions
 abbrev pub accepted_text : Option BlockRecord → List ℕ

@@ -1,7 +1,8 @@
 //! The lines of blocks, of the head and of entries.
 
 ghost use Rattle.std.specs.Prelude.{◌≡◌, ◌++◌, length, sum_by, option_copied, is_some, IfOk, OnOk};
-ghost use Rattle.saw_report.specs.Lines.{record_text, accepted_text, is_accepted, verdict_text, verdict_line, head_line, listed_line};
+ghost use Rattle.saw_receipts.specs.Verdicts.{is_accepted};
+ghost use Rattle.saw_report.specs.Lines.{record_text, accepted_text, verdict_text, verdict_line, head_line, listed_line};
 
 use crate::fault::put_fault;
 use crate::word::{put_number, put_spaced};

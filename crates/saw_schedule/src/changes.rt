@@ -5,10 +5,9 @@ ghost use Rattle.saw_address.specs.Maps.{StateMap};
 ghost use Rattle.saw_context.specs.Changed.{AreRising};
 ghost use Rattle.saw_context.specs.Outcome.{changes_of, map_after};
 ghost use Rattle.saw_context.specs.Serial.{left_after, left_by, map_after_all};
-ghost use Rattle.saw_schedule.specs.Results.{result_of, results_of};
 
-use crate::results::{BatchResult, Results};
-use saw_context::Overlay;
+use crate::results::Results;
+use saw_context::{BatchResult, Overlay};
 use saw_messages::{Change, Outcome};
 use saw_wire::Items;
 use std::alloc::{AllocError, Global};
@@ -40,7 +39,7 @@ fn gather_batch(
     alloc: Global,
     batch: &BatchResult,
 ) -> Result<(), AllocError>
-    ensures { OnOk result ((m : StateMap) → map_after m (changes_of gathered.new) ≡ left_by (map_after m (changes_of gathered.old)) (result_of batch.now)) }
+    ensures { OnOk result ((m : StateMap) → map_after m (changes_of gathered.new) ≡ left_by (map_after m (changes_of gathered.old)) batch.now) }
 {
     match batch {
         BatchResult::Applied { outcomes } => gather_outcomes(gathered, alloc, outcomes.as_slice()),
@@ -51,7 +50,7 @@ fn gather_batch(
 impl Results {
     /// The changes of the applied batches together, in address order.
     pub fn changes(&self, alloc: Global) -> Result<Items<Change>, AllocError>
-        ensures left { IfOk result (λ changes. (m : StateMap) → map_after m changes ≡ left_after m (results_of self.now)) }
+        ensures left { IfOk result (λ changes. (m : StateMap) → map_after m changes ≡ left_after m self.now.batches) }
         ensures rising { IfOk result AreRising }
     {
         let mut gathered = Overlay::new(alloc);

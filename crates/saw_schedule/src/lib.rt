@@ -4,4 +4,5 @@
 mod changes;
 mod results;
 
-pub use results::{BatchResult, Results};
+pub use results::Results;
+pub use saw_context::BatchResult;

@@ -45,14 +45,18 @@ same_read : (m other : SettingCandidates) → ◌≡◌ {A = Result SettingCandi
 same_read m other e = cc
 
 -- no text at all is kept for no candidates alone
-none_kept : (candidates : List SettingCandidate) → IsSettingCandidates (record { candidates = candidates }) → encode_of standard (spelled (candidates_pieces (record { candidates = candidates }))) ≡ [] → candidates ≡ []
+none_kept : (candidates : List SettingCandidate) → IsSettingCandidates (record { candidates = candidates })
+    → encode_of standard (spelled (candidates_pieces (record { candidates = candidates }))) ≡ [] → candidates ≡ []
 none_kept candidates is none =
     let bytes = spelled (candidates_pieces (record { candidates = candidates })) in
-    let same : ◌≡◌ {A = Result (List ℕ) DecodeError} (Ok []) (Ok bytes) = sym (decoded [] tt) ∙ ap (decode_of standard) (encode_of-nil standard ∙ sym none) ∙ decoded bytes (candidates_bytes (record { candidates = candidates }) is) in
-    let read = sym (setting_candidates_are_read (record { candidates = [] }) (record { candidates = tt; fits = tt })) ∙ ap setting_candidates (same_bytes [] bytes same) ∙ setting_candidates_are_read (record { candidates = candidates }) is in
+    let same : ◌≡◌ {A = Result (List ℕ) DecodeError} (Ok []) (Ok bytes) = sym (decoded [] tt)
+    ∙ ap (decode_of standard) (encode_of-nil standard ∙ sym none) ∙ decoded bytes (candidates_bytes (record { candidates = candidates }) is) in
+    let read = sym (setting_candidates_are_read (record { candidates = [] }) (record { candidates = tt; fits = tt }))
+    ∙ ap setting_candidates (same_bytes [] bytes same) ∙ setting_candidates_are_read (record { candidates = candidates }) is in
     sym (ap (λ m. m.candidates) (same_read (record { candidates = [] }) (record { candidates = candidates }) read))
 
-read_by : (b : Bool) (candidates : List SettingCandidate) (read : Option (List SettingCandidate)) → (b ≡ true → candidates ≡ []) → read ≡ Some candidates → cond b (Some []) read ≡ Some candidates
+read_by : (b : Bool) (candidates : List SettingCandidate) (read : Option (List SettingCandidate)) → (b ≡ true → candidates ≡ [])
+    → read ≡ Some candidates → cond b (Some []) read ≡ Some candidates
 read_by true candidates read none is = ap Some (sym (none refl))
 read_by false candidates read none is = is
 
@@ -61,5 +65,8 @@ unfolding candidates_in kept_text
 kept_text_is_read candidates is =
     let bytes = spelled (candidates_pieces (record { candidates = candidates })) in
     let text = encode_of standard bytes in
-    let read : candidates_by (decode_of standard text) ≡ Some candidates = ap candidates_by (decoded bytes (candidates_bytes (record { candidates = candidates }) is)) ∙ ap candidates_read (setting_candidates_are_read (record { candidates = candidates }) is) in
-    read_by (length text == 0) candidates (candidates_by (decode_of standard text)) (λ zero. none_kept candidates is (nil_from_length text (eqb-true (length text) 0 zero))) read
+    let read : candidates_by (decode_of standard text) ≡ Some candidates =
+    ap candidates_by (decoded bytes (candidates_bytes (record { candidates = candidates }) is))
+    ∙ ap candidates_read (setting_candidates_are_read (record { candidates = candidates }) is) in
+    read_by (length text == 0) candidates (candidates_by (decode_of standard text))
+    (λ zero. none_kept candidates is (nil_from_length text (eqb-true (length text) 0 zero))) read

@@ -1,4 +1,3 @@
-pub mod Parts
 pub mod Places
 pub mod Trimming
 pub mod Numerals

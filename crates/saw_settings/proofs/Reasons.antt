@@ -1,10 +1,11 @@
 -- Each refusal is by a number of the family.
-use Rattle.std.proofs.Common.{◌≡◌, ℕ, Bool, true, false, cond, not, ◌&&◌, ◌||◌, List, [], ◌∷◌, ◌++◌, map, length, slice_set, Option, Some, None, Result, Ok, Err, ◌==◌, refl}
+use Rattle.std.proofs.Common.{◌≡◌, ℕ, Bool, true, false, cond, not, ◌&&◌, ◌||◌, List, [], ◌∷◌, ◌++◌, map, length, slice_set, Option, Some, None}
+use Rattle.std.proofs.Common.{Result, Ok, Err, ◌==◌, refl}
 use Rattle.std.specs.Prelude.{nat_le, nat_lt}
 use Rattle.std.specs.List.{list_any, remove}
 use Rattle.std.specs.Str.{bytes_eq}
 use Rattle.saw_wire.specs.declared.fault.MessageFault.{MessageFault}
-use Rattle.saw_messages.specs.Reasons.{has_own_reason}
+use Rattle.saw_messages.specs.Reasons.{has_own_reason, invalid}
 use Rattle.saw_messages.specs.declared.talk.Action.{Action}
 use Rattle.saw_messages.specs.declared.talk.Action.TheVariants as actions
 use Rattle.saw_messages.specs.declared.outcome.Reason.TheVariants.{Family}
@@ -15,10 +16,14 @@ use Rattle.saw_messages.specs.declared.talk.Place.TheVariants.{At}
 use Rattle.saw_messages.specs.declared.talk.Reply.{Reply}
 use Rattle.saw_messages.specs.declared.talk.Reply.TheVariants.{Entries, Done, Unauthorized}
 use Rattle.saw_messages.specs.declared.talk.Turn.{Turn}
-use Rattle.saw_settings.specs.Actions.{accept_number, act, act_by, add_to, cast_vote, count_up, count_votes, decide, found_in, has_id, has_key, has_none, has_voted, id_of, is_reachable, new_candidate, next, next_after, propose, propose_by, propose_number, propose_under, proposal_fault, put_to_vote, reject_number, vote_among, vote_by, vote_for, vote_number, vote_under, with_vote, write}
+use Rattle.saw_settings.specs.Actions.{accept_number, act, act_by, add_to, cast_vote, count_up, count_votes, decide, found_in, has_id, has_key}
+use Rattle.saw_settings.specs.Actions.{has_none, has_voted, id_of, is_reachable, new_candidate, next, next_after, propose, propose_by, propose_number}
+use Rattle.saw_settings.specs.Actions.{propose_under, proposal_fault, put_to_vote, reject_number, vote_among, vote_by, vote_for, vote_number}
+use Rattle.saw_settings.specs.Actions.{vote_under, with_vote, write}
 use Rattle.saw_settings.specs.Keys.{address_of, approval_threshold, authorized_keys, proposals, with_value}
 use Rattle.saw_settings.specs.Messages.{setting, setting_proposal, setting_vote, settings_payload}
-use Rattle.saw_settings.specs.Replies.{Told, Due, Goes, and_then, done, done_by, entries_at, entries_told, invalid, set_to, then_do, told_by, update_of, value_at, value_told, written_to}
+use Rattle.saw_settings.specs.Replies.{Told, Due, Goes, and_then, done, done_by, entries_at, entries_told, set_to, then_do, told_by, update_of}
+use Rattle.saw_settings.specs.Replies.{value_at, value_told, written_to}
 use Rattle.saw_settings.specs.Values.{candidates_of_value, kept_text, keys_in, keys_of, number_in, threshold_of}
 use Rattle.saw_settings.specs.declared.candidate.SettingCandidate.{SettingCandidate}
 use Rattle.saw_settings.specs.declared.payload.SettingProposal.{SettingProposal}
@@ -28,7 +33,9 @@ use Rattle.saw_settings.specs.declared.setting.Setting.{Setting}
 use Rattle.saw_settings.specs.declared.setting.SettingEntry.{SettingEntry}
 
 -- What is so of the requests that the family makes, of the end and of its refusals is so of each of its actions.
-module _ (Q : Action → Type 0) (gets : (place : Place) → Q (actions.Get (place ∷ []))) (sets : (entry : Entry) → Q (actions.Set (entry ∷ []))) (tells : (event : Event) → Q (actions.AddEvent event)) (ends : Q actions.Ok) (refuses : (number : ℕ) → nat_lt 100 number ≡ true → Q (actions.Invalid (Family number))) where
+module _ (Q : Action → Type 0) (gets : (place : Place) → Q (actions.Get (place ∷ []))) (sets : (entry : Entry) → Q (actions.Set (entry ∷ [])))
+    (tells : (event : Event) → Q (actions.AddEvent event)) (ends : Q actions.Ok)
+    (refuses : (number : ℕ) → nat_lt 100 number ≡ true → Q (actions.Invalid (Family number))) where
   either_own : (test : Bool) (x y : Action) → Q x → Q y → Q (cond test x y)
   either_own true x y own other = own
   either_own false x y own other = other
@@ -40,11 +47,13 @@ module _ (Q : Action → Type 0) (gets : (place : Place) → Q (actions.Get (pla
   due_own (Due action) = Q action
   due_own (Goes told rest) = Unit {0}
 
-  then_own : {A : Type 0} (told : Told A) (others : A → List Reply → Action) → due_own told → ((x : A) (rest : List Reply) → Q (others x rest)) → Q (then_do told others)
+  then_own : {A : Type 0} (told : Told A) (others : A → List Reply → Action) → due_own told → ((x : A) (rest : List Reply) → Q (others x rest))
+      → Q (then_do told others)
   then_own (Due action) others own all = own
   then_own (Goes told rest) others own all = all told rest
 
-  and_own : {A B : Type 0} (told : Told A) (others : A → List Reply → Told B) → due_own told → ((x : A) (rest : List Reply) → due_own (others x rest)) → due_own (and_then told others)
+  and_own : {A B : Type 0} (told : Told A) (others : A → List Reply → Told B) → due_own told → ((x : A) (rest : List Reply) → due_own (others x rest))
+      → due_own (and_then told others)
   and_own (Due action) others own all = own
   and_own (Goes told rest) others own all = all told rest
 
@@ -89,21 +98,24 @@ module _ (Q : Action → Type 0) (gets : (place : Place) → Q (actions.Get (pla
   written_own key value replies =
       and_own (entries_at key replies) _ (entries_at_own key replies) (λ entries rest.
       and_own (done (set_to key (with_value key value entries)) rest) _ (done_own (set_to key (with_value key value entries)) rest (sets _)) (λ nothing behind.
-      either_told (bytes_eq key proposals) (Goes tt behind) (done (actions.AddEvent (update_of key)) behind) tt (done_own (actions.AddEvent (update_of key)) behind (tells (update_of key)))))
+      either_told (bytes_eq key proposals) (Goes tt behind) (done (actions.AddEvent (update_of key)) behind) tt
+      (done_own (actions.AddEvent (update_of key)) behind (tells (update_of key)))))
 
   write_own : (key value : List ℕ) (replies : List Reply) → Q (write key value replies)
   write_own key value replies = then_own (written_to key value replies) _ (written_own key value replies) (λ nothing rest. ends)
 
   -- ---- a proposal
 
-  add_own : (signer id : List ℕ) (proposal : SettingProposal) (replies : List Reply) (kept : Option (List SettingCandidate)) → Q (add_to signer id proposal replies kept)
+  add_own : (signer id : List ℕ) (proposal : SettingProposal) (replies : List Reply) (kept : Option (List SettingCandidate))
+      → Q (add_to signer id proposal replies kept)
   add_own signer id proposal replies None = refuses 302 refl
   add_own signer id proposal replies (Some candidates) =
       let more = kept_text (candidates ++ new_candidate signer id proposal ∷ []) in
       either_own (list_any (has_id id) candidates) (invalid 311) (write proposals more replies) (refuses 311 refl) (write_own proposals more replies)
 
   put_own : (signer id : List ℕ) (proposal : SettingProposal) (replies : List Reply) → Q (put_to_vote signer id proposal replies)
-  put_own signer id proposal replies = then_own (value_at proposals replies) _ (value_own proposals replies) (λ value rest. add_own signer id proposal rest (candidates_of_value value))
+  put_own signer id proposal replies = then_own (value_at proposals replies) _ (value_own proposals replies)
+      (λ value rest. add_own signer id proposal rest (candidates_of_value value))
 
   -- a fault's number is the family's
   abbrev fault_own : Option ℕ → Bool
@@ -121,20 +133,25 @@ module _ (Q : Action → Type 0) (gets : (place : Place) → Q (actions.Get (pla
       (either_fault (bytes_eq proposal.setting approval_threshold && not (is_reachable (length keys) (number_in proposal.value))) _ _ refl
       (either_fault (bytes_eq proposal.setting proposals) _ _ refl refl)))
 
-  decide_own : (signer id : List ℕ) (proposal : SettingProposal) (threshold : ℕ) (replies : List Reply) (fault : Option ℕ) → fault_own fault ≡ true → Q (decide signer id proposal threshold replies fault)
+  decide_own : (signer id : List ℕ) (proposal : SettingProposal) (threshold : ℕ) (replies : List Reply) (fault : Option ℕ) → fault_own fault ≡ true
+      → Q (decide signer id proposal threshold replies fault)
   decide_own signer id proposal threshold replies (Some number) own = refuses number own
   decide_own signer id proposal threshold replies None own =
       either_own (nat_le threshold 1) (write proposal.setting proposal.value replies) (put_to_vote signer id proposal replies)
       (write_own proposal.setting proposal.value replies) (put_own signer id proposal replies)
 
-  under_own : (keys : List (List ℕ)) (signer id : List ℕ) (proposal : SettingProposal) (replies : List Reply) (threshold : Option ℕ) → Q (propose_under keys signer id proposal replies threshold)
+  under_own : (keys : List (List ℕ)) (signer id : List ℕ) (proposal : SettingProposal) (replies : List Reply) (threshold : Option ℕ)
+      → Q (propose_under keys signer id proposal replies threshold)
   under_own keys signer id proposal replies None = refuses 302 refl
-  under_own keys signer id proposal replies (Some threshold) = decide_own signer id proposal threshold replies (proposal_fault keys proposal) (proposal_own keys proposal)
+  under_own keys signer id proposal replies (Some threshold) =
+      decide_own signer id proposal threshold replies (proposal_fault keys proposal) (proposal_own keys proposal)
 
-  propose_by_own : (keys : List (List ℕ)) (signer id : List ℕ) (replies : List Reply) (read : Result SettingProposal MessageFault) → Q (propose_by keys signer id replies read)
+  propose_by_own : (keys : List (List ℕ)) (signer id : List ℕ) (replies : List Reply) (read : Result SettingProposal MessageFault)
+      → Q (propose_by keys signer id replies read)
   propose_by_own keys signer id replies (Err e) = refuses 306 refl
   propose_by_own keys signer id replies (Ok proposal) =
-      then_own (value_at approval_threshold replies) _ (value_own approval_threshold replies) (λ value rest. under_own keys signer id proposal rest (threshold_of value))
+      then_own (value_at approval_threshold replies) _ (value_own approval_threshold replies)
+      (λ value rest. under_own keys signer id proposal rest (threshold_of value))
 
   propose_own : (keys : List (List ℕ)) (signer body : List ℕ) (replies : List Reply) → Q (propose keys signer body replies)
   unfolding propose
@@ -142,26 +159,34 @@ module _ (Q : Action → Type 0) (gets : (place : Place) → Q (actions.Get (pla
 
   -- ---- a vote
 
-  count_own : (keys : List (List ℕ)) (threshold : ℕ) (candidates : List SettingCandidate) (place : ℕ) (voted : SettingCandidate) (replies : List Reply) → Q (count_up keys threshold candidates place voted replies)
+  count_own : (keys : List (List ℕ)) (threshold : ℕ) (candidates : List SettingCandidate) (place : ℕ) (voted : SettingCandidate)
+      (replies : List Reply) → Q (count_up keys threshold candidates place voted replies)
   count_own keys threshold candidates place voted replies =
       let fewer = kept_text (remove candidates place) in
       let same = kept_text (slice_set candidates place voted) in
       either_own (nat_le threshold (count_votes accept_number voted.votes)) _ _
-      (then_own (written_to voted.proposal.setting voted.proposal.value replies) _ (written_own voted.proposal.setting voted.proposal.value replies) (λ nothing rest. write_own proposals fewer rest))
-      (either_own (nat_le threshold (count_votes reject_number voted.votes) || (length voted.votes == length keys)) (write proposals fewer replies) (write proposals same replies)
+      (then_own (written_to voted.proposal.setting voted.proposal.value replies) _ (written_own voted.proposal.setting voted.proposal.value replies)
+      (λ nothing rest. write_own proposals fewer rest))
+      (either_own (nat_le threshold (count_votes reject_number voted.votes) || (length voted.votes == length keys)) (write proposals fewer replies)
+      (write proposals same replies)
       (write_own proposals fewer replies) (write_own proposals same replies))
 
-  vote_under_own : (keys : List (List ℕ)) (signer : List ℕ) (vote : ℕ) (candidates : List SettingCandidate) (place : ℕ) (candidate : SettingCandidate) (replies : List Reply) (threshold : Option ℕ) → Q (vote_under keys signer vote candidates place candidate replies threshold)
+  vote_under_own : (keys : List (List ℕ)) (signer : List ℕ) (vote : ℕ) (candidates : List SettingCandidate) (place : ℕ) (candidate : SettingCandidate)
+      (replies : List Reply) (threshold : Option ℕ) → Q (vote_under keys signer vote candidates place candidate replies threshold)
   vote_under_own keys signer vote candidates place candidate replies None = refuses 302 refl
   vote_under_own keys signer vote candidates place candidate replies (Some threshold) =
-      either_own (has_voted signer candidate) (invalid 314) (count_up keys threshold candidates place (with_vote signer vote candidate) replies) (refuses 314 refl) (count_own keys threshold candidates place (with_vote signer vote candidate) replies)
+      either_own (has_voted signer candidate) (invalid 314) (count_up keys threshold candidates place (with_vote signer vote candidate) replies)
+      (refuses 314 refl) (count_own keys threshold candidates place (with_vote signer vote candidate) replies)
 
-  vote_for_own : (keys : List (List ℕ)) (signer : List ℕ) (vote : ℕ) (candidates : List SettingCandidate) (replies : List Reply) (found : Option (ℕ × SettingCandidate)) → Q (vote_for keys signer vote candidates replies found)
+  vote_for_own : (keys : List (List ℕ)) (signer : List ℕ) (vote : ℕ) (candidates : List SettingCandidate) (replies : List Reply)
+      (found : Option (ℕ × SettingCandidate)) → Q (vote_for keys signer vote candidates replies found)
   vote_for_own keys signer vote candidates replies None = refuses 313 refl
   vote_for_own keys signer vote candidates replies (Some found) =
-      then_own (value_at approval_threshold replies) _ (value_own approval_threshold replies) (λ value rest. vote_under_own keys signer vote candidates found.0 found.1 rest (threshold_of value))
+      then_own (value_at approval_threshold replies) _ (value_own approval_threshold replies)
+      (λ value rest. vote_under_own keys signer vote candidates found.0 found.1 rest (threshold_of value))
 
-  among_own : (keys : List (List ℕ)) (signer id : List ℕ) (vote : ℕ) (replies : List Reply) (kept : Option (List SettingCandidate)) → Q (vote_among keys signer id vote replies kept)
+  among_own : (keys : List (List ℕ)) (signer id : List ℕ) (vote : ℕ) (replies : List Reply) (kept : Option (List SettingCandidate))
+      → Q (vote_among keys signer id vote replies kept)
   among_own keys signer id vote replies None = refuses 302 refl
   among_own keys signer id vote replies (Some candidates) = vote_for_own keys signer vote candidates replies (found_in (has_id id) 0 candidates)
 
@@ -169,7 +194,8 @@ module _ (Q : Action → Type 0) (gets : (place : Place) → Q (actions.Get (pla
   vote_by_own keys signer replies (Err e) = refuses 306 refl
   vote_by_own keys signer replies (Ok one) =
       either_own (not ((one.vote == accept_number) || (one.vote == reject_number))) (invalid 312) _ (refuses 312 refl)
-      (then_own (value_at proposals replies) _ (value_own proposals replies) (λ value rest. among_own keys signer one.proposal_id one.vote rest (candidates_of_value value)))
+      (then_own (value_at proposals replies) _ (value_own proposals replies)
+      (λ value rest. among_own keys signer one.proposal_id one.vote rest (candidates_of_value value)))
 
   cast_own : (keys : List (List ℕ)) (signer body : List ℕ) (replies : List Reply) → Q (cast_vote keys signer body replies)
   unfolding cast_vote
@@ -177,19 +203,23 @@ module _ (Q : Action → Type 0) (gets : (place : Place) → Q (actions.Get (pla
 
   -- ---- both
 
-  act_by_own : (keys : List (List ℕ)) (signer : List ℕ) (replies : List Reply) (read : Result SettingsPayload MessageFault) → Q (act_by keys signer replies read)
+  act_by_own : (keys : List (List ℕ)) (signer : List ℕ) (replies : List Reply) (read : Result SettingsPayload MessageFault)
+      → Q (act_by keys signer replies read)
   act_by_own keys signer replies (Err e) = refuses 304 refl
   act_by_own keys signer replies (Ok payload) =
       either_own (payload.action == propose_number) (propose keys signer payload.body replies) _ (propose_own keys signer payload.body replies)
-      (either_own (payload.action == vote_number) (cast_vote keys signer payload.body replies) (invalid 305) (cast_own keys signer payload.body replies) (refuses 305 refl))
+      (either_own (payload.action == vote_number) (cast_vote keys signer payload.body replies) (invalid 305)
+      (cast_own keys signer payload.body replies) (refuses 305 refl))
 
   act_own : (keys : List (List ℕ)) (signer payload : List ℕ) (replies : List Reply) → Q (act keys signer payload replies)
   act_own keys signer payload replies =
-      either_own (not (has_none keys || has_key signer keys)) (invalid 303) (act_by keys signer replies (settings_payload payload)) (refuses 303 refl) (act_by_own keys signer replies (settings_payload payload))
+      either_own (not (has_none keys || has_key signer keys)) (invalid 303) (act_by keys signer replies (settings_payload payload)) (refuses 303 refl)
+      (act_by_own keys signer replies (settings_payload payload))
 
   after_own : (signer payload : List ℕ) (replies : List Reply) → Q (next_after signer payload replies)
   unfolding next_after
-  after_own signer payload replies = then_own (value_at authorized_keys replies) _ (value_own authorized_keys replies) (λ value rest. act_own (keys_of value) signer payload rest)
+  after_own signer payload replies = then_own (value_at authorized_keys replies) _ (value_own authorized_keys replies)
+      (λ value rest. act_own (keys_of value) signer payload rest)
 
   pub each_action : (signer payload : List ℕ) (turns : List Turn) → Q (next signer payload turns)
   each_action signer payload turns = after_own signer payload (map (λ turn. turn.reply) turns)

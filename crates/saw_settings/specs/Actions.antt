@@ -5,7 +5,7 @@ use Rattle.std.specs.Str.{bytes_eq}
 use Rattle.hex.specs.Hex.{encode_lower}
 use Rattle.sha2.specs.Sha256.{sha256}
 use Rattle.saw_wire.specs.declared.fault.MessageFault.{MessageFault}
-use Rattle.saw_messages.specs.Reasons.{has_own_reason}
+use Rattle.saw_messages.specs.Reasons.{has_own_reason, invalid}
 use Rattle.saw_messages.specs.declared.talk.Action.{Action}
 use Rattle.saw_messages.specs.declared.talk.Action.TheVariants as actions
 use Rattle.saw_messages.specs.declared.talk.Reply.{Reply}
@@ -13,7 +13,7 @@ use Rattle.saw_messages.specs.declared.talk.Turn.{Turn}
 use Rattle.saw_settings.specs.Keys.{authorized_keys, approval_threshold, proposals}
 use Rattle.saw_settings.specs.Messages.{settings_payload, setting_proposal, setting_vote}
 use Rattle.saw_settings.specs.Values.{keys_of, keys_in, number_in, threshold_of, candidates_of_value, kept_text}
-use Rattle.saw_settings.specs.Replies.{invalid, then_do, value_at, written_to}
+use Rattle.saw_settings.specs.Replies.{then_do, value_at, written_to}
 use Rattle.saw_settings.specs.declared.candidate.SettingCandidate.{SettingCandidate}
 use Rattle.saw_settings.specs.declared.candidate.VoteRecord.{VoteRecord}
 use Rattle.saw_settings.specs.declared.payload.SettingsPayload.{SettingsPayload}

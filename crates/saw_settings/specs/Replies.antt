@@ -3,7 +3,7 @@ use Rattle.std.specs.Prelude.{ℕ, List, [], ◌∷◌, Option, Result, Ok, Err,
 use Rattle.std.specs.Str.{bytes_eq}
 use Rattle.saw_wire.specs.Writing.{spelled}
 use Rattle.saw_wire.specs.declared.fault.MessageFault.{MessageFault}
-use Rattle.saw_messages.specs.declared.outcome.Reason.TheVariants.{Family}
+use Rattle.saw_messages.specs.Reasons.{invalid}
 use Rattle.saw_messages.specs.declared.receipt.Event.{Event}
 use Rattle.saw_messages.specs.declared.talk.Action.{Action}
 use Rattle.saw_messages.specs.declared.talk.Action.TheVariants as actions
@@ -14,9 +14,6 @@ use Rattle.saw_settings.specs.Keys.{address_of, proposals, value_in, with_value}
 use Rattle.saw_settings.specs.Messages.{setting, entries_pieces}
 use Rattle.saw_settings.specs.declared.setting.Setting.{Setting}
 use Rattle.saw_settings.specs.declared.setting.SettingEntry.{SettingEntry}
-
-abbrev pub invalid : ℕ → Action
-invalid number = actions.Invalid (Family number)
 
 -- an action that is due, or what was told with the replies behind it
 pub data Told (A : Type 0) : Type 0 where

@@ -1,8 +1,9 @@
 -- Replies by their place among the turns, as the code goes through them.
 use Rattle.std.specs.Prelude.{ℕ, List, map, drop, Result, Ok, Err}
+use Rattle.saw_messages.specs.Reasons.{invalid}
 use Rattle.saw_messages.specs.declared.talk.Reply.{Reply}
 use Rattle.saw_messages.specs.declared.talk.Turn.{Turn}
-use Rattle.saw_settings.specs.Replies.{Told, Due, Goes, invalid}
+use Rattle.saw_settings.specs.Replies.{Told, Due, Goes}
 use Rattle.saw_settings.specs.declared.reply.Told.{Told as ToldAt}
 use Rattle.saw_settings.specs.declared.reply.Told.TheVariants as places
 

@@ -1,20 +1,16 @@
 //! The next action of the family.
 
-ghost use Rattle.std.specs.Prelude.{◌≡◌, ◌&&◌, ◌||◌, IfOk, Ok};
+ghost use Rattle.std.specs.Prelude.{◌≡◌, ◌&&◌, ◌||◌, IfOk};
 ghost use Rattle.std.specs.Str.{bytes_eq};
-ghost use Rattle.saw_settings.specs.Actions.{RepliesDecide, ReasonsAreOwn, act, act_by, family_name, family_version, has_key, has_none, next};
+ghost use Rattle.saw_settings.specs.Actions.{RepliesDecide, ReasonsAreOwn, act, family_name, family_version, has_key, has_none, next};
 ghost use Rattle.saw_settings.specs.Turns.{replies_from};
-ghost use Rattle.saw_settings.specs.Values.{keys_of};
 
 use crate::decoding::decode_settings_payload;
 use crate::key::AUTHORIZED_KEYS;
-use crate::payload::SettingsPayload;
-use crate::proposal::propose;
-use crate::reply::{Told, invalid, value_at};
+use crate::reply::{Talk, Told};
 use crate::value::keys_of;
-use crate::vote::cast_vote;
-use saw_messages::{Action, Transcript, Turn, Tx};
-use saw_wire::{Bytes, MessageFault, Text};
+use saw_messages::{Action, Transcript, Tx};
+use saw_wire::{Bytes, MessageFault};
 use std::alloc::{AllocError, Global};
 
 /// The number of the action that proposes.
@@ -42,36 +38,25 @@ pub fn serves(family: &str, version: &str) -> bool
 /// The next action, by the signer, the payload and the replies so far.
 #[tactic(auto, unfolding(crate::specs::Actions::next_after))]
 pub fn step(alloc: Global, tx: &Tx, talk: &Transcript) -> Result<Action, AllocError>
-    ensures { IfOk result (λ action. action ≡ next tx.now.header.signer_public_key tx.now.payload talk.now.turns) }
-{
-    let turns = talk.turns.as_slice();
-    match value_at(alloc, AUTHORIZED_KEYS, turns, 0)? {
-        Told::Due(action) => Ok(action),
-        Told::Goes(value, at) => act_under(alloc, value, tx, turns, at),
-    }
-}
-
-/// Goes on with the keys that a value says.
-fn act_under(
-    alloc: Global,
-    value: Option<Text>,
-    tx: &Tx,
-    turns: &[Turn],
-    at: usize,
-) -> Result<Action, AllocError>
     ensures { IfOk result (λ action. action
-        ≡ act (keys_of value) tx.now.header.signer_public_key tx.now.payload (replies_from at turns.now)) }
+        ≡ next tx.now.header.signer_public_key tx.now.payload talk.now.turns) }
 {
-    let keys = keys_of(alloc, value)?;
-    let signer = tx.header.signer_public_key.as_str();
-    act(
+    let talk = Talk {
         alloc,
-        keys.as_slice(),
-        signer,
-        tx.payload.as_slice(),
-        turns,
-        at,
-    )
+        turns: talk.turns.as_slice(),
+    };
+    match talk.value_at(AUTHORIZED_KEYS, 0)? {
+        Told::Due(action) => Ok(action),
+        Told::Goes(value, at) => {
+            let keys = keys_of(alloc, value)?;
+            let asking = Asking {
+                talk,
+                keys: keys.as_slice(),
+                signer: tx.header.signer_public_key.as_str(),
+            };
+            asking.act(tx.payload.as_slice(), at)
+        }
+    }
 }
 
 /// Whether the signer is one of the keys.
@@ -81,49 +66,40 @@ fn has_key(keys: &[Bytes], signer: &[u8]) -> bool
     keys.iter().any(|key| key.as_slice() == signer)
 }
 
-/// Whether there are no keys yet, or the signer is one.
-fn may_act(keys: &[Bytes], signer: &str) -> bool
-    ensures { result ≡ (has_none keys.now || has_key signer.now keys.now) }
-{
-    keys.is_empty() || has_key(keys, signer.as_bytes())
+/// Who asks, under which keys, and what was told so far.
+#[derive(Clone, Copy)]
+pub(crate) struct Asking<'a> {
+    pub(crate) talk: Talk<'a>,
+    pub(crate) keys: &'a [Bytes],
+    pub(crate) signer: &'a str,
 }
 
-/// Reads the payload of a signer that may act.
-fn act(
-    alloc: Global,
-    keys: &[Bytes],
-    signer: &str,
-    payload: &[u8],
-    turns: &[Turn],
-    at: usize,
-) -> Result<Action, AllocError>
-    ensures { IfOk result (λ action. action ≡ act keys.now signer.now payload.now (replies_from at turns.now)) }
-{
-    if !may_act(keys, signer) {
-        return Ok(invalid(BAD_SIGNER));
+impl Asking<'_> {
+    /// Whether there are no keys yet, or the signer is one.
+    fn may_act(&self) -> bool
+        ensures { result ≡ (has_none self.now.keys.now || has_key self.now.signer.now self.now.keys.now) }
+    {
+        self.keys.is_empty() || has_key(self.keys, self.signer.as_bytes())
     }
-    match decode_settings_payload(alloc, payload) {
-        Ok(payload) => act_by(alloc, keys, signer, &payload, turns, at),
-        Err(MessageFault::OutOfMemory) => Err(AllocError),
-        Err(_) => Ok(invalid(BAD_PAYLOAD)),
-    }
-}
 
-/// Proposes or votes.
-fn act_by(
-    alloc: Global,
-    keys: &[Bytes],
-    signer: &str,
-    payload: &SettingsPayload,
-    turns: &[Turn],
-    at: usize,
-) -> Result<Action, AllocError>
-    ensures { IfOk result (λ action. action ≡ act_by keys.now signer.now (replies_from at turns.now) (Ok payload.now)) }
-{
-    match payload.action {
-        PROPOSE => propose(alloc, keys, signer, payload.body.as_slice(), turns, at),
-        VOTE => cast_vote(alloc, keys, signer, payload.body.as_slice(), turns, at),
-        _ => Ok(invalid(BAD_ACTION)),
+    /// Proposes or votes, if the signer may act.
+    fn act(&self, payload: &[u8], at: usize) -> Result<Action, AllocError>
+        ensures { IfOk result (λ action. action ≡ act self.now.keys.now self.now.signer.now payload.now
+            (replies_from at self.now.talk.turns.now)) }
+    {
+        if !self.may_act() {
+            return Ok(Action::invalid(BAD_SIGNER));
+        }
+        let payload = match decode_settings_payload(self.talk.alloc, payload) {
+            Ok(payload) => payload,
+            Err(MessageFault::OutOfMemory) => return Err(AllocError),
+            Err(_) => return Ok(Action::invalid(BAD_PAYLOAD)),
+        };
+        match payload.action {
+            PROPOSE => self.propose(payload.body.as_slice(), at),
+            VOTE => self.cast_vote(payload.body.as_slice(), at),
+            _ => Ok(Action::invalid(BAD_ACTION)),
+        }
     }
 }
 

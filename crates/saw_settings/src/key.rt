@@ -1,6 +1,6 @@
 //! The keys of the family's own settings, and where a setting is kept.
 
-ghost use Rattle.std.specs.Prelude.{◌≡◌, ◌∷◌, ◌++◌, take};
+ghost use Rattle.std.specs.Prelude.{◌≡◌, ◌++◌, take};
 ghost use Rattle.sha2.specs.Sha256.{sha256};
 ghost use Rattle.saw_settings.specs.Keys.{address_of, head_part, tail_part};
 
@@ -24,10 +24,11 @@ pub fn address_of(key: &str) -> Address
     let (first, others) = cut(key);
     let (second, others) = cut(others);
     let (third, fourth) = cut(others);
-    joined(
+    let tail = joined(
         &pair(&digest(first), &digest(second)),
         &pair(&digest(third), &digest(fourth)),
-    )
+    );
+    Address::under([0, 0, 0], &tail)
 }
 
 /// What stands before the first dot, and what stands behind it.
@@ -60,12 +61,12 @@ fn pair(first: &[u8; 8], second: &[u8; 8]) -> [u8; 16]
     bytes
 }
 
-/// Three bytes 0, and then the parts.
-fn joined(front: &[u8; 16], back: &[u8; 16]) -> Address
-    ensures { result ≡ 0 ∷ 0 ∷ 0 ∷ (front.now ++ back.now) }
+/// Two pairs, one behind the other.
+fn joined(front: &[u8; 16], back: &[u8; 16]) -> [u8; 32]
+    ensures { result ≡ front.now ++ back.now }
 {
-    let mut bytes = [0; 35];
-    bytes[3..19].copy_from_slice(front);
-    bytes[19..].copy_from_slice(back);
-    Address::new(bytes)
+    let mut bytes = [0; 32];
+    bytes[..16].copy_from_slice(front);
+    bytes[16..].copy_from_slice(back);
+    bytes
 }

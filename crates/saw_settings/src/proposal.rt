@@ -1,21 +1,20 @@
 //! A proposal: it is checked, and carried out at once or put to the vote.
 
-ghost use Rattle.std.specs.Prelude.{◌≡◌, ◌==◌, ◌&&◌, not, length, IfOk, Ok, Some};
+ghost use Rattle.std.specs.Prelude.{◌≡◌, IfOk};
 ghost use Rattle.std.specs.List.{list_any};
-ghost use Rattle.std.specs.Str.{bytes_eq};
-ghost use Rattle.saw_settings.specs.Actions.{add_to, has_id, has_none, id_of, is_reachable, new_candidate, proposal_fault, propose, propose_by, propose_under, put_to_vote};
+ghost use Rattle.saw_settings.specs.Actions.{add_to, has_id, has_none, id_of, is_reachable, new_candidate, proposal_fault, propose, propose_under, put_to_vote};
 ghost use Rattle.saw_settings.specs.Turns.{replies_from};
-ghost use Rattle.saw_settings.specs.Values.{candidates_of_value, keys_in, number_in, threshold_of};
+ghost use Rattle.saw_settings.specs.Values.{candidates_of_value, keys_in, number_in};
 
+use crate::action::Asking;
 use crate::candidate::{SettingCandidate, VoteRecord};
 use crate::decoding::decode_setting_proposal;
 use crate::key::{APPROVAL_THRESHOLD, AUTHORIZED_KEYS, PROPOSALS};
 use crate::payload::SettingProposal;
-use crate::reply::{Told, UNREADABLE, invalid, value_at};
+use crate::reply::{Told, UNREADABLE};
 use crate::value::{candidates_of_value, keys_in, number_in, threshold_of};
 use crate::vote::ACCEPT;
-use crate::writing::{keep, write};
-use saw_messages::{Action, Turn};
+use saw_messages::Action;
 use saw_wire::{Bytes, Items, MessageFault, Text};
 use sha2::{Digest, Sha256};
 use std::alloc::{AllocError, Global};
@@ -76,62 +75,6 @@ fn is_known(id: &str, candidates: &[SettingCandidate]) -> bool
         .any(|candidate| candidate.proposal_id.as_str() == id)
 }
 
-/// Adds a candidate, unless there is one with the id.
-fn add_candidate(
-    alloc: Global,
-    signer: &str,
-    id: Text,
-    proposal: SettingProposal,
-    mut candidates: Items<SettingCandidate>,
-    turns: &[Turn],
-    at: usize,
-) -> Result<Action, AllocError>
-    ensures { IfOk result (λ action. action ≡ add_to signer.now id proposal (replies_from at turns.now) (Some candidates)) }
-{
-    if is_known(id.as_str(), candidates.as_slice()) {
-        return Ok(invalid(KNOWN));
-    }
-    candidates.push(new_candidate(alloc, signer, id, proposal)?)?;
-    keep(alloc, candidates, turns, at)
-}
-
-/// Adds a candidate to those that the value of the list of proposals says.
-fn add_to(
-    alloc: Global,
-    signer: &str,
-    body: &[u8],
-    proposal: SettingProposal,
-    value: Option<Text>,
-    turns: &[Turn],
-    at: usize,
-) -> Result<Action, AllocError>
-    ensures { IfOk result (λ action. action
-        ≡ add_to signer.now (id_of body.now) proposal (replies_from at turns.now) (candidates_of_value value)) }
-{
-    let Some(candidates) = candidates_of_value(alloc, value)? else {
-        return Ok(invalid(UNREADABLE));
-    };
-    let id = id_of(alloc, body)?;
-    add_candidate(alloc, signer, id, proposal, candidates, turns, at)
-}
-
-/// Adds the proposal to those that are voted on.
-fn put_to_vote(
-    alloc: Global,
-    signer: &str,
-    body: &[u8],
-    proposal: SettingProposal,
-    turns: &[Turn],
-    at: usize,
-) -> Result<Action, AllocError>
-    ensures { IfOk result (λ action. action ≡ put_to_vote signer.now (id_of body.now) proposal (replies_from at turns.now)) }
-{
-    match value_at(alloc, PROPOSALS, turns, at)? {
-        Told::Due(action) => Ok(action),
-        Told::Goes(value, at) => add_to(alloc, signer, body, proposal, value, turns, at),
-    }
-}
-
 /// Whether a value of the keys names none.
 fn names_no_keys(alloc: Global, text: &str) -> Result<bool, AllocError>
     ensures { IfOk result (λ none. none ≡ has_none (keys_in text.now)) }
@@ -174,87 +117,84 @@ fn proposal_fault(
     Ok(None)
 }
 
-/// At most one vote decides at once.
-fn decide(
-    alloc: Global,
-    keys: &[Bytes],
-    signer: &str,
-    body: &[u8],
-    proposal: SettingProposal,
-    threshold: u32,
-    turns: &[Turn],
-    at: usize,
-) -> Result<Action, AllocError>
-    ensures { IfOk result (λ action. action
-        ≡ propose_under keys.now signer.now (id_of body.now) proposal (replies_from at turns.now) (Some threshold)) }
-{
-    if let Some(number) = proposal_fault(alloc, keys, &proposal)? {
-        return Ok(invalid(number));
+impl Asking<'_> {
+    /// The next action of a proposal, for which the threshold is asked.
+    #[tactic(auto, unfolding(crate::specs::Actions::propose))]
+    pub(crate) fn propose(&self, body: &[u8], at: usize) -> Result<Action, AllocError>
+        ensures { IfOk result (λ action. action ≡ propose self.now.keys.now self.now.signer.now body.now
+            (replies_from at self.now.talk.turns.now)) }
+    {
+        let proposal = match decode_setting_proposal(self.talk.alloc, body) {
+            Ok(proposal) => proposal,
+            Err(MessageFault::OutOfMemory) => return Err(AllocError),
+            Err(_) => return Ok(Action::invalid(BAD_BODY)),
+        };
+        match self.talk.value_at(APPROVAL_THRESHOLD, at)? {
+            Told::Due(action) => Ok(action),
+            Told::Goes(value, at) => self.propose_under(body, proposal, threshold_of(value), at),
+        }
     }
-    if threshold <= 1 {
-        let setting = proposal.setting.as_str();
-        write(alloc, setting, proposal.value.as_str(), turns, at)
-    } else {
-        put_to_vote(alloc, signer, body, proposal, turns, at)
-    }
-}
 
-/// Goes on with the threshold that a value says.
-fn propose_under(
-    alloc: Global,
-    keys: &[Bytes],
-    signer: &str,
-    body: &[u8],
-    proposal: SettingProposal,
-    value: Option<Text>,
-    turns: &[Turn],
-    at: usize,
-) -> Result<Action, AllocError>
-    ensures { IfOk result (λ action. action
-        ≡ propose_under keys.now signer.now (id_of body.now) proposal (replies_from at turns.now) (threshold_of value)) }
-{
-    match threshold_of(value) {
-        Some(threshold) => decide(alloc, keys, signer, body, proposal, threshold, turns, at),
-        None => Ok(invalid(UNREADABLE)),
+    /// Checks a proposal. At most one vote decides at once.
+    fn propose_under(
+        &self,
+        body: &[u8],
+        proposal: SettingProposal,
+        threshold: Option<u32>,
+        at: usize,
+    ) -> Result<Action, AllocError>
+        ensures { IfOk result (λ action. action ≡ propose_under self.now.keys.now self.now.signer.now
+            (id_of body.now) proposal (replies_from at self.now.talk.turns.now) threshold) }
+    {
+        let Some(threshold) = threshold else {
+            return Ok(Action::invalid(UNREADABLE));
+        };
+        if let Some(number) = proposal_fault(self.talk.alloc, self.keys, &proposal)? {
+            return Ok(Action::invalid(number));
+        }
+        if threshold <= 1 {
+            let setting = proposal.setting.as_str();
+            self.talk.write(setting, proposal.value.as_str(), at)
+        } else {
+            self.put_to_vote(body, proposal, at)
+        }
     }
-}
 
-/// Asks for the threshold first.
-fn propose_by(
-    alloc: Global,
-    keys: &[Bytes],
-    signer: &str,
-    body: &[u8],
-    proposal: SettingProposal,
-    turns: &[Turn],
-    at: usize,
-) -> Result<Action, AllocError>
-    ensures { IfOk result (λ action. action
-        ≡ propose_by keys.now signer.now (id_of body.now) (replies_from at turns.now) (Ok proposal)) }
-{
-    match value_at(alloc, APPROVAL_THRESHOLD, turns, at)? {
-        Told::Due(action) => Ok(action),
-        Told::Goes(value, at) => propose_under(
-            alloc, keys, signer, body, proposal, value, turns, at,
-        ),
+    /// Adds the proposal to those that are voted on, for which these are asked.
+    fn put_to_vote(
+        &self,
+        body: &[u8],
+        proposal: SettingProposal,
+        at: usize,
+    ) -> Result<Action, AllocError>
+        ensures { IfOk result (λ action. action ≡ put_to_vote self.now.signer.now (id_of body.now) proposal
+            (replies_from at self.now.talk.turns.now)) }
+    {
+        match self.talk.value_at(PROPOSALS, at)? {
+            Told::Due(action) => Ok(action),
+            Told::Goes(value, at) => self.add_to(body, proposal, value, at),
+        }
     }
-}
 
-/// The next action of a proposal.
-#[tactic(auto, unfolding(crate::specs::Actions::propose))]
-pub(crate) fn propose(
-    alloc: Global,
-    keys: &[Bytes],
-    signer: &str,
-    body: &[u8],
-    turns: &[Turn],
-    at: usize,
-) -> Result<Action, AllocError>
-    ensures { IfOk result (λ action. action ≡ propose keys.now signer.now body.now (replies_from at turns.now)) }
-{
-    match decode_setting_proposal(alloc, body) {
-        Ok(proposal) => propose_by(alloc, keys, signer, body, proposal, turns, at),
-        Err(MessageFault::OutOfMemory) => Err(AllocError),
-        Err(_) => Ok(invalid(BAD_BODY)),
+    /// Adds the proposal to the candidates that a value says, unless there is one with its id.
+    fn add_to(
+        &self,
+        body: &[u8],
+        proposal: SettingProposal,
+        value: Option<Text>,
+        at: usize,
+    ) -> Result<Action, AllocError>
+        ensures { IfOk result (λ action. action ≡ add_to self.now.signer.now (id_of body.now) proposal
+            (replies_from at self.now.talk.turns.now) (candidates_of_value value)) }
+    {
+        let Some(mut candidates) = candidates_of_value(self.talk.alloc, value)? else {
+            return Ok(Action::invalid(UNREADABLE));
+        };
+        let id = id_of(self.talk.alloc, body)?;
+        if is_known(id.as_str(), candidates.as_slice()) {
+            return Ok(Action::invalid(KNOWN));
+        }
+        candidates.push(new_candidate(self.talk.alloc, self.signer, id, proposal)?)?;
+        self.talk.keep(candidates, at)
     }
 }

@@ -12,10 +12,10 @@ use crate::candidate::SettingCandidate;
 use crate::encoding::encode_setting;
 use crate::entry::with_value;
 use crate::key::{PROPOSALS, address_of};
-use crate::reply::{REFUSED, Told, entries_at, invalid, reply_at};
+use crate::reply::{REFUSED, Talk, Told};
 use crate::setting::{Setting, SettingEntry};
 use crate::value::kept_text;
-use saw_messages::{Action, Attribute, Entry, Event, Place, Reply, Turn};
+use saw_messages::{Action, Attribute, Event, Reply};
 use saw_wire::{Bytes, Items, Text};
 use std::alloc::{AllocError, Global};
 
@@ -24,12 +24,7 @@ fn set_to(alloc: Global, key: &str, entries: Items<SettingEntry>) -> Result<Acti
     ensures { IfOk result (λ action. action ≡ set_to key.now entries) }
 {
     let body = encode_setting(alloc, &Setting { entries })?;
-    let mut entries = Items::new(alloc);
-    entries.push(Entry {
-        place: Place::At(address_of(key)),
-        body: Bytes::from_vec(body),
-    })?;
-    Ok(Action::Set(entries))
+    Action::set(alloc, address_of(key), Bytes::from_vec(body))
 }
 
 /// The event of a change, under the name of the key.
@@ -53,92 +48,90 @@ fn done_by(reply: &Reply, next: usize) -> Told<()>
     ensures { (turns : List Turn) → seen turns result ≡ done_by (replies_from next turns) reply.now }
 {
     match reply {
-        Reply::Entries(_) => Told::Due(invalid(REFUSED)),
+        Reply::Entries(_) => Told::Due(Action::invalid(REFUSED)),
         Reply::Done => Told::Goes((), next),
-        Reply::Unauthorized { index: _ } => Told::Due(invalid(REFUSED)),
+        Reply::Unauthorized { index: _ } => Told::Due(Action::invalid(REFUSED)),
     }
 }
 
-/// The entries with the value are set.
-fn put(
-    alloc: Global,
-    key: &str,
-    value: &str,
-    entries: Items<SettingEntry>,
-    turns: &[Turn],
-    at: usize,
-) -> Result<Told<()>, AllocError>
-    ensures { IfOk result (λ told. seen turns.now told
-        ≡ done (set_to key.now (with_value key.now value.now entries)) (replies_from at turns.now)) }
-{
-    match reply_at(turns, at) {
-        Some((reply, next)) => Ok(done_by(reply, next)),
-        None => {
-            let entries = with_value(alloc, key, value, entries)?;
-            Ok(Told::Due(set_to(alloc, key, entries)?))
+impl Talk<'_> {
+    /// The entries with the value are set.
+    fn put(
+        &self,
+        key: &str,
+        value: &str,
+        entries: Items<SettingEntry>,
+        at: usize,
+    ) -> Result<Told<()>, AllocError>
+        ensures { IfOk result (λ told. seen self.now.turns.now told
+            ≡ done (set_to key.now (with_value key.now value.now entries))
+            (replies_from at self.now.turns.now)) }
+    {
+        match self.reply_at(at) {
+            Some((reply, next)) => Ok(done_by(reply, next)),
+            None => {
+                let entries = with_value(self.alloc, key, value, entries)?;
+                Ok(Told::Due(set_to(self.alloc, key, entries)?))
+            }
         }
     }
-}
 
-/// An event tells of the change, unless it is one of the list of proposals.
-fn tell(alloc: Global, key: &str, turns: &[Turn], at: usize) -> Result<Told<()>, AllocError>
-    ensures { IfOk result (λ told. seen turns.now told ≡ told_of key.now (replies_from at turns.now)) }
-{
-    if key == PROPOSALS {
-        return Ok(Told::Goes((), at));
+    /// An event tells of the change, unless it is one of the list of proposals.
+    fn tell(&self, key: &str, at: usize) -> Result<Told<()>, AllocError>
+        ensures { IfOk result (λ told. seen self.now.turns.now told
+            ≡ told_of key.now (replies_from at self.now.turns.now)) }
+    {
+        if key == PROPOSALS {
+            return Ok(Told::Goes((), at));
+        }
+        match self.reply_at(at) {
+            Some((reply, next)) => Ok(done_by(reply, next)),
+            None => Ok(Told::Due(Action::AddEvent(update_of(self.alloc, key)?))),
+        }
     }
-    match reply_at(turns, at) {
-        Some((reply, next)) => Ok(done_by(reply, next)),
-        None => Ok(Told::Due(Action::AddEvent(update_of(alloc, key)?))),
-    }
-}
 
-/// The setting has the value.
-#[tactic(auto, unfolding(crate::specs::Replies::written_to))]
-pub(crate) fn written_to(
-    alloc: Global,
-    key: &str,
-    value: &str,
-    turns: &[Turn],
-    at: usize,
-) -> Result<Told<()>, AllocError>
-    ensures { IfOk result (λ told. seen turns.now told ≡ written_to key.now value.now (replies_from at turns.now)) }
-{
-    let (entries, at) = match entries_at(alloc, key, turns, at)? {
-        Told::Due(action) => return Ok(Told::Due(action)),
-        Told::Goes(entries, at) => (entries, at),
-    };
-    match put(alloc, key, value, entries, turns, at)? {
-        Told::Due(action) => Ok(Told::Due(action)),
-        Told::Goes((), at) => tell(alloc, key, turns, at),
+    /// The setting has the value.
+    #[tactic(auto, unfolding(crate::specs::Replies::written_to))]
+    pub(crate) fn written_to(
+        &self,
+        key: &str,
+        value: &str,
+        at: usize,
+    ) -> Result<Told<()>, AllocError>
+        ensures { IfOk result (λ told. seen self.now.turns.now told
+            ≡ written_to key.now value.now (replies_from at self.now.turns.now)) }
+    {
+        let (entries, at) = match self.entries_at(key, at)? {
+            Told::Due(action) => return Ok(Told::Due(action)),
+            Told::Goes(entries, at) => (entries, at),
+        };
+        match self.put(key, value, entries, at)? {
+            Told::Due(action) => Ok(Told::Due(action)),
+            Told::Goes((), at) => self.tell(key, at),
+        }
     }
-}
 
-/// The setting gets the value, and then the transaction is valid.
-pub(crate) fn write(
-    alloc: Global,
-    key: &str,
-    value: &str,
-    turns: &[Turn],
-    at: usize,
-) -> Result<Action, AllocError>
-    ensures { IfOk result (λ action. action ≡ write key.now value.now (replies_from at turns.now)) }
-{
-    match written_to(alloc, key, value, turns, at)? {
-        Told::Due(action) => Ok(action),
-        Told::Goes((), _) => Ok(Action::Ok),
+    /// The setting gets the value, and then the transaction is valid.
+    pub(crate) fn write(&self, key: &str, value: &str, at: usize) -> Result<Action, AllocError>
+        ensures { IfOk result (λ action. action
+            ≡ write key.now value.now (replies_from at self.now.turns.now)) }
+    {
+        match self.written_to(key, value, at)? {
+            Told::Due(action) => Ok(action),
+            Told::Goes((), _) => Ok(Action::Ok),
+        }
     }
-}
 
-/// The candidates are kept, and then the transaction is valid.
-pub(crate) fn keep(
-    alloc: Global,
-    candidates: Items<SettingCandidate>,
-    turns: &[Turn],
-    at: usize,
-) -> Result<Action, AllocError>
-    ensures { IfOk result (λ action. action ≡ write proposals (kept_text candidates) (replies_from at turns.now)) }
-{
-    let text = kept_text(alloc, candidates)?;
-    write(alloc, PROPOSALS, text.as_str(), turns, at)
+    /// The candidates are kept, and then the transaction is valid.
+    pub(crate) fn keep(
+        &self,
+        candidates: Items<SettingCandidate>,
+        at: usize,
+    ) -> Result<Action, AllocError>
+        ensures { IfOk result (λ action. action
+            ≡ write proposals (kept_text candidates) (replies_from at self.now.turns.now)) }
+    {
+        let text = kept_text(self.alloc, candidates)?;
+        self.write(PROPOSALS, text.as_str(), at)
+    }
 }

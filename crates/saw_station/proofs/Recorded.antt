@@ -9,7 +9,7 @@ use Rattle.saw_messages.specs.declared.talk.Place.{Place}
 use Rattle.saw_messages.specs.declared.talk.Place.TheVariants.{At, Bad}
 use Rattle.saw_context.specs.Access.{Access, map_of_access, origin_by, read_at, reads_by}
 use Rattle.saw_context.specs.Conversation.{asked_at, asked_by, address_in, body_of, first_refused, is_granted, seen_by, unless_refused}
-use Rattle.saw_context.specs.Results.{IsOf, IsOfBase, IsSeen, IsSeenAs, as_asked, is_own}
+use Rattle.saw_context.specs.SoundResults.{IsOf, IsOfBase, IsSeen, IsSeenAs, as_asked, is_own}
 use Rattle.saw_context.specs.Views.{Layers, layered}
 use Rattle.saw_context.specs.declared.reads.Origin.TheVariants.{Base}
 use Rattle.saw_context.specs.declared.reads.Read.{Read}
@@ -27,14 +27,17 @@ own_by None None = refl
 
 asked_of : (access : Access) (place : Place) → as_asked (read_at access place) ≡ asked_at access.own place
 asked_of access place =
-    ap (λ (own : Bool). record { address = address_in place; own = own }) (own_by (finite.get access.own (address_in place)) (finite.get access.layers (address_in place)))
+    ap (λ (own : Bool). record { address = address_in place; own = own })
+    (own_by (finite.get access.own (address_in place)) (finite.get access.layers (address_in place)))
 
 asked_of_all : (access : Access) (places : List Place) → map as_asked (map (read_at access) places) ≡ map (asked_at access.own) places
 asked_of_all access [] = refl
-asked_of_all access (place ∷ places) = ap (λ asked. asked ∷ map as_asked (map (read_at access) places)) (asked_of access place) ∙ ap (λ all. asked_at access.own place ∷ all) (asked_of_all access places)
+asked_of_all access (place ∷ places) = ap (λ asked. asked ∷ map as_asked (map (read_at access) places)) (asked_of access place)
+    ∙ ap (λ all. asked_at access.own place ∷ all) (asked_of_all access places)
 
 asked_unless : (access : Access) (places : List Place) (refused : Option ℕ)
-    → map as_asked (unless_refused refused (λ index. []) (map (read_at access) places)) ≡ unless_refused refused (λ index. []) (map (asked_at access.own) places)
+    → map as_asked (unless_refused refused (λ index. []) (map (read_at access) places)) ≡ unless_refused refused (λ index. [])
+    (map (asked_at access.own) places)
 asked_unless access places None = asked_of_all access places
 asked_unless access places (Some index) = refl
 
@@ -49,7 +52,8 @@ asked_is access (actions.Invalid reason) = refl
 
 -- ---- what the reads tell
 
-of_map_by : (own : Option (Option (List ℕ))) (layer : Option ViewEntry) (below : Option (List ℕ)) → is_own (origin_by own layer) ≡ false → body_of below ≡ seen_by own below
+of_map_by : (own : Option (Option (List ℕ))) (layer : Option ViewEntry) (below : Option (List ℕ)) → is_own (origin_by own layer) ≡ false
+    → body_of below ≡ seen_by own below
 of_map_by (Some change) layer below e = absurd cc
 of_map_by None (Some entry) below e = refl
 of_map_by None None below e = refl
@@ -60,7 +64,8 @@ seen_as layers at (Some change) layer below e = tt
 seen_as layers at None (Some entry) below e = (entry.value, e, refl)
 seen_as layers at None None below e = e
 
-of_base_by : (own : Option (Option (List ℕ))) (layer : Option ViewEntry) (below : Option (List ℕ)) → origin_by own layer ≡ Base → body_of below ≡ seen_by own (layered layer below)
+of_base_by : (own : Option (Option (List ℕ))) (layer : Option ViewEntry) (below : Option (List ℕ)) → origin_by own layer ≡ Base
+    → body_of below ≡ seen_by own (layered layer below)
 of_base_by (Some change) layer below e = absurd cc
 of_base_by None (Some entry) below e = absurd cc
 of_base_by None None below e = refl
@@ -74,7 +79,8 @@ read_of_map access Bad granted own = absurd (bad_granted access.header.inputs gr
 
 read_seen : (access : Access) (place : Place) → is_granted access.header.inputs place ≡ true → IsSeen access.layers (read_at access place)
 read_seen access (At at) granted =
-    rw (value_at-over access.base access.layers at) (seen_as access.layers at (finite.get access.own at) (finite.get access.layers at) (value_at access.base at) refl)
+    rw (value_at-over access.base access.layers at) (seen_as access.layers at (finite.get access.own at) (finite.get access.layers at)
+    (value_at access.base at) refl)
 read_seen access Bad granted = absurd (bad_granted access.header.inputs granted)
 
 read_of_base : (access : Access) (place : Place) → is_granted access.header.inputs place ≡ true → IsOfBase access.base (read_at access place)
@@ -85,9 +91,11 @@ read_of_base access Bad granted from = absurd (bad_granted access.header.inputs 
 -- ---- the same of all reads of a request
 
 module _ (access : Access) (P : Read → Type 0) (one : (place : Place) → is_granted access.header.inputs place ≡ true → P (read_at access place)) where
-  all_unless : (places : List Place) (refused : Option ℕ) → first_refused access.header.inputs places ≡ refused → AllByRecursion P (unless_refused refused (λ index. []) (map (read_at access) places))
+  all_unless : (places : List Place) (refused : Option ℕ) → first_refused access.header.inputs places ≡ refused
+      → AllByRecursion P (unless_refused refused (λ index. []) (map (read_at access) places))
   all_unless places None e =
-      all_map (read_at access) P places (all_weaker (λ place. is_granted access.header.inputs place ≡ true) (λ place. P (read_at access place)) one places (granted_all access.header.inputs places e))
+      all_map (read_at access) P places (all_weaker (λ place. is_granted access.header.inputs place ≡ true)
+      (λ place. P (read_at access place)) one places (granted_all access.header.inputs places e))
   all_unless places (Some index) e = tt
 
   all_read : (action : Action) → AllByRecursion P (reads_by access action)

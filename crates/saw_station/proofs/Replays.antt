@@ -26,7 +26,8 @@ replay_last [] last = refl
 replay_last (turn ∷ said) last = replay_last said last
 
 -- by the reasons that were said
-pub replay_own : (said : List Turn) (last : Action) (turns : List Turn) → AllByRecursion (λ turn. has_own_reason turn.action ≡ true) said → has_own_reason last ≡ true → has_own_reason (replay said last turns) ≡ true
+pub replay_own : (said : List Turn) (last : Action) (turns : List Turn) → AllByRecursion (λ turn. has_own_reason turn.action ≡ true) said
+    → has_own_reason last ≡ true → has_own_reason (replay said last turns) ≡ true
 replay_own [] last turns all own = own
 replay_own (turn ∷ said) last [] all own = all.0
 replay_own (turn ∷ said) last (first ∷ turns) all own = replay_own said last turns all.1 own

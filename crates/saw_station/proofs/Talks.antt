@@ -5,7 +5,7 @@ use Rattle.std.proofs.lemmas.List.{length-map, map-append}
 use Rattle.std.specs.List.{AllByRecursion}
 use Rattle.saw_address.specs.Maps.{StateMap}
 use Rattle.saw_messages.specs.Reasons.{has_own_reason}
-use Rattle.saw_messages.specs.Shapes.{TxShape}
+use Rattle.saw_messages.specs.TxShapes.{TxShape}
 use Rattle.saw_messages.specs.declared.outcome.Change.{Change}
 use Rattle.saw_messages.specs.declared.receipt.Event.{Event}
 use Rattle.saw_messages.specs.declared.talk.Action.{Action}
@@ -18,18 +18,19 @@ use Rattle.saw_messages.specs.declared.transaction.TransactionHeader.{Transactio
 use Rattle.saw_context.specs.Access.{Access, access_after, map_of_access, no_access, reads_by}
 use Rattle.saw_context.specs.Conversation.{Asked, Overlay, asked_by, events_after, first_refused, own_after, places_of, reply_to, seen_place, unless_refused}
 use Rattle.saw_context.specs.Outcome.{Talk, after_request, changes_of, conversation, followed, is_request, max_requests}
-use Rattle.saw_context.specs.Results.{IsOf, IsOfBase, IsSeen, as_asked}
+use Rattle.saw_context.specs.SoundResults.{IsOf, IsOfBase, IsSeen, as_asked}
 use Rattle.saw_context.specs.Views.{Layers}
 use Rattle.saw_context.specs.declared.reads.Read.{Read}
 use Rattle.saw_context.proofs.Each.{all_append}
 use Rattle.saw_station.specs.Spoken.{Gives, IsSpoken}
-use Rattle.saw_station.specs.Steps.{Step, Follows, IsOfLast, KeepsStep, fits}
+use Rattle.saw_station.specs.TalkSteps.{Step, Follows, IsOfLast, KeepsStep, fits}
 use Rattle.saw_station.proofs.Giving.{gives_none, gives_push, gives_front, gives_last}
 use Rattle.saw_station.proofs.Recorded.{asked_is, reads_of_map, reads_seen, reads_of_base}
 
 -- ---- steps of a station
 
-fits_unless : (places : List Place) (bodies : List (List ℕ)) (refused : Option ℕ) → fits (actions.Get places) (Entries bodies) ≡ true → fits (actions.Get places) (unless_refused refused Unauthorized (Entries bodies)) ≡ true
+fits_unless : (places : List Place) (bodies : List (List ℕ)) (refused : Option ℕ) → fits (actions.Get places) (Entries bodies) ≡ true
+    → fits (actions.Get places) (unless_refused refused Unauthorized (Entries bodies)) ≡ true
 fits_unless places bodies None h = h
 fits_unless places bodies (Some index) h = refl
 
@@ -39,17 +40,20 @@ module _ (fit : Reply → Bool) (done : fit Done ≡ true) (refuse : (index : �
   fits_done (Some index) = refuse index
 
 -- the reply to a request fits it
-pub reply_fits : (header : TransactionHeader) (m : StateMap) (own : Overlay) (action : Action) → is_request action ≡ true → fits action (reply_to header m own action) ≡ true
+pub reply_fits : (header : TransactionHeader) (m : StateMap) (own : Overlay) (action : Action) → is_request action ≡ true
+    → fits action (reply_to header m own action) ≡ true
 reply_fits header m own (actions.Get places) is =
     fits_unless places (map (seen_place m own) places) (first_refused header.inputs places) (eq-eqb _ _ (length-map places (seen_place m own)))
-reply_fits header m own (actions.Set entries) is = fits_done (fits (actions.Set entries)) refl (λ index. refl) (first_refused header.outputs (places_of entries))
+reply_fits header m own (actions.Set entries) is = fits_done (fits (actions.Set entries)) refl (λ index. refl)
+    (first_refused header.outputs (places_of entries))
 reply_fits header m own (actions.Delete places) is = fits_done (fits (actions.Delete places)) refl (λ index. refl) (first_refused header.outputs places)
 reply_fits header m own (actions.AddEvent event) is = refl
 reply_fits header m own actions.Ok is = absurd cc
 reply_fits header m own (actions.Invalid reason) is = absurd cc
 
 -- the turns that a station kept, with one more
-pub follows_kept : (last : Option Step) (tx : TxShape) (turns : List Turn) (action : Action) (reply : Reply) → KeepsStep last tx turns action → fits action reply ≡ true
+pub follows_kept : (last : Option Step) (tx : TxShape) (turns : List Turn) (action : Action) (reply : Reply) → KeepsStep last tx turns action
+    → fits action reply ≡ true
     → Follows last tx (turns ++ record { action = action; reply = reply } ∷ [])
 follows_kept last tx turns action reply (inl none) fit = rw none tt
 follows_kept last tx turns action reply (inr some) fit = rw some (refl, (reply, fit, refl))
@@ -68,7 +72,8 @@ talk_of turns access = record { turns = turns; own = access.own; events = access
 abbrev pub more_turns : List Turn → Access → Action → List Turn
 more_turns turns access action = turns ++ record { action = action; reply = reply_to access.header (map_of_access access) access.own action } ∷ []
 
-asked_more : (access : Access) (action : Action) → map as_asked (access.reads ++ reads_by access action) ≡ map as_asked access.reads ++ asked_by access.header access.own action
+asked_more : (access : Access) (action : Action) → map as_asked (access.reads ++ reads_by access action) ≡ map as_asked access.reads
+    ++ asked_by access.header access.own action
 asked_more access action = map-append as_asked access.reads (reads_by access action) ∙ ap (λ more. map as_asked access.reads ++ more) (asked_is access action)
 
 after_is : (f : List Turn → Action) (turns : List Turn) (access : Access) (action : Action)
@@ -85,7 +90,8 @@ after_is f turns access action =
 module _ (f : List Turn → Action) (turns : List Turn) (access : Access) (action : Action) (is : f turns ≡ action) where
   -- one more request, of which so many more are answered
   goes_on : (left more : ℕ) → left ≡ suc more → is_request action ≡ true
-      → followed f access.header (map_of_access access) left (talk_of turns access) ≡ followed f access.header (map_of_access access) more (talk_of (more_turns turns access action) (access_after access action))
+      → followed f access.header (map_of_access access) left (talk_of turns access) ≡ followed f access.header (map_of_access access) more
+      (talk_of (more_turns turns access action) (access_after access action))
   unfolding followed
   goes_on left more count asks = rw (count, is, asks) (ap (followed f access.header (map_of_access access) more) (after_is f turns access action))
 
@@ -101,7 +107,8 @@ unfolding followed
 stops f header m left talk none = rw none refl
 
 -- So far these turns were spoken, over a context that came of them, and so many more requests are answered.
-pub record IsSoFar (tells : Bool) (next : List Turn → Action) (header : TransactionHeader) (base : StateMap) (layers : Layers) (left : ℕ) (turns : List Turn) (access : Access) : Type 0 where
+pub record IsSoFar (tells : Bool) (next : List Turn → Action) (header : TransactionHeader) (base : StateMap) (layers : Layers) (left : ℕ)
+    (turns : List Turn) (access : Access) : Type 0 where
   pub header_is : access.header ≡ header
   pub base_is : access.base ≡ base
   pub layers_is : access.layers ≡ layers
@@ -149,8 +156,10 @@ module _ (tells : Bool) (next : List Turn → Action) (header : TransactionHeade
     last_of left (inl asks) f is = ends f turns access action is left asks
     last_of left (inr none) f is = stops f access.header (map_of_access access) left (talk_of turns access) none
 
-    pub spoken_whole : (left : ℕ) (changes : List Change) (events : List Event) (reads : List Read) → (is_request action ≡ false) ⊎ (left ≡ 0) → IsSoFar tells next header base layers left turns access
-        → changes ≡ changes_of access.own → events ≡ access.events → reads ≡ access.reads → IsSpoken tells next header base layers turns action changes events reads
+    pub spoken_whole : (left : ℕ) (changes : List Change) (events : List Event) (reads : List Read) → (is_request action ≡ false) ⊎ (left ≡ 0)
+        → IsSoFar tells next header base layers left turns access
+        → changes ≡ changes_of access.own → events ≡ access.events → reads ≡ access.reads
+        → IsSpoken tells next header base layers turns action changes events reads
     spoken_whole left changes events reads end so_far changed added recorded = record {
       own = access.own;
       made = changed;

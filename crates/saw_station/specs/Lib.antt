@@ -1,6 +1,6 @@
-pub mod Steps
+pub mod TalkSteps
 pub mod Serving
 pub mod Spoken
-pub mod Answers
-pub mod Desks
-pub mod Results
+pub mod AccessReplies
+pub mod DeskPlaces
+pub mod RunResults

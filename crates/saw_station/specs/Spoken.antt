@@ -10,7 +10,7 @@ use Rattle.saw_messages.specs.declared.talk.Turn.{Turn}
 use Rattle.saw_messages.specs.declared.transaction.TransactionHeader.{TransactionHeader}
 use Rattle.saw_context.specs.Conversation.{Overlay}
 use Rattle.saw_context.specs.Outcome.{changes_of, conversation}
-use Rattle.saw_context.specs.Results.{IsOf, IsOfBase, IsSeen, as_asked}
+use Rattle.saw_context.specs.SoundResults.{IsOf, IsOfBase, IsSeen, as_asked}
 use Rattle.saw_context.specs.Views.{Layers, over}
 use Rattle.saw_context.specs.declared.reads.Read.{Read}
 

@@ -3,7 +3,7 @@
 ghost use Rattle.std.specs.Prelude.{◌≡◌, IfOk, OnOk, OnErr};
 ghost use Rattle.saw_context.specs.Access.{access_after, map_of_access};
 ghost use Rattle.saw_context.specs.Conversation.{reply_to};
-ghost use Rattle.saw_station.specs.Answers.{unauthorized};
+ghost use Rattle.saw_station.specs.AccessReplies.{unauthorized};
 
 use saw_address::Base;
 use saw_context::{AccessFault, Context};

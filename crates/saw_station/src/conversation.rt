@@ -4,7 +4,7 @@ ghost use Rattle.std.specs.Prelude.{◌≡◌, ◌≤◌, false, true, IfOk, IsE
 ghost use Rattle.saw_context.specs.Access.{no_access};
 ghost use Rattle.saw_context.specs.Outcome.{changes_of, is_request};
 ghost use Rattle.saw_faults.specs.Counts.{Rose};
-ghost use Rattle.saw_messages.specs.Shapes.{shape_of};
+ghost use Rattle.saw_messages.specs.TxShapes.{shape_of};
 ghost use Rattle.saw_station.specs.Spoken.{IsSpoken};
 
 use crate::answer::answer;

@@ -2,7 +2,7 @@
 
 ghost use Rattle.std.specs.Prelude.{◌≡◌};
 ghost use Rattle.std.specs.Arc.{arc_value};
-ghost use Rattle.saw_station.specs.Desks.{IsOpen};
+ghost use Rattle.saw_station.specs.DeskPlaces.{IsOpen};
 
 use crate::offer::Offer;
 use crate::station::Station;
@@ -19,7 +19,7 @@ pub struct Desk<R: Station> {
 
 impl<R: Station> Model for Desk<R> {
     ghost use Rattle.std.specs.Arc.{arc_value};
-    ghost use Rattle.saw_station.specs.Desks.{Place, IsOpen};
+    ghost use Rattle.saw_station.specs.DeskPlaces.{Place, IsOpen};
 
     ghost Value = { Place R };
 

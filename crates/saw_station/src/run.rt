@@ -4,14 +4,14 @@ ghost use Rattle.std.specs.Prelude.{◌≡◌, ◌≤◌, false, true, is_some, 
 ghost use Rattle.std.specs.Arc.{arc_value};
 ghost use Rattle.std.specs.List.{AllByRecursion};
 ghost use Rattle.saw_context.specs.Access.{no_access};
-ghost use Rattle.saw_context.specs.Outcome.{are_declared};
+ghost use Rattle.saw_context.specs.Outcome.{are_declared, outcome_at};
 ghost use Rattle.saw_context.specs.Possible.{MayCome};
-ghost use Rattle.saw_context.specs.Results.{Agrees, IsOfBase, IsSoundDone};
+ghost use Rattle.saw_context.specs.SoundResults.{Agrees, IsOfBase, IsSoundDone};
 ghost use Rattle.saw_context.specs.Views.{layers_of, over};
 ghost use Rattle.saw_faults.specs.Counts.{Rose};
-ghost use Rattle.saw_messages.specs.Shapes.{shape_of};
-ghost use Rattle.saw_station.specs.Desks.{faults_by, offered_by, talking_by};
-ghost use Rattle.saw_station.specs.Results.{IsRefusal, IsResult, IsTalk, outcome_at};
+ghost use Rattle.saw_messages.specs.TxShapes.{shape_of};
+ghost use Rattle.saw_station.specs.DeskPlaces.{faults_by, offered_by, talking_by};
+ghost use Rattle.saw_station.specs.RunResults.{IsRefusal, IsResult, IsTalk};
 ghost use Rattle.saw_station.specs.Serving.{next_by, processors_at, serving, tells_by};
 ghost use Rattle.saw_station.specs.Spoken.{IsSpoken};
 

@@ -4,13 +4,13 @@ ghost use Rattle.std.specs.Prelude.{◌≡◌, ◌≤◌, ℕ, List, [], Bool, t
 ghost use Rattle.saw_context.specs.Outcome.{is_request};
 ghost use Rattle.saw_faults.specs.Counts.{Rose};
 ghost use Rattle.saw_messages.specs.Reasons.{has_own_reason};
-ghost use Rattle.saw_messages.specs.Shapes.{TxShape, shape_of};
+ghost use Rattle.saw_messages.specs.TxShapes.{TxShape, shape_of};
 ghost use Rattle.saw_messages.specs.declared.outcome.Reason.TheVariants.{Remote};
 ghost use Rattle.saw_messages.specs.declared.talk.Action.{Action};
 ghost use Rattle.saw_messages.specs.declared.talk.Action.TheVariants as actions;
 ghost use Rattle.saw_messages.specs.declared.talk.Turn.{Turn};
 ghost use Rattle.saw_station.specs.declared.offer.Offer.{Offer};
-ghost use Rattle.saw_station.specs.Steps.{Step, MayFollow, IsOfLast, KeepsStep, IsShort};
+ghost use Rattle.saw_station.specs.TalkSteps.{Step, MayFollow, IsOfLast, KeepsStep, IsShort};
 
 use crate::fault::StationFault;
 use crate::offer::Offer;

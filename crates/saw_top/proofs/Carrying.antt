@@ -59,10 +59,19 @@ module _ (processors : Processors) (before : Outside) (held : End Files) where
   nothing : (task : Task) (ready : Result Prepared RunFault) (came : Result ℕ RunFault) → HasCause processors task ready before still came
       → ((bytes : List ℕ) (left : Option (List ℕ)) → EndsBy (answer_for processors task ready bytes) bytes left (sides_of before still) came)
       → Does processors task ready before still came
-  nothing task ready came cause ends = record { cause = cause; lines = []; aside = λ same. refl; noted = Appends-nil before.notes.tells; later = omega arith; shows = here before.input.tells }
+  nothing task ready came cause ends = record {
+    cause = cause;
+    lines = [];
+    aside = λ same. refl;
+    noted = Appends-nil before.notes.tells;
+    later =
+        omega arith;
+    shows = here before.input.tells;
+  }
     where
       here : (first : Option (List ℕ))
-          → IfSome first (λ bytes. RestsOn processors (answer_for processors task ready bytes) → Shows (answer_for processors task ready bytes) bytes first (sides_of before still) came)
+          → IfSome first (λ bytes. RestsOn processors (answer_for processors task ready bytes)
+          → Shows (answer_for processors task ready bytes) bytes first (sides_of before still) came)
       here None = tt
       here (Some bytes) = λ rests. record {
         output = no_front (answer_for processors task ready bytes).output before.output.tells;
@@ -119,15 +128,19 @@ module _ (accepts : Accepts) (processors : Processors) (task : Task) (list : Opt
           → HasCause processors task (Err fault) before asked (Err fault)
           → ((bytes : List ℕ) (left : Option (List ℕ)) → EndsBy (faulty fault) bytes left (sides_of before asked) (Err fault))
           → CarriesOut (world_with accepts processors) wish before asked (Err fault)
-      of_list fault other named is cause ends = carried fault other named (subst (λ (r : Result Prepared RunFault). Does processors task r before asked (Err fault)) (sym is) (faulted processors before held task fault cause ends))
+      of_list fault other named is cause ends = carried fault other named
+          (subst (λ (r : Result Prepared RunFault). Does processors task r before asked (Err fault)) (sym is)
+          (faulted processors before held task fault cause ends))
 
       by_fault : (fault : RunFault) → PreparesBy accepts list before.shelf held (ready_by prepares.files) (Err fault)
           → CarriesOut (world_with accepts processors) wish before asked (Err fault)
       by_fault runs.FileMissing by = of_list runs.FileMissing (λ same. cc) (λ same. absurd cc) by.0 (refl, refl) (whole runs.FileMissing _ _)
       by_fault runs.FileTooLong by = of_list runs.FileTooLong (λ same. cc) (λ same. absurd cc) by.0 (refl, refl) (whole runs.FileTooLong _ _)
       by_fault (runs.BadLine line) by = of_list (runs.BadLine line) (λ same. cc) (λ same. absurd cc) by.0 (refl, refl) (whole (runs.BadLine line) _ _)
-      by_fault runs.FileFailed by = carried runs.FileFailed (λ same. cc) (λ same. by.0) (nothing processors before held task (ready_by prepares.files) (Err runs.FileFailed) (by.1, refl) (λ bytes left. tt))
-      by_fault runs.Memory by = carried runs.Memory (λ same. cc) (λ same. absurd cc) (nothing processors before held task (ready_by prepares.files) (Err runs.Memory) tt (λ bytes left. tt))
+      by_fault runs.FileFailed by = carried runs.FileFailed (λ same. cc) (λ same. by.0)
+          (nothing processors before held task (ready_by prepares.files) (Err runs.FileFailed) (by.1, refl) (λ bytes left. tt))
+      by_fault runs.Memory by = carried runs.Memory (λ same. cc) (λ same. absurd cc)
+          (nothing processors before held task (ready_by prepares.files) (Err runs.Memory) tt (λ bytes left. tt))
       by_fault fault by = absurd cc
 
   module _ (made : Accepts) (prepares : Prepares accepts list before.shelf held (Ok made)) where

@@ -1,5 +1,6 @@
 -- Desks with equal offers, whose processors tell their actions.
-use Rattle.std.proofs.Common.{◌≡◌, ◌⊎◌, ◌<◌, inl, inr, ℕ, Bool, true, false, List, [], ◌∷◌, ◌++◌, length, length-append, Option, Some, None, refl, ap, subst, arith}
+use Rattle.std.proofs.Common.{◌≡◌, ◌⊎◌, ◌<◌, inl, inr, ℕ, Bool, true, false, List, [], ◌∷◌, ◌++◌, length, length-append, Option, Some, None, refl, ap}
+use Rattle.std.proofs.Common.{subst, arith}
 use Rattle.std.specs.Prelude.{is_some}
 use Rattle.std.proofs.Math.Path.{fun_ext}
 use Rattle.saw_context.proofs.Coming.{from_told}
@@ -10,15 +11,15 @@ use Rattle.saw_crew.specs.Desks.{Failed, KeepsDesks}
 use Rattle.saw_faults.specs.Counts.{Rose}
 use Rattle.saw_journal.specs.Judgement.{Rules, Runs, rules_with}
 use Rattle.saw_journal.specs.Ledger.{IsFull, Ledger, RunsBy, Says}
-use Rattle.saw_messages.specs.Shapes.{TxShape}
+use Rattle.saw_messages.specs.TxShapes.{TxShape}
 use Rattle.saw_messages.specs.declared.talk.Action.{Action}
 use Rattle.saw_messages.specs.declared.talk.Turn.{Turn}
 use Rattle.saw_node.specs.Hashes.{first_half}
 use Rattle.saw_receipts.specs.declared.block.BlockRecord.{BlockRecord}
 use Rattle.saw_receipts.specs.declared.verdict.Verdict.{Verdict}
 use Rattle.saw_receipts.specs.declared.verdict.Verdict.TheVariants.{Committed, Stored, Refused}
-use Rattle.saw_report.specs.Lines.{is_accepted}
-use Rattle.saw_station.specs.Desks.{Place, faults_by}
+use Rattle.saw_receipts.specs.Verdicts.{is_accepted}
+use Rattle.saw_station.specs.DeskPlaces.{Place, faults_by}
 use Rattle.saw_intkey.specs.Actions as intkey
 use Rattle.saw_settings.specs.Actions as settings
 use Rattle.saw_station.specs.Serving.{is_family, is_offered, processors_at}
@@ -45,7 +46,8 @@ module _ {R : Type 0} (faults : R → ℕ) (offered : R → List Offer) where
   failed_rose [] news keeps failed = absurd failed
   failed_rose (old ∷ olds) [] keeps failed = absurd failed
   failed_rose (old ∷ olds) (new ∷ news) keeps (inl rose) = counted old.remote new.remote old.offers new.offers olds news keeps.0.remote (inl rose)
-  failed_rose (old ∷ olds) (new ∷ news) keeps (inr failed) = counted old.remote new.remote old.offers new.offers olds news keeps.0.remote (inr (failed_rose olds news keeps.1 failed))
+  failed_rose (old ∷ olds) (new ∷ news) keeps (inr failed) =
+      counted old.remote new.remote old.offers new.offers olds news keeps.0.remote (inr (failed_rose olds news keeps.1 failed))
 
 -- ---- the built-in processors alone
 
@@ -54,7 +56,8 @@ none_left before None same none = refl
 none_left None (Some remote) same none = absurd cc
 none_left (Some later) (Some remote) same none = absurd cc
 
-none_counted : {R : Type 0} (faults : R → ℕ) (remote : Option R) (offers : List Offer) → remote ≡ None → counts_of faults (record { remote = remote; offers = offers } ∷ []) ≡ []
+none_counted : {R : Type 0} (faults : R → ℕ) (remote : Option R) (offers : List Offer) → remote ≡ None
+    → counts_of faults (record { remote = remote; offers = offers } ∷ []) ≡ []
 none_counted faults None offers none = refl
 none_counted faults (Some remote) offers none = absurd cc
 
@@ -63,7 +66,11 @@ pub lone_counts : {R : Type 0} (faults : R → ℕ) (offered : R → List Offer)
     → KeepsDesks faults offered (desk ∷ []) news
     → (counts_of faults (desk ∷ []) ≡ []) × (counts_of faults news ≡ [])
 lone_counts faults offered desk [] none keeps = absurd keeps
-lone_counts faults offered desk (new ∷ []) none keeps = (none_counted faults desk.remote desk.offers none, none_counted faults new.remote new.offers (none_left desk.remote new.remote keeps.0.remote none))
+lone_counts faults offered desk (new ∷ []) none keeps = (
+  none_counted faults desk.remote desk.offers none,
+  none_counted faults new.remote new.offers
+      (none_left desk.remote new.remote keeps.0.remote none),
+)
 lone_counts faults offered desk (new ∷ (other ∷ others)) none keeps = absurd keeps.1
 
 -- ---- all is told
@@ -98,7 +105,8 @@ module _ (processors : Processors) (told : TellsAll processors) where
   batches_told [] = refl
   batches_told (txs ∷ batches) = rw (txs_told txs) (batches_told batches)
 
-module _ (processors : Processors) (told : TellsAll processors) (accepts : Accepts) (old : Ledger) (content : List ℕ) (runs : Runs) (by : RunsBy processors runs) where
+module _ (processors : Processors) (told : TellsAll processors) (accepts : Accepts) (old : Ledger) (content : List ℕ) (runs : Runs)
+    (by : RunsBy processors runs) where
   one_way : runs ≡ (λ m batches. serial processors m batches)
   one_way = fun_ext (λ m. fun_ext (λ batches. from_told processors [] m batches (runs m batches) (batches_told processors told batches) (by.serial m batches)))
 

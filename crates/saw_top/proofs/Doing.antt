@@ -1,5 +1,6 @@
 -- What a task does, by how the judging of the stream ended and what was written behind it.
-use Rattle.std.proofs.Common.{◌≡◌, ◌⊎◌, ◌≤◌, inl, inr, ℕ, Bool, true, false, List, [], ◌++◌, length, take, Option, Some, None, Result, Ok, Err, refl, sym, ap, subst, ◌∙◌, append_assoc, arith}
+use Rattle.std.proofs.Common.{◌≡◌, ◌⊎◌, ◌≤◌, inl, inr, ℕ, Bool, true, false, List, [], ◌++◌, length, take, Option, Some, None, Result, Ok, Err, refl}
+use Rattle.std.proofs.Common.{sym, ap, subst, ◌∙◌, append_assoc, arith}
 use Rattle.std.specs.Prelude.{IfErr, IfOk, IfSome, IsErrOf, OnErr, if◌then◌else◌, ◌==◌}
 use Rattle.std.specs.FinMap as finite
 use Rattle.std.specs.Io.KnownBytes.{Appends}
@@ -19,16 +20,16 @@ use Rattle.saw_report.specs.declared.run_fault.RunFault.TheVariants as runs
 use Rattle.saw_report.specs.declared.run_fault.RunFault.{RunFault}
 use Rattle.saw_top.specs.Answers.{vouched}
 use Rattle.saw_top.specs.Ends.{code_at, text_at}
-use Rattle.saw_top.specs.Faults.{IsOfStream}
+use Rattle.saw_top.specs.EndingFaults.{IsOfStream}
 use Rattle.saw_top.specs.Headline.{Does, EndsBy, GoesOn, HasCause, HasFault, IsDone, KeepsUp, RestsOn, Shows}
 use Rattle.saw_top.specs.History.{History, map_behind, records_of}
-use Rattle.saw_top.specs.Judged.{JudgesFor}
-use Rattle.saw_top.specs.Judging.{IsPrompt, IsUpToDate, Judges, JudgesAll, JudgesBy, JudgesTo, WhereRootsTell}
+use Rattle.saw_top.specs.StreamJudging.{JudgesFor}
+use Rattle.saw_top.specs.StreamJudging.{IsPrompt, IsUpToDate, Judges, JudgesAll, JudgesBy, JudgesTo, WhereRootsTell}
 use Rattle.saw_top.specs.Listing.{entries_under, listing, listing_status}
 use Rattle.saw_top.specs.Outside.{End, Outside, Sides, SomeRose, WritesFront, lines_side, other_side, sides_of}
 use Rattle.saw_top.specs.Reports.{report}
 use Rattle.saw_top.specs.Run.{Answer, AtEnd, end_by, ending_of, fault_of, history_of, noted_by, run_of, status_by, task_answer, written_by}
-use Rattle.saw_top.specs.Standing.{IsKept}
+use Rattle.saw_top.specs.KeptBlocks.{IsKept}
 use Rattle.saw_top.specs.World.{Accepts, TellsAll, rules_by}
 use Rattle.saw_top.specs.declared.task.Ending.{Ending}
 use Rattle.saw_top.specs.declared.task.Ending.TheVariants.{Head, Entries}
@@ -60,7 +61,8 @@ module _ (before middle : Outside) (run : History) where
   -- with more behind them
   placed : (lines : Lines) → other_side lines middle ≡ other_side lines before → (more : List ℕ)
       → Appends (lines_side lines before).tells (lines_side lines middle).tells (report lines 0 run.said ++ more)
-      → ((more : List ℕ) × Appends before.output.tells middle.output.tells (written_by lines run ++ more)) × ((more : List ℕ) × Appends before.notes.tells middle.notes.tells (noted_by lines run ++ more))
+      → ((more : List ℕ) × Appends before.output.tells middle.output.tells (written_by lines run ++ more))
+      × ((more : List ℕ) × Appends before.notes.tells middle.notes.tells (noted_by lines run ++ more))
   placed All aside more wrote = ((more, wrote), ([], unmoved before.notes middle.notes aside))
   placed Refused aside more wrote = (([], unmoved before.output middle.output aside), (more, wrote))
 
@@ -92,7 +94,8 @@ none_noted : (rules : Rules) (ending : Ending) (run : History) → (ending_of ru
 none_noted rules Head run = refl
 none_noted rules (Entries prefix) run = refl
 
-module _ (rules : Rules) (task : Task) (bytes : List ℕ) (left : Option (List ℕ)) (before middle : Outside) (aside : other_side task.lines middle ≡ other_side task.lines before) where
+module _ (rules : Rules) (task : Task) (bytes : List ℕ) (left : Option (List ℕ)) (before middle : Outside)
+    (aside : other_side task.lines middle ≡ other_side task.lines before) where
   abbrev answer : Answer
   answer = task_answer rules task bytes
 
@@ -117,7 +120,19 @@ module _ (rules : Rules) (task : Task) (bytes : List ℕ) (left : Option (List �
   keeps_up : IsUpToDate rules task.lines bytes left old mid → KeepsUp answer bytes left at
   keeps_up up =
       let there = placed_all before middle (history_of rules up.frames) task.lines aside up.written in
-      record { frames = up.frames; rest = up.rest; reads = up.reads; told = up.told; few = up.few; taken = up.taken; consumed = up.consumed; part = up.part; output = there.0; notes = there.1 }
+      record {
+        frames = up.frames;
+        rest = up.rest;
+        reads = up.reads;
+        told = up.told;
+        few = up.few;
+        taken = up.taken;
+        consumed = up.consumed;
+        part =
+            up.part;
+        output = there.0;
+        notes = there.1;
+      }
 
   -- the judging ended with a fault of the stream
   shows_to : (fault : RunFault) → JudgesTo rules task.lines bytes old mid fault → HasFault answer bytes left at fault
@@ -158,7 +173,8 @@ module _ (rules : Rules) (task : Task) (bytes : List ℕ) (left : Option (List �
           told = prompt.told;
           next = prompt.next;
           more = there.0.0 ++ more;
-          output = subst (Appends at.old out.tells) (append_assoc (answer.output_for prompt.frames) there.0.0 more) (Appends-trans at.old at.new out.tells (answer.output_for prompt.frames ++ there.0.0) more there.0.1 wrote);
+          output = subst (Appends at.old out.tells) (append_assoc (answer.output_for prompt.frames) there.0.0 more)
+              (Appends-trans at.old at.new out.tells (answer.output_for prompt.frames ++ there.0.0) more there.0.1 wrote);
           noted = there.1.0;
           notes = there.1.1;
         }
@@ -176,7 +192,8 @@ module _ (rules : Rules) (task : Task) (bytes : List ℕ) (left : Option (List �
       }
 
   -- all blocks were judged, and then a part of the text at the end was written, or all of it
-  module _ (out : End (List ℕ)) (refused : Bool) (ledger : Ledger) (judged : Judges rules task.lines bytes left old mid ledger (Ok refused)) (text : List ℕ) (code : ℕ)
+  module _ (out : End (List ℕ)) (refused : Bool) (ledger : Ledger) (judged : Judges rules task.lines bytes left old mid ledger (Ok refused))
+      (text : List ℕ) (code : ℕ)
       (is : ((ending_of rules task.ending run).output ≡ text) × ((ending_of rules task.ending run).status ≡ code)) where
     abbrev last : Sides
     last = sides_of before (record middle { output = out })
@@ -215,7 +232,11 @@ module _ (rules : Rules) (task : Task) (bytes : List ℕ) (left : Option (List �
           judged.ends.fine,
         )
     finished (Err e) finish =
-        elim finish.which [ inl h ↦ rw h (shown (Err runs.Write) finish.cut.0 finish.cut.1 tt) | inr h ↦ rw h (shown (Err runs.Memory) finish.cut.0 finish.cut.1 tt) ]
+        elim finish.which [
+          | inl h ↦ rw h (shown (Err runs.Write) finish.cut.0 finish.cut.1 tt)
+          | inr h ↦ rw h
+              (shown (Err runs.Memory) finish.cut.0 finish.cut.1 tt)
+        ]
 
 -- ---- what a journal with all blocks has at the end
 
@@ -223,16 +244,20 @@ right_head : (rules : Rules) (accepted : List Kept) (states : States) → AllByR
     → head_of (records_of accepted) ≡ head
     → map_under states head ≡ map_behind rules accepted head
 right_head rules accepted states kept None is = refl
-right_head rules accepted states kept (Some block) is = of_head (IsRight rules accepted states) (records_of accepted) block (sym is) (all_right rules accepted states accepted kept)
+right_head rules accepted states kept (Some block) is = of_head (IsRight rules accepted states) (records_of accepted) block (sym is)
+    (all_right rules accepted states accepted kept)
 
 end_at : (rules : Rules) (lines : Lines) (ending : Ending) (bytes : List ℕ) (old mid : Option (List ℕ)) (refused : Bool) (ledger : Ledger)
     → JudgesAll rules lines bytes old mid refused ledger
-    → ((ending_of rules ending (run_of rules bytes)).output ≡ text_at ending ledger) × ((ending_of rules ending (run_of rules bytes)).status ≡ code_at ending ledger refused)
-end_at rules lines Head bytes first last refused ledger judged = (ap (λ (blocks : List BlockRecord). head_line (head_of blocks)) (sym judged.after.blocks), sym (ap status_by judged.some))
+    → ((ending_of rules ending (run_of rules bytes)).output ≡ text_at ending ledger)
+    × ((ending_of rules ending (run_of rules bytes)).status ≡ code_at ending ledger refused)
+end_at rules lines Head bytes first last refused ledger judged =
+    (ap (λ (blocks : List BlockRecord). head_line (head_of blocks)) (sym judged.after.blocks), sym (ap status_by judged.some))
 end_at rules lines (Entries prefix) bytes first last refused ledger judged =
     let blocks = records_of (run_of rules bytes).accepted in
     let same : map_behind rules (run_of rules bytes).accepted (head_of blocks) ≡ map_under ledger.states (head_of ledger.blocks) =
-    sym (right_head rules (run_of rules bytes).accepted ledger.states judged.after.kept (head_of blocks) refl) ∙ ap (λ (all : List BlockRecord). map_under ledger.states (head_of all)) (sym judged.after.blocks) in
+    sym (right_head rules (run_of rules bytes).accepted ledger.states judged.after.kept (head_of blocks) refl)
+    ∙ ap (λ (all : List BlockRecord). map_under ledger.states (head_of all)) (sym judged.after.blocks) in
     (ap (listing prefix) same, ap (listing_status prefix) same)
 
 -- ---- what was done
@@ -289,16 +314,19 @@ module _ (processors : Processors) (task : Task) (accepts : Accepts) (before : O
 
   -- what is shown where the premises hold
   abbrev ShownTo : Outside → Result ℕ RunFault → List ℕ → Type 0
-  ShownTo after came bytes = RestsOn processors (task_answer rules task bytes) → Shows (task_answer rules task bytes) bytes after.input.tells (sides_of before after) came
+  ShownTo after came bytes = RestsOn processors (task_answer rules task bytes)
+      → Shows (task_answer rules task bytes) bytes after.input.tells (sides_of before after) came
 
   module _ (middle : Outside) (ledger : Ledger) where
     abbrev JudgedBy : Result Bool RunFault → List ℕ → Type 0
-    JudgedBy result bytes = WhereRootsTell rules bytes (Judges rules task.lines bytes middle.input.tells (lines_side task.lines before).tells (lines_side task.lines middle).tells ledger result)
+    JudgedBy result bytes = WhereRootsTell rules bytes (Judges rules task.lines bytes middle.input.tells (lines_side task.lines before).tells
+        (lines_side task.lines middle).tells ledger result)
 
     -- what is shown of the bytes, where they are told and the premises hold
     shown_to : (result : Result Bool RunFault) (after : Outside) (came : Result ℕ RunFault) (first : Option (List ℕ))
         → (TellsAll processors → IfSome first (JudgedBy result))
-        → ((bytes : List ℕ) → Judges rules task.lines bytes middle.input.tells (lines_side task.lines before).tells (lines_side task.lines middle).tells ledger result
+        → ((bytes : List ℕ) → Judges rules task.lines bytes middle.input.tells (lines_side task.lines before).tells
+        (lines_side task.lines middle).tells ledger result
         → Shows (task_answer rules task bytes) bytes after.input.tells (sides_of before after) came) → IfSome first (ShownTo after came)
     shown_to result after came None judged shows = tt
     shown_to result after came (Some bytes) judged shows = λ rests. shows bytes (judged rests.told rests.roots)
@@ -309,12 +337,14 @@ module _ (processors : Processors) (task : Task) (accepts : Accepts) (before : O
     does_to e judged =
         let noted = noted_by_lines task.lines before middle judged.aside judged.wrote.0 judged.wrote.1 in
         record {
-          cause = cause_of middle e judged.kind (λ is. judged.input (ap Err is)) (λ is. either_side task.lines before middle (judged.output (ap Err is))) (λ is. judged.peer (ap Err is));
+          cause = cause_of middle e judged.kind (λ is. judged.input (ap Err is))
+              (λ is. either_side task.lines before middle (judged.output (ap Err is))) (λ is. judged.peer (ap Err is));
           lines = noted.0;
           aside = noted.1;
           noted = noted.2;
           later = later_notes task.lines before middle judged.aside judged.later;
-          shows = shown_to (Err e) middle (Err e) before.input.tells judged.judges (λ bytes. shows_fault rules task bytes middle.input.tells before middle judged.aside ledger e);
+          shows = shown_to (Err e) middle (Err e) before.input.tells judged.judges
+              (λ bytes. shows_fault rules task bytes middle.input.tells before middle judged.aside ledger e);
         }
 
     -- the end was written behind all blocks, or a part of it
@@ -331,8 +361,10 @@ module _ (processors : Processors) (task : Task) (accepts : Accepts) (before : O
           noted = noted.2;
           later = later_notes task.lines before middle judged.aside judged.later;
           shows = shown_to (Ok refused) (record middle { output = out }) result before.input.tells judged.judges (λ bytes j.
-              finished rules task bytes middle.input.tells before middle judged.aside out refused ledger j (text_at task.ending ledger) (code_at task.ending ledger refused)
-              (end_at rules task.lines task.ending bytes (lines_side task.lines before).tells (lines_side task.lines middle).tells refused ledger j.ends) result finish);
+              finished rules task bytes middle.input.tells before middle judged.aside out refused ledger j (text_at task.ending ledger)
+              (code_at task.ending ledger refused)
+              (end_at rules task.lines task.ending bytes (lines_side task.lines before).tells
+              (lines_side task.lines middle).tells refused ledger j.ends) result finish);
         }
       where
         by_result : (result : Result ℕ RunFault) → Finishes middle.output out (text_at task.ending ledger) (code_at task.ending ledger refused) result

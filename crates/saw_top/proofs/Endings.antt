@@ -11,8 +11,10 @@ use Rattle.saw_report.specs.declared.run_fault.RunFault.{RunFault}
 use Rattle.saw_report.specs.declared.run_fault.RunFault.TheVariants.{Truncated, TooLong, Read, Write, Peer, Memory, FileFailed}
 use Rattle.saw_top.specs.Answers.{Prepared, answer_of, prepared, task_by}
 use Rattle.saw_top.specs.Command.{wish_of}
-use Rattle.saw_top.specs.Faults.{is_told}
+use Rattle.saw_top.specs.EndingFaults.{is_told}
 use Rattle.saw_top.specs.Headline.{EndsBy, Gives, HasCause, HasEnded, HasFault, IsAnswered, IsWhole, RestsOn, Shows, TellsEnd, TellsFault}
+use Rattle.saw_top.specs.History.{RootsTell}
+use Rattle.saw_node.specs.Hashes.{first_half}
 use Rattle.saw_top.specs.Outside.{End, Outside, SomeFailed, sides_of}
 use Rattle.saw_top.specs.Run.{Answer, line_by}
 use Rattle.saw_top.specs.World.{World}
@@ -38,7 +40,8 @@ module _ (answer : Answer) (bytes : List ℕ) (before after : Outside) (notes : 
       → Gives answer (sides_of before after) status
   gives fault code whole is same wrote = record {
     output = whole.output;
-    notes = subst (λ (f : Option RunFault). Appends before.notes.tells after.notes.tells (answer.noted ++ line_by f)) (sym is) (Appends-trans before.notes.tells notes.tells after.notes.tells answer.noted (line_by fault) whole.notes wrote);
+    notes = subst (λ (f : Option RunFault). Appends before.notes.tells after.notes.tells (answer.noted ++ line_by f)) (sym is)
+        (Appends-trans before.notes.tells notes.tells after.notes.tells answer.noted (line_by fault) whole.notes wrote);
     code = same ∙ whole.code;
   }
 
@@ -72,7 +75,8 @@ module _ (answer : Answer) (bytes : List ℕ) (before after : Outside) (notes : 
   by_end : (processors : Processors) (task : Task) (ready : Result Prepared RunFault) (came : Result ℕ RunFault)
       → EndsBy answer bytes after.input.tells (sides_of before middle) came → HasCause processors task ready before middle came
       → TellsEnd came notes after.notes status → before.notes.faults ≤ notes.faults → Answered
-  by_end processors task ready (Ok code) ends cause tells first = inr (inr (gives None code ends.0 ends.1 tells.0 (subst (λ (e : End (List ℕ)). Appends notes.tells e.tells []) (sym tells.1) (Appends-nil notes.tells))))
+  by_end processors task ready (Ok code) ends cause tells first =
+      inr (inr (gives None code ends.0 ends.1 tells.0 (subst (λ (e : End (List ℕ)). Appends notes.tells e.tells []) (sym tells.1) (Appends-nil notes.tells))))
   by_end processors task ready (Err fault) ends cause tells first = by_fault processors task ready fault ends cause tells.0 first tells.1
 
 pub answered : (given : Files → World) (words : List (List ℕ)) (before after : Outside) (status : ℕ) → HasEnded given words before after status
@@ -84,8 +88,11 @@ answered given words before after status ended =
       files = ended.done.files;
       held = ended.done.held;
       gives = some_map before.input.tells
-          (λ bytes. RestsOn world.processors (answer_of world words bytes) → Shows (answer_of world words bytes) bytes after.input.tells (sides_of before (record after { notes = ended.notes })) ended.came)
-          (λ bytes. RestsOn world.processors (answer_of world words bytes) → (status ≡ 7) ⊎ (SomeFailed before after ⊎ Gives (answer_of world words bytes) (sides_of before after) status))
-          (λ bytes shows rests. by_end (answer_of world words bytes) bytes before after ended.notes status world.processors (task_by (wish_of words)) (prepared world (wish_of words)) ended.came (shows rests).ends does.cause ended.told does.later)
+          (λ bytes. RestsOn world.processors (answer_of world words bytes)
+          → Shows (answer_of world words bytes) bytes after.input.tells (sides_of before (record after { notes = ended.notes })) ended.came)
+          (λ bytes. RootsTell first_half (answer_of world words bytes).maps → (status ≡ 7)
+          ⊎ (SomeFailed before after ⊎ Gives (answer_of world words bytes) (sides_of before after) status))
+          (λ bytes shows roots. by_end (answer_of world words bytes) bytes before after ended.notes status world.processors (task_by (wish_of words))
+          (prepared world (wish_of words)) ended.came (shows (record { told = ended.tells; roots = roots })).ends does.cause ended.told does.later)
           does.shows;
     }

@@ -1,5 +1,6 @@
 -- The entries of a state, written line by line.
-use Rattle.std.proofs.Common.{◌≡◌, ◌≤◌, ◌<◌, ℕ, ◌+◌, List, [], ◌∷◌, ◌++◌, length, take, drop, map, get_or, Option, Some, None, sym, ap, subst, ◌∙◌, append_assoc, arith}
+use Rattle.std.proofs.Common.{◌≡◌, ◌≤◌, ◌<◌, ℕ, ◌+◌, List, [], ◌∷◌, ◌++◌, length, take, drop, map, get_or, Option, Some, None, sym, ap, subst, ◌∙◌}
+use Rattle.std.proofs.Common.{append_assoc, arith}
 use Rattle.std.specs.Prelude.{IfSome, IsSome, filter, ◌==◌, if◌then◌else◌}
 use Rattle.std.specs.Io.KnownBytes.{Appends}
 use Rattle.std.specs.List.{AllByRecursion, flat_map}
@@ -46,14 +47,16 @@ module _ (all : List Listed) (i : ℕ) (x : Listed) (more : i < length all) (is 
   lines_cut old mid new n fits first second =
       let rest = flat_map listed_line (drop (i + 1) all) in
       let front : take (length before + n) (flat_map listed_line all) ≡ before ++ take n (listed_line x) =
-      ap (take (length before + n)) lines_whole ∙ take-append-add before (listed_line x ++ rest) n ∙ ap (λ (l : List ℕ). before ++ l) (take-append-le n (listed_line x) rest fits) in
+      ap (take (length before + n)) lines_whole ∙ take-append-add before (listed_line x ++ rest) n
+      ∙ ap (λ (l : List ℕ). before ++ l) (take-append-le n (listed_line x) rest fits) in
       (length before + n, subst (Appends old new) (sym front) (Appends-trans old mid new before (take n (listed_line x)) first second))
 
   -- the same of a text that is the line
   pub text_cut : (text : List ℕ) → text ≡ listed_line x → (old mid new : Option (List ℕ)) → Appends old mid before
       → (n : ℕ) × (n < length text) × Appends mid new (take n text) → (k : ℕ) × Appends old new (take k (flat_map listed_line all))
   text_cut text same old mid new first cut =
-      lines_cut old mid new cut.0 (subst (λ (t : List ℕ). cut.0 ≤ length t) same (omega (arith, cut.1))) first (subst (λ (t : List ℕ). Appends mid new (take cut.0 t)) same cut.2)
+      lines_cut old mid new cut.0 (subst (λ (t : List ℕ). cut.0 ≤ length t) same (omega (arith, cut.1))) first
+      (subst (λ (t : List ℕ). Appends mid new (take cut.0 t)) same cut.2)
 
 -- nothing of the line was written
 pub lines_before : (all : List Listed) (i : ℕ) (x : Listed) → i < length all → x ≡ get_or all i x → (old new : Option (List ℕ))
@@ -69,11 +72,13 @@ listed_all prefix m all shown same is = ap (flat_map listed_line) same ∙ sym (
 
 pub none_listed : (prefix : List ℕ) (states : States) (head : Option BlockRecord) → None ≡ head → listing prefix (map_under states head) ≡ []
 none_listed prefix states head none =
-    ap (λ (h : Option BlockRecord). listing prefix (map_under states h)) (sym none) ∙ ap (λ (es : List (List ℕ × List ℕ)). flat_map entry_line (filter (λ entry. covers prefix entry.0) es)) (entries-empty (List ℕ))
+    ap (λ (h : Option BlockRecord). listing prefix (map_under states h)) (sym none)
+    ∙ ap (λ (es : List (List ℕ × List ℕ)). flat_map entry_line (filter (λ entry. covers prefix entry.0) es)) (entries-empty (List ℕ))
 
 pub none_status : (prefix : List ℕ) (states : States) (head : Option BlockRecord) → None ≡ head → 8 ≡ listing_status prefix (map_under states head)
 none_status prefix states head none =
-    sym (ap (λ (h : Option BlockRecord). listing_status prefix (map_under states h)) (sym none) ∙ ap (λ (es : List (List ℕ × List ℕ)). if length (filter (λ entry. covers prefix entry.0) es) == 0 then 8 else 0) (entries-empty (List ℕ)))
+    sym (ap (λ (h : Option BlockRecord). listing_status prefix (map_under states h)) (sym none)
+    ∙ ap (λ (es : List (List ℕ × List ℕ)). if length (filter (λ entry. covers prefix entry.0) es) == 0 then 8 else 0) (entries-empty (List ℕ)))
 
 -- ---- the head is one of the blocks
 

@@ -1,5 +1,6 @@
 -- That options are read in both forms, and in any order.
-use Rattle.std.proofs.Common.{◌≡◌, ℕ, ◌==◌, Bool, true, false, List, [], ◌∷◌, ◌++◌, length, map, cond, Option, Some, None, option_map, unwrap_or, refl, sym, ap, ◌∙◌, arith}
+use Rattle.std.proofs.Common.{◌≡◌, ℕ, ◌==◌, Bool, true, false, List, [], ◌∷◌, ◌++◌, length, map, cond, Option, Some, None, option_map, unwrap_or}
+use Rattle.std.proofs.Common.{refl, sym, ap, ◌∙◌, arith}
 use Rattle.std.specs.Prelude.{◌&&◌, ◌||◌, not}
 use Rattle.std.specs.Cmp.Lexicographic.{nat_list_eq_equiv}
 use Rattle.std.specs.List.{AllByRecursion, flat_map, list_all, list_any, position_or_len}
@@ -10,7 +11,8 @@ use Rattle.std.proofs.lemmas.List.{map-append}
 use Rattle.std.proofs.lemmas.Slice.Eq.{bytes_eq-Decides}
 use mathlib.Core.Path.{fun_ext}
 use Rattle.saw_messages.specs.Distinct.{are_distinct}
-use Rattle.saw_top.specs.Command.{Given, Wish, of_names, asks, attest, prefix, state_under, are_of, given_in, is_joined, is_known, names_of, value_of, wish_with}
+use Rattle.saw_top.specs.Command.{Given, Wish, of_names, asks, attest, prefix, state_under, are_of, given_in, is_joined, is_known, names_of, value_of}
+use Rattle.saw_top.specs.Command.{wish_with}
 use Rattle.saw_top.specs.declared.task.Ending.TheVariants.{Head}
 use Rattle.saw_top.specs.declared.task.Lines.TheVariants.{All}
 use Rattle.saw_top.specs.OptionLaws.{IsOption, spelled}
@@ -37,7 +39,8 @@ option_read false (name, value) words is = rw (is.0, is.1) refl
 pub options_are_read : (options : List (Bool × Given)) → AllByRecursion (λ option. IsOption option.1) options
     → given_in None (flat_map (λ option. spelled option.0 option.1) options) ≡ Some (map (λ option. option.1) options)
 options_are_read [] all = refl
-options_are_read ((joined, option) ∷ options) all = option_read joined option _ all.0 ∙ ap (option_map (λ given. option ∷ given)) (options_are_read options all.1)
+options_are_read ((joined, option) ∷ options) all = option_read joined option _ all.0
+    ∙ ap (option_map (λ given. option ∷ given)) (options_are_read options all.1)
 
 -- ---- any order
 
@@ -67,7 +70,8 @@ all_swapped p (first ∷ before) after one other = ap (λ b. p first && b) (all_
 -- the same for names that all differ
 distinct_swapped : (before after : List (List ℕ)) (one other : List ℕ)
     → are_distinct (before ++ one ∷ other ∷ after) ≡ are_distinct (before ++ other ∷ one ∷ after)
-distinct_swapped [] after one other = rw (nat_list_eq_equiv.symm one other) (split (bytes_eq other one) (list_any (λ name. bytes_eq name one) after) (list_any (λ name. bytes_eq name other) after) (are_distinct after))
+distinct_swapped [] after one other = rw (nat_list_eq_equiv.symm one other)
+    (split (bytes_eq other one) (list_any (λ name. bytes_eq name one) after) (list_any (λ name. bytes_eq name other) after) (are_distinct after))
   where
     split : (same a b c : Bool) → (not (same || a) && (not b && c)) ≡ (not (same || b) && (not a && c))
     split true a b c = refl
@@ -98,7 +102,8 @@ made_swapped names made before after one other =
     let given = before ++ one ∷ other ∷ after in
     let swapped = before ++ other ∷ one ∷ after in
     let same : are_of names given ≡ are_of names swapped =
-    rw (all_swapped (is_known names) before after one other) (ap (λ b. list_all (is_known names) swapped && b) (rw (map-append, map-append) (distinct_swapped (names_of before) (names_of after) one.0 other.0))) in
+    rw (all_swapped (is_known names) before after one other)
+    (ap (λ b. list_all (is_known names) swapped && b) (rw (map-append, map-append) (distinct_swapped (names_of before) (names_of after) one.0 other.0))) in
     split (are_of names given) (are_of names swapped) same (λ fine.
     ap made (fun_ext (value_swapped before after one other (and_parts (list_all (is_known names) given) (are_distinct (names_of given)) fine).1)))
   where

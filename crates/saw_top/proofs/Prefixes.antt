@@ -1,5 +1,6 @@
 -- The prefix that a text stands for.
-use Rattle.std.proofs.Common.{◌≡◌, ℕ, zero, suc, ◌/◌, ◌%◌, true, List, [], ◌∷◌, slice_index, Option, Some, None, unwrap_or, option_map, Bor, inl, inr, refl, sym, ap, ◌∙◌, arith}
+use Rattle.std.proofs.Common.{◌≡◌, ℕ, zero, suc, ◌/◌, ◌%◌, true, List, [], ◌∷◌, slice_index, Option, Some, None, unwrap_or, option_map, Bor, inl, inr}
+use Rattle.std.proofs.Common.{refl, sym, ap, ◌∙◌, arith}
 use Rattle.std.specs.Prelude.{◌==◌, ◌&&◌, length, nat_le}
 use Rattle.std.specs.List.{list_all}
 use Rattle.std.proofs.lemmas.Bool.{and_parts, cases_lt, true≢false}
@@ -21,7 +22,8 @@ IsBytes-written (b ∷ rest) h zero =
           absurd (true≢false (sym (rw past at (and_parts (is_hex_digit (slice_index lower_digits (b / 16))) _ h).0)))
     ]
 IsBytes-written (b ∷ rest) h (suc i) =
-    IsBytes-written rest (and_parts (is_hex_digit (slice_index lower_digits (b % 16))) _ (and_parts (is_hex_digit (slice_index lower_digits (b / 16))) _ h).1).1 i
+    IsBytes-written rest (and_parts (is_hex_digit (slice_index lower_digits (b % 16))) _
+    (and_parts (is_hex_digit (slice_index lower_digits (b / 16))) _ h).1).1 i
 
 -- the bytes that were read are those that the text stands for
 pub decoded : (bytes text : List ℕ) → encode_lower bytes ≡ text → is_prefix_text text ≡ true → bytes_in (decode_of text) ≡ bytes

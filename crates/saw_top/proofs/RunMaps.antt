@@ -10,12 +10,12 @@ use Rattle.saw_context.specs.Serial.{left_after, serial}
 use Rattle.saw_journal.proofs.FromBytes.{is_fine}
 use Rattle.saw_journal.specs.BlockFaults.{parent_of}
 use Rattle.saw_journal.specs.Judgement.{Kept, Rules, Runs, judged}
-use Rattle.saw_messages.specs.Shapes.{TxShape}
+use Rattle.saw_messages.specs.TxShapes.{TxShape}
 use Rattle.saw_node.proofs.SameRoot.{same_root}
 use Rattle.saw_node.specs.Hashes.{first_half, first_half_is}
 use Rattle.saw_messages.specs.declared.outcome.Reason.TheVariants.{Remote}
 use Rattle.saw_messages.specs.declared.talk.Action.TheVariants as actions
-use Rattle.saw_plan.specs.Shapes.{txs_of}
+use Rattle.saw_plan.specs.BatchShapes.{txs_of}
 use Rattle.saw_station.proofs.Finished.{processors_own}
 use Rattle.saw_receipts.specs.declared.block.BlockRecord.{BlockRecord}
 use Rattle.saw_receipts.specs.declared.verdict.BlockFault.{BlockFault}
@@ -79,7 +79,9 @@ module _ (rules : Rules) (keeps : KeepAddresses rules.runs) where
   run_addresses [] accepted all = all
   run_addresses (content ∷ frames) accepted all =
       by_judgement (judged_behind rules accepted content) (run_addresses frames accepted all)
-      (λ kept is. run_addresses frames (accepted ++ kept ∷ []) (one_more accepted kept all (kept_addresses rules keeps (map_behind rules accepted) (behind_addresses accepted) (records_of accepted) content kept is)))
+      (λ kept is. run_addresses frames (accepted ++ kept ∷ [])
+      (one_more accepted kept all (kept_addresses rules keeps (map_behind rules accepted) (behind_addresses accepted)
+      (records_of accepted) content kept is)))
     where
       by_room : (full : Bool) (kept : Kept) → HaveAddresses (history rules frames (accepted ++ kept ∷ [])).accepted
           → HaveAddresses (if full then ended accepted true else before (accepted_as accepted kept) (history rules frames (accepted ++ kept ∷ []))).accepted
@@ -99,7 +101,8 @@ serial_keeps processors own m batches all = from_left processors [] m batches (s
 pub runs_roots_tell : RunsRootsTell
 runs_roots_tell accepts processors bytes own none =
     let rules = rules_by accepts processors in
-    roots_tell_without_clash (maps_of (run_of rules bytes).accepted) (run_addresses rules (serial_keeps processors own) (stream_of bytes).frames [] (λ m among. absurd among)) none
+    roots_tell_without_clash (maps_of (run_of rules bytes).accepted)
+    (run_addresses rules (serial_keeps processors own) (stream_of bytes).frames [] (λ m among. absurd among)) none
 
 pub built_in_tell : BuiltInTell
 built_in_tell = (tells_all (λ tx turns. actions.Invalid Remote) [], processors_own (λ tx turns. actions.Invalid Remote) (λ tx turns. refl) true [])

@@ -1,5 +1,6 @@
 -- Where the judging of a stream stands between two frames, and what each of its ends shows.
-use Rattle.std.proofs.Common.{◌≡◌, ◌⊎◌, inl, inr, ℕ, ◌+◌, ◌-◌, ◌<◌, ◌≤◌, ◌==◌, Bool, true, false, List, [], ◌∷◌, ◌++◌, length, take, drop, Option, Some, None, Result, Ok, Err, refl, sym, ap, subst, ◌∙◌, append_assoc, arith}
+use Rattle.std.proofs.Common.{◌≡◌, ◌⊎◌, inl, inr, ℕ, ◌+◌, ◌-◌, ◌<◌, ◌≤◌, ◌==◌, Bool, true, false, List, [], ◌∷◌, ◌++◌, length, take, drop, Option}
+use Rattle.std.proofs.Common.{Some, None, Result, Ok, Err, refl, sym, ap, subst, ◌∙◌, append_assoc, arith}
 use Rattle.std.specs.Prelude.{IfSome, ◌||◌}
 use Rattle.std.specs.Global.{Vec}
 use Rattle.std.specs.Io.KnownBytes.{Appends, Consumes}
@@ -15,12 +16,12 @@ use Rattle.saw_receipts.specs.declared.verdict.Verdict.{Verdict}
 use Rattle.saw_report.specs.RunFaults.{fault_of_frame}
 use Rattle.saw_top.specs.History.{History, RootsTell, Said, ended, history, is_refused, maps_of, some_refused}
 use Rattle.saw_top.specs.History as histories
-use Rattle.saw_top.specs.Judging.{IsPrompt, IsUpToDate, Judges, JudgesBy, JudgesTo, TakesNext, WhereRootsTell, report_in, report_of}
+use Rattle.saw_top.specs.StreamJudging.{IsPrompt, IsUpToDate, Judges, JudgesBy, JudgesTo, TakesNext, WhereRootsTell, report_in, report_of}
 use Rattle.saw_top.specs.Limits.{max_frames, max_length}
 use Rattle.saw_top.specs.Outside.{WritesFront}
 use Rattle.saw_top.specs.Reports.{line_of, report, said_of}
 use Rattle.saw_top.specs.Run.{fault_in, fault_of, run_of}
-use Rattle.saw_top.specs.Standing.{IsAfter}
+use Rattle.saw_top.specs.KeptBlocks.{IsAfter}
 use Rattle.saw_top.specs.Stream.{Reads, Stream, before, no_frames, stream_from, stream_of}
 use Rattle.saw_report.specs.declared.run_fault.RunFault.{RunFault}
 use Rattle.saw_report.specs.declared.run_fault.RunFault.TheVariants.{Truncated, TooLong, Frames, Blocks, Read, Write, Peer, Memory}
@@ -36,8 +37,10 @@ use Rattle.saw_top.proofs.Streams.{Reads-push, all_before, stream_ended, stream_
 pub front_cut : (text : List ℕ) (old mid new : Option (List ℕ)) (written piece more : List ℕ) (n : ℕ) → text ≡ written ++ (piece ++ more)
     → Appends old mid written → Appends mid new (take n piece) → WritesFront text old new
 front_cut text old mid new written piece more n whole first second =
-    let split : piece ++ more ≡ take n piece ++ (drop n piece ++ more) = ap (λ (l : List ℕ). l ++ more) (sym (take-append-drop n piece)) ∙ append_assoc (take n piece) (drop n piece) more in
-    let parts : text ≡ (written ++ take n piece) ++ (drop n piece ++ more) = whole ∙ ap (λ (l : List ℕ). written ++ l) split ∙ sym (append_assoc written (take n piece) (drop n piece ++ more)) in
+    let split : piece ++ more ≡ take n piece ++ (drop n piece ++ more) = ap (λ (l : List ℕ). l ++ more) (sym (take-append-drop n piece))
+    ∙ append_assoc (take n piece) (drop n piece) more in
+    let parts : text ≡ (written ++ take n piece) ++ (drop n piece ++ more) = whole ∙ ap (λ (l : List ℕ). written ++ l) split
+    ∙ sym (append_assoc written (take n piece) (drop n piece ++ more)) in
     (written ++ take n piece, drop n piece ++ more, parts, Appends-trans old mid new written (take n piece) first second)
 
 -- ---- where the judging stands
@@ -76,7 +79,18 @@ module _ (rules : Rules) (lines : Lines) where
     where
       begin : (first : Option (List ℕ)) → IfSome first (λ bytes. WhereRootsTell rules bytes (IsAt 0 bytes first old old false ledger))
       begin None = tt
-      begin (Some bytes) = λ tell. record { frames = []; rest = bytes; left = refl; count = refl; reads = refl; room = refl; written = Appends-nil old; some = refl; stands = stands }
+      begin (Some bytes) = λ tell. record {
+        frames = [];
+        rest = bytes;
+        left = refl;
+        count = refl;
+        reads = refl;
+        room = refl;
+        written =
+            Appends-nil old;
+        some = refl;
+        stands = stands;
+      }
 
   -- what comes of it, where the input tells its bytes
   so_by : (first : Option (List ℕ)) (P Q : List ℕ → Type 0) → ((bytes : List ℕ) → P bytes → WhereRootsTell rules bytes (Q bytes))
@@ -85,13 +99,15 @@ module _ (rules : Rules) (lines : Lines) where
   so_by None P Q step so = tt
   so_by (Some bytes) P Q step so = λ tell. step bytes (so tell) tell
 
-  module _ {place : ℕ} {first now old mid : Option (List ℕ)} {refused : Bool} {ledger : Ledger} (at : SoFar place first now old mid refused ledger) (next new : Option (List ℕ)) where
+  module _ {place : ℕ} {first now old mid : Option (List ℕ)} {refused : Bool} {ledger : Ledger} (at : SoFar place first now old mid refused ledger)
+      (next new : Option (List ℕ)) where
     -- the judging ended
     pub so_ends : (after_it : Ledger) (result : Result Bool RunFault)
         → ((bytes : List ℕ) → IsAt place bytes now old mid refused ledger → Judges rules lines bytes next old new after_it result)
         → IfSome first (λ bytes. WhereRootsTell rules bytes (Judges rules lines bytes next old new after_it result))
     so_ends after_it result step =
-        so_by first (λ bytes. IsAt place bytes now old mid refused ledger) (λ bytes. Judges rules lines bytes next old new after_it result) (λ bytes here tell. step bytes here) at.so
+        so_by first (λ bytes. IsAt place bytes now old mid refused ledger) (λ bytes. Judges rules lines bytes next old new after_it result)
+        (λ bytes here tell. step bytes here) at.so
 
     -- or it goes on
     pub so_more : (more : Bool) (after_it : Ledger)
@@ -108,7 +124,16 @@ module _ (rules : Rules) (lines : Lines) where
   nothing_judged None old ledger = tt
   nothing_judged (Some bytes) old ledger = λ tell. record {
     front = ([], report_in rules lines bytes, refl, Appends-nil old);
-    prompt = record { frames = []; rest = bytes; reads = refl; told = omega arith; next = inl (omega arith, inl ([], Consumes-nil (Some bytes), inl (omega arith))); part = []; written = begin };
+    prompt = record {
+      frames = [];
+      rest = bytes;
+      reads = refl;
+      told = omega arith;
+      next =
+          inl (omega arith, inl ([], Consumes-nil (Some bytes), inl (omega arith)));
+      part = [];
+      written = begin;
+    };
     ends = tt;
   }
     where
@@ -117,7 +142,8 @@ module _ (rules : Rules) (lines : Lines) where
 
   -- ---- what is shown of a stream, by where its judging stands
 
-  module _ {place : ℕ} {bytes : List ℕ} {now old mid : Option (List ℕ)} {refused : Bool} {ledger : Ledger} (at : IsAt place bytes now old mid refused ledger) where
+  module _ {place : ℕ} {bytes : List ℕ} {now old mid : Option (List ℕ)} {refused : Bool} {ledger : Ledger}
+      (at : IsAt place bytes now old mid refused ledger) where
     abbrev seen : History
     seen = so_far at.frames
 
@@ -163,7 +189,8 @@ module _ (rules : Rules) (lines : Lines) where
         let some = stream_some max_frames at.frames bytes at.rest at.reads (omega (arith, at.count)) in
         let others : Stream = record { frames = some.0; fault = some.1 } in
         let more = (behind others).said in
-        let count : length (run_of rules bytes).said ≡ length seen.said + length more = ap (λ (h : History). length h.said) (run_at others some.2) ∙ length-append seen.said more in
+        let count : length (run_of rules bytes).said ≡ length seen.said + length more = ap (λ (h : History). length h.said) (run_at others some.2)
+        ∙ length-append seen.said more in
         ((reported, _, report_at others some.2, at.written), omega (arith, count, length-said rules at.frames [] at.room))
 
     prompt_here : (next new : Option (List ℕ)) (part : List ℕ) → place ≤ max_frames → TakesNext place at.rest next → Appends old new (reported ++ part)
@@ -226,11 +253,13 @@ module _ (rules : Rules) (lines : Lines) where
 
         by_fault : (e : FrameFault) → FrameGives max_length now next (Err e) → Takes e taken next → Ends next ledger (Err (fault_of_frame e))
         by_fault (frames.Truncated have want) told takes =
-            ends_here next ledger (Err (Truncated have want)) (omega arith) (took (inr takes.0)) (shown_fault (Truncated have want) (faulty (frames.Truncated have want) (rw at.left at told)), takes.1)
+            ends_here next ledger (Err (Truncated have want)) (omega arith) (took (inr takes.0))
+            (shown_fault (Truncated have want) (faulty (frames.Truncated have want) (rw at.left at told)), takes.1)
         by_fault (frames.TooLong size) told takes =
             ends_here next ledger (Err (TooLong size)) (omega arith) (took (inl (omega (arith, takes))))
             (shown_fault (TooLong size) (faulty (frames.TooLong size) (rw at.left at told)), (at.frames, at.rest, at.reads, taken, rest, takes))
-        by_fault frames.ReadFailed told takes = ends_here next ledger (Err Read) (omega arith) (took (inr takes)) (up_to_date next (omega arith) taken rest takes)
+        by_fault frames.ReadFailed told takes = ends_here next ledger (Err Read) (omega arith) (took (inr takes))
+            (up_to_date next (omega arith) taken rest takes)
         by_fault frames.OutOfMemory told takes = ends_here next ledger (Err Memory) (omega arith) (took (inl (omega (arith, takes)))) tt
 
     -- the byte behind the last frame could not be read
@@ -263,7 +292,8 @@ module _ (rules : Rules) (lines : Lines) where
     pub no_more : (next : Option (List ℕ)) → place < max_frames → FrameGives max_length now next (Ok None) → Ends next ledger (Ok refused)
     no_more next below told =
         let read = rw at.left at told in
-        ended_all next (omega arith) (inl (below, inr (None, read.0, read.2, read.1))) (stream_ended max_frames at.frames bytes at.rest at.reads (omega (arith, at.count)) read.0 read.2)
+        ended_all next (omega arith) (inl (below, inr (None, read.0, read.2, read.1)))
+        (stream_ended max_frames at.frames bytes at.rest at.reads (omega (arith, at.count)) read.0 read.2)
 
     -- behind as many frames as may be
     pub all_there : (next : Option (List ℕ)) → place ≤ max_frames → max_frames ≤ place → IfSome now (λ left. true ≡ (length left == 0)) → (taken : List ℕ)
@@ -293,7 +323,8 @@ module _ (rules : Rules) (lines : Lines) where
       full_here one_by_one after_it full =
           let none = no_room rules one_by_one seen.accepted content.items ledger at.stands full others.frames in
           let text : report_in rules lines bytes ≡ reported =
-          report_at (before content.items others) goes_on ∙ ap (λ (h : History). reported ++ report lines (length at.frames) h.said) none ∙ append-nil reported in
+          report_at (before content.items others) goes_on ∙ ap (λ (h : History). reported ++ report lines (length at.frames) h.said) none
+          ∙ append-nil reported in
           ends_here next after_it (Err Blocks) (omega arith) taken
           (fault_at (before content.items others) goes_on ∙ ap (λ (h : History). fault_in h others.fault) none, subst (Appends old mid) (sym text) at.written)
 
@@ -320,7 +351,8 @@ module _ (rules : Rules) (lines : Lines) where
         others_lines = report lines (length at.frames + 1) (history rules others.frames step.next).said
 
         whole : report_in rules lines bytes ≡ reported ++ (line ++ others_lines)
-        whole = report_at (before content.items others) goes_on ∙ ap (λ (h : History). reported ++ report lines (length at.frames) h.said) (step.goes others.frames)
+        whole = report_at (before content.items others) goes_on
+            ∙ ap (λ (h : History). reported ++ report lines (length at.frames) h.said) (step.goes others.frames)
 
         pub line_cut : (new : Option (List ℕ)) (e : RunFault) (n : ℕ) → (e ≡ Write) ⊎ (e ≡ Memory) → Appends mid new (take n (line_of lines place said))
             → Judges rules lines bytes next old new after_it (Err e)
@@ -328,7 +360,11 @@ module _ (rules : Rules) (lines : Lines) where
             let part : Appends mid new (take n line) = subst (λ (p : ℕ). Appends mid new (take n (line_of lines p said))) (sym at.count) cut in
             let front = front_cut (report_in rules lines bytes) old mid new reported line others_lines n whole at.written part in
             let prompt = prompt_here next new (take n line) (omega arith) taken (Appends-trans old mid new reported (take n line) at.written part) in
-            elim which [ inl h ↦ rw h (record { front = front; prompt = prompt; ends = tt }) | inr h ↦ rw h (record { front = front; prompt = prompt; ends = tt }) ]
+            elim which [
+              | inl h ↦ rw h (record { front = front; prompt = prompt; ends = tt })
+              | inr h ↦ rw h
+                  (record { front = front; prompt = prompt; ends = tt })
+            ]
 
         -- its line was written
         behind_it : so_far (at.frames ++ content.items ∷ []) ≡ after seen (histories.before said (ended step.next false))
@@ -338,12 +374,14 @@ module _ (rules : Rules) (lines : Lines) where
         report_is : report_of rules lines (at.frames ++ content.items ∷ []) ≡ reported ++ line
         unfolding history
         report_is =
-            report-behind lines rules at.frames (content.items ∷ []) at.room ∙ ap (λ (h : History). reported ++ report lines (length at.frames) h.said) (step.goes [])
+            report-behind lines rules at.frames (content.items ∷ []) at.room
+            ∙ ap (λ (h : History). reported ++ report lines (length at.frames) h.said) (step.goes [])
             ∙ ap (λ (l : List ℕ). reported ++ l) (append-nil line)
 
         some_is : some_refused (so_far (at.frames ++ content.items ∷ [])).said ≡ (some_refused seen.said || is_refused said)
         some_is =
-            ap (λ (h : History). some_refused h.said) behind_it ∙ list_any-append is_refused seen.said (said ∷ []) ∙ or_false (some_refused seen.said) (is_refused said)
+            ap (λ (h : History). some_refused h.said) behind_it ∙ list_any-append is_refused seen.said (said ∷ [])
+            ∙ or_false (some_refused seen.said) (is_refused said)
 
         pub line_written : (new : Option (List ℕ)) (more : Bool) → RootsTell rules.hash (maps_of (run_of rules bytes).accepted)
             → Appends mid new (line_of lines place said) → more ≡ (refused || is_refused said)
@@ -353,7 +391,8 @@ module _ (rules : Rules) (lines : Lines) where
             let shown : Appends mid new line = subst (λ (p : ℕ). Appends mid new (line_of lines p said)) (sym at.count) wrote in
             let run = run_at (before content.items others) goes_on ∙ ap (after seen) (step.goes others.frames) in
             let ends = extends rules others.frames step.next in
-            let fewer : RootsTell rules.hash (maps_of step.next) = tell_fewer rules.hash (run_of rules bytes).accepted step.next ends.0 (ap (λ (h : History). h.accepted) run ∙ ends.1) tell in
+            let fewer : RootsTell rules.hash (maps_of step.next) =
+            tell_fewer rules.hash (run_of rules bytes).accepted step.next ends.0 (ap (λ (h : History). h.accepted) run ∙ ends.1) tell in
             record {
               frames = at.frames ++ content.items ∷ [];
               rest = read.0;

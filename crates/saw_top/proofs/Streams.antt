@@ -1,5 +1,6 @@
 -- Whole frames at the front of a stream.
-use Rattle.std.proofs.Common.{◌≡◌, ℕ, suc, ◌+◌, ◌-◌, ◌<◌, ◌≤◌, ◌==◌, true, false, cond, List, [], ◌∷◌, ◌++◌, length, Option, Some, None, Ok, Err, refl, sym, ap, ◌∙◌, arith}
+use Rattle.std.proofs.Common.{◌≡◌, ℕ, suc, ◌+◌, ◌-◌, ◌<◌, ◌≤◌, ◌==◌, true, false, cond, List, [], ◌∷◌, ◌++◌, length, Option, Some, None, Ok, Err}
+use Rattle.std.proofs.Common.{refl, sym, ap, ◌∙◌, arith}
 use Rattle.saw_io.specs.Frame.{frame_at}
 use Rattle.saw_io.specs.declared.fault.FrameFault.{FrameFault}
 use Rattle.saw_report.specs.RunFaults.{fault_of_frame}
@@ -25,7 +26,8 @@ unfolding stream_from
 stream_behind [] more bytes rest same = let none : 0 + more ≡ more = omega arith in rw (none, same) refl
 stream_behind (content ∷ frames) more bytes rest reads =
     let count : length (content ∷ frames) + more ≡ suc (length frames + more) = omega arith in
-    ap (λ n. stream_from n bytes) count ∙ ap (by_reading (stream_from (length frames + more))) reads.1 ∙ ap (before content) (stream_behind frames more reads.0 rest reads.2)
+    ap (λ n. stream_from n bytes) count ∙ ap (by_reading (stream_from (length frames + more))) reads.1
+    ∙ ap (before content) (stream_behind frames more reads.0 rest reads.2)
 
 -- what the stream is, by what stands behind so many frames
 module _ (max : ℕ) (frames : List (List ℕ)) (bytes rest : List ℕ) (reads : Reads frames bytes rest) where
@@ -38,16 +40,19 @@ module _ (max : ℕ) (frames : List (List ℕ)) (bytes rest : List ℕ) (reads :
 
     pub stream_ended : (behind : List ℕ) → frame_at max_length rest ≡ Ok (None, behind) → stream_from max bytes ≡ all_before frames (no_frames None)
     unfolding stream_from
-    stream_ended behind is = stands_behind (suc (max - length frames - 1)) one_more ∙ ap (λ r. all_before frames (by_reading (stream_from (max - length frames - 1)) r)) is
+    stream_ended behind is = stands_behind (suc (max - length frames - 1)) one_more
+        ∙ ap (λ r. all_before frames (by_reading (stream_from (max - length frames - 1)) r)) is
 
     pub stream_faulty : (e : FrameFault) → frame_at max_length rest ≡ Err e → stream_from max bytes ≡ all_before frames (no_frames (Some (fault_of_frame e)))
     unfolding stream_from
-    stream_faulty e is = stands_behind (suc (max - length frames - 1)) one_more ∙ ap (λ r. all_before frames (by_reading (stream_from (max - length frames - 1)) r)) is
+    stream_faulty e is = stands_behind (suc (max - length frames - 1)) one_more
+        ∙ ap (λ r. all_before frames (by_reading (stream_from (max - length frames - 1)) r)) is
 
     pub stream_goes_on : (content behind : List ℕ) → frame_at max_length rest ≡ Ok (Some content, behind)
         → stream_from max bytes ≡ all_before frames (before content (stream_from (max - length frames - 1) behind))
     unfolding stream_from
-    stream_goes_on content behind is = stands_behind (suc (max - length frames - 1)) one_more ∙ ap (λ r. all_before frames (by_reading (stream_from (max - length frames - 1)) r)) is
+    stream_goes_on content behind is = stands_behind (suc (max - length frames - 1)) one_more
+        ∙ ap (λ r. all_before frames (by_reading (stream_from (max - length frames - 1)) r)) is
 
   -- where no frame may begin any more
   module _ (over : max ≤ length frames) (fits : length frames ≤ max) where
@@ -65,7 +70,8 @@ module _ (max : ℕ) (frames : List (List ℕ)) (bytes rest : List ℕ) (reads :
     stream_too_many is = last ∙ ap (λ b. all_before frames (no_frames (cond b None (Some Frames)))) is
 
   -- some frames may begin still
-  pub stream_some : length frames ≤ max → (others : List (List ℕ)) × (fault : Option RunFault) × (stream_from max bytes ≡ all_before frames (record { frames = others; fault = fault }))
+  pub stream_some : length frames ≤ max → (others : List (List ℕ)) × (fault : Option RunFault)
+      × (stream_from max bytes ≡ all_before frames (record { frames = others; fault = fault }))
   stream_some fits =
       let more = stream_from (max - length frames) rest in
       (more.frames, more.fault, stands_behind (max - length frames) (omega arith))

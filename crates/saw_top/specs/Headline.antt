@@ -11,9 +11,9 @@ use Rattle.saw_report.specs.declared.run_fault.RunFault.{RunFault}
 use Rattle.saw_report.specs.declared.run_fault.RunFault.TheVariants.{Words, Truncated, TooLong, Read, Write, Peer, Memory, FileMissing, FileTooLong, FileFailed, BadLine}
 use Rattle.saw_top.specs.Answers.{Prepared, answer_for, answer_of, prepared, task_by}
 use Rattle.saw_top.specs.Command.{Wish, wish_of}
-use Rattle.saw_top.specs.Faults.{is_told}
+use Rattle.saw_top.specs.EndingFaults.{is_told}
 use Rattle.saw_top.specs.History.{RootsTell}
-use Rattle.saw_top.specs.Judging.{StopsAtLength, TakesNext}
+use Rattle.saw_top.specs.StreamJudging.{StopsAtLength, TakesNext}
 use Rattle.saw_top.specs.Limits.{max_frames}
 use Rattle.saw_top.specs.Outside.{End, Outside, Sides, SomeFailed, SomeRose, WritesFront, sides_of}
 use Rattle.saw_top.specs.Run.{Answer, notes_of}
@@ -88,7 +88,7 @@ module _ (answer : Answer) (bytes : List ℕ) (left : Option (List ℕ)) (writte
     pub prompt : GoesOn
     pub ends : EndsBy came
 
--- ---- what a promise of an answer rests on
+-- ---- what is said of an answer rests on this
 
 -- processors that tell their actions, and maps of blocks that have roots which tell them apart
 pub record RestsOn (processors : Processors) (answer : Answer) : Type 0 where
@@ -174,17 +174,19 @@ TellsEnd (Err fault) before after status =
 -- ---- the two promises of a run
 
 module _ (given : Files → World) (words : List (List ℕ)) (before after : Outside) (status : ℕ) where
-  -- Output, notes and status are the answer, where memory was not refused and no call failed.
+  -- Output, notes and status are the answer, where memory was not refused and no call failed. It rests on roots alone.
   pub record IsAnswered : Type 0 where
     pub files : Files
     pub held : IfSome before.shelf.tells (λ told. files ≡ told)
     pub gives : IfSome before.input.tells (λ bytes. let answer = answer_of (given files) words bytes in
-        RestsOn (given files).processors answer
+        RootsTell first_half answer.maps
         → (status ≡ 7) ⊎ (SomeFailed before after ⊎ Gives answer (sides_of before after) status))
 
-  -- How it ended: what it came to, what was done up to there, and what the notes tell then.
+  -- How it ended: what it came to, what was done up to there, and what the notes tell then. Each processor tells its
+  -- actions, so that what is said of the answer rests on roots alone.
   pub record HasEnded : Type 0 where
     pub came : Result ℕ RunFault
     pub notes : End (List ℕ)
     pub done : CarriesOut given (wish_of words) before (record after { notes = notes }) came
+    pub tells : TellsAll (given done.files).processors
     pub told : TellsEnd came notes after.notes status

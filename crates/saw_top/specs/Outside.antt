@@ -7,7 +7,7 @@ use Rattle.saw_io.specs.Shelf.{Files}
 use Rattle.saw_io.specs.declared.source.Source as source
 use Rattle.saw_io.specs.declared.sink.Sink as sink
 use Rattle.saw_io.specs.declared.shelf.Shelf as shelf
-use Rattle.saw_station.specs.Desks.{Place}
+use Rattle.saw_station.specs.DeskPlaces.{Place}
 use Rattle.saw_top.specs.declared.task.Lines.{Lines}
 use Rattle.saw_top.specs.declared.task.Lines.TheVariants.{All, Refused}
 

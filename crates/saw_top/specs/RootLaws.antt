@@ -4,7 +4,7 @@ use Rattle.std.specs.FinMap as finite
 use Rattle.saw_address.specs.Maps.{AreAddresses, StateMap}
 use Rattle.saw_context.specs.Outcome.{Processors}
 use Rattle.saw_messages.specs.Reasons.{has_own_reason}
-use Rattle.saw_messages.specs.Shapes.{TxShape}
+use Rattle.saw_messages.specs.TxShapes.{TxShape}
 use Rattle.saw_messages.specs.declared.talk.Turn.{Turn}
 use Rattle.saw_node.specs.Hashes.{first_half}
 use Rattle.saw_node.specs.Trees.{Clash}

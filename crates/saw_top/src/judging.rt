@@ -5,7 +5,7 @@ ghost use Rattle.std.specs.Io.KnownBytes.{Appends};
 ghost use Rattle.saw_crew.specs.Desks.{Failed, HaveSameOffers, KeepsDesks, offers_at};
 ghost use Rattle.saw_faults.specs.Counts.{Rose};
 ghost use Rattle.saw_journal.specs.Ledger.{IsFull, Says};
-ghost use Rattle.saw_report.specs.Lines.{is_accepted};
+ghost use Rattle.saw_receipts.specs.Verdicts.{is_accepted};
 ghost use Rattle.saw_station.specs.Serving.{processors_at};
 ghost use Rattle.saw_top.specs.Reports.{line_of, said_of};
 ghost use Rattle.saw_top.specs.World.{TellsAll, rules_by};
@@ -52,16 +52,6 @@ pub(crate) fn judge<R: Station, V: Verifier>(
     }
 }
 
-/// Whether a verdict accepts its block.
-pub(crate) fn is_accepted(verdict: &Verdict) -> bool
-    ensures { result ≡ is_accepted verdict.now }
-{
-    match verdict {
-        Verdict::Committed | Verdict::Stored => true,
-        Verdict::Refused { fault: _ } => false,
-    }
-}
-
 // The block that was accepted last.
 fn latest(journal: &Journal<Sha512Half>) -> Option<&BlockRecord>
     ensures { option_copied result ≡ slice_get journal.now.blocks (length journal.now.blocks - 1) }
@@ -91,7 +81,7 @@ pub(crate) fn tell_block<O: Sink>(
     ensures later { O.faults output.old ≤ O.faults output.new }
     ensures cause { IsErrOf result RunFault.Write → Rose (O.faults output.old) (O.faults output.new) }
 {
-    let accepted = is_accepted(verdict);
+    let accepted = verdict.is_accepted();
     if accepted && lines == Lines::Refused {
         return Ok(());
     }

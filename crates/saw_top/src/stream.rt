@@ -5,13 +5,13 @@ ghost use Rattle.std.specs.Io.KnownBytes.{Appends, Consumes};
 ghost use Rattle.saw_crew.specs.Desks.{HaveSameOffers, KeepsDesks, offers_at};
 ghost use Rattle.saw_faults.specs.Counts.{Rose};
 ghost use Rattle.saw_station.specs.Serving.{processors_at};
-ghost use Rattle.saw_top.specs.Faults.{IsOfStream};
-ghost use Rattle.saw_top.specs.Judging.{Judges, WhereRootsTell};
+ghost use Rattle.saw_top.specs.EndingFaults.{IsOfStream};
+ghost use Rattle.saw_top.specs.StreamJudging.{Judges, WhereRootsTell};
 ghost use Rattle.saw_top.specs.Limits.{max_blocks};
 ghost use Rattle.saw_top.specs.Outside.{SomeRose, counts_of};
 ghost use Rattle.saw_top.specs.World.{TellsAll, rules_by};
 
-use crate::judging::{is_accepted, judge, tell_block};
+use crate::judging::{judge, tell_block};
 use crate::task::Lines;
 use saw_io::{Sink, Source, fill, read_frame};
 use saw_journal::Journal;
@@ -85,7 +85,7 @@ pub(crate) fn judge_stream<S: Source, O: Sink, V: Verifier, R: Station>(
             Some(content) => {
                 let verdict = judge(journal, desks, verifier, &content)?;
                 tell_block(alloc, output, lines, journal, place, &verdict)?;
-                refused |= !is_accepted(&verdict);
+                refused |= !verdict.is_accepted();
             }
         }
     }

@@ -6,7 +6,7 @@ ghost use Rattle.saw_io.specs.Shelf.{Files};
 ghost use Rattle.saw_station.specs.Serving.{processors_at};
 ghost use Rattle.saw_top.specs.Answers.{vouched};
 ghost use Rattle.saw_top.specs.Headline.{Does};
-ghost use Rattle.saw_top.specs.Judged.{JudgesFor};
+ghost use Rattle.saw_top.specs.StreamJudging.{JudgesFor};
 ghost use Rattle.saw_top.specs.Limits.{max_blocks};
 ghost use Rattle.saw_top.specs.Outside.{End, counts_of, outside_with};
 

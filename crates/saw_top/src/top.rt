@@ -71,9 +71,8 @@ pub fn run<S: Source, O: Sink, N: Sink, F: Shelf, V: Verifier>(
     verifier: &V,
 ) -> Status
     // Unless memory was refused (7) or a call failed, output, notes and status are the answer, where input
-    // and output tell their bytes, the verifier is a function, as its trait says, each processor tells its
-    // actions, as the built-in ones do, and no two different maps of accepted blocks have one root. Files that
-    // are not told are some files.
+    // and output tell their bytes, the verifier is a function, as its trait says, and no two different maps of
+    // accepted blocks have one root. Files that are not told are some files.
     ensures answered { let world = outside S.Source O.Sink N.Sink F.Shelf in
         IsAnswered (world_with (V.accepts verifier.now) (alone [])) (map string_bytes words.now)
         (world input.old output.old notes.old shelf.old)

@@ -30,7 +30,8 @@ or_last false false = refl
 
 module _ {A : Type 0} where
   -- what a set is asked for a line
-  any_found : (line : List ℕ) (keys : List (Vec ℕ A)) → list_any (λ one. is_eq (slice_cmp nat_cmp line one.items)) keys ≡ list_any (λ one. bytes_eq line one.items) keys
+  any_found : (line : List ℕ) (keys : List (Vec ℕ A)) → list_any (λ one. is_eq (slice_cmp nat_cmp line one.items)) keys ≡ list_any
+      (λ one. bytes_eq line one.items) keys
   any_found line [] = refl
   any_found line (one ∷ keys) = rw (is_eq-slice_cmp line one.items, any_found line keys) refl
 
@@ -45,21 +46,25 @@ module _ {A : Type 0} where
   same_bytes key one e = (bytes_eq-Decides key.items one.items).0 (sym (is_eq-slice_cmp key.items one.items) ∙ ap is_eq e)
 
   -- one step of an insertion, by the order of the new line and the first
-  insert_step : (has : Vec ℕ A → Bool) (key one : Vec ℕ A) (keys more : List (Vec ℕ A)) (order : Ordering) → (order ≡ Equal → has key ≡ has one) → list_any has more ≡ (has key || list_any has keys)
+  insert_step : (has : Vec ℕ A → Bool) (key one : Vec ℕ A) (keys more : List (Vec ℕ A)) (order : Ordering) → (order ≡ Equal → has key ≡ has one)
+      → list_any has more ≡ (has key || list_any has keys)
       → list_any has (match_ordering order (key ∷ one ∷ keys) (one ∷ keys) (one ∷ more)) ≡ (has key || (has one || list_any has keys))
   insert_step has key one keys more Less same ih = refl
   insert_step has key one keys more Equal same ih = rw (same refl) (or_twice (has one) (list_any has keys))
   insert_step has key one keys more Greater same ih = rw ih (or_swap (has one) (has key) (list_any has keys))
 
-  any_inserted : (line : List ℕ) (keys : List (Vec ℕ A)) (key : Vec ℕ A) → list_any (λ one. bytes_eq line one.items) (insert_key line_cmp keys key) ≡ (bytes_eq line key.items || list_any (λ one. bytes_eq line one.items) keys)
+  any_inserted : (line : List ℕ) (keys : List (Vec ℕ A)) (key : Vec ℕ A)
+      → list_any (λ one. bytes_eq line one.items) (insert_key line_cmp keys key) ≡ (bytes_eq line key.items || list_any (λ one. bytes_eq line one.items) keys)
   any_inserted line [] key = refl
   any_inserted line (one ∷ keys) key =
-      insert_step (λ other. bytes_eq line other.items) key one keys (insert_key line_cmp keys key) (line_cmp key one) (λ e. ap (bytes_eq line) (same_bytes key one e)) (any_inserted line keys key)
+      insert_step (λ other. bytes_eq line other.items) key one keys (insert_key line_cmp keys key) (line_cmp key one)
+      (λ e. ap (bytes_eq line) (same_bytes key one e)) (any_inserted line keys key)
 
   pub holds_none : (held : BTreeSet (Vec ℕ A)) → held.keys ≡ [] → HoldsLines held []
   holds_none held empty = λ line. ap (list_any (λ (one : Vec ℕ A). bytes_eq line one.items)) empty
 
-  pub holds_one_more : (old new : BTreeSet (Vec ℕ A)) (key : Vec ℕ A) (lines : List (List ℕ)) → new.keys ≡ insert_key line_cmp old.keys key → HoldsLines old lines → HoldsLines new (lines ++ key.items ∷ [])
+  pub holds_one_more : (old new : BTreeSet (Vec ℕ A)) (key : Vec ℕ A) (lines : List (List ℕ)) → new.keys ≡ insert_key line_cmp old.keys key
+      → HoldsLines old lines → HoldsLines new (lines ++ key.items ∷ [])
   holds_one_more old new key lines inserted holds = λ line.
       ap (list_any (λ (one : Vec ℕ A). bytes_eq line one.items)) inserted
       ∙ any_inserted line old.keys key

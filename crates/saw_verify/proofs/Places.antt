@@ -1,5 +1,6 @@
 -- The place of the first bad line.
-use Rattle.std.proofs.Common.{◌≡◌, ℕ, suc, zero, ◌+◌, ◌<◌, ◌≤◌, Bool, true, false, ◌||◌, not, cond, List, [], ◌∷◌, length, get_or, map, Some, None, refl, ap, inl, inr, arith, eqb}
+use Rattle.std.proofs.Common.{◌≡◌, ℕ, suc, zero, ◌+◌, ◌<◌, ◌≤◌, Bool, true, false, ◌||◌, not, cond, List, [], ◌∷◌, length, get_or, map, Some, None}
+use Rattle.std.proofs.Common.{refl, ap, inl, inr, arith, eqb}
 use Rattle.std.specs.List.{list_any, position, position_or_len, onto_first}
 use Rattle.std.proofs.lemmas.Bool.{cases_lt, lt-ltb, eqb-false, and_parts, not-true}
 use Rattle.std.proofs.lemmas.List.{length-map}
@@ -33,7 +34,8 @@ module _ {X : Type 0} (p : X → Bool) where
 
 -- ---- the place of a line
 
-after_line : (here : Bool) (byte : ℕ) (parts : List (List ℕ)) (n : ℕ) → ((i : ℕ) → 0 < length (get_or parts i []) → i + 1 ≤ n) → (i : ℕ) → 0 < length (get_or (cond here ([] ∷ parts) (onto_first byte parts)) i []) → i + 1 ≤ suc n
+after_line : (here : Bool) (byte : ℕ) (parts : List (List ℕ)) (n : ℕ) → ((i : ℕ) → 0 < length (get_or parts i []) → i + 1 ≤ n) → (i : ℕ)
+    → 0 < length (get_or (cond here ([] ∷ parts) (onto_first byte parts)) i []) → i + 1 ≤ suc n
 after_line true byte parts n ih zero h = omega arith
 after_line true byte parts n ih (suc i) h = let past = ih i h in omega arith
 after_line false byte [] n ih zero h = omega arith

@@ -1,5 +1,6 @@
 -- A list that is written is read again.
-use Rattle.std.proofs.Common.{◌≡◌, ℕ, ◌+◌, true, false, not, List, [], ◌∷◌, ◌++◌, ◌==◌, length, map, filter, take, drop, Some, None, refl, sym, ap, ◌∙◌, arith, append_assoc}
+use Rattle.std.proofs.Common.{◌≡◌, ℕ, ◌+◌, true, false, not, List, [], ◌∷◌, ◌++◌, ◌==◌, length, map, filter, take, drop, Some, None, refl, sym, ap}
+use Rattle.std.proofs.Common.{◌∙◌, arith, append_assoc}
 use Rattle.std.specs.Prelude.{nat_lt, option_map}
 use Rattle.std.specs.List.{All, AllByRecursion, list_all, position, prefix_len}
 use Rattle.std.proofs.lemmas.Bool.{and_parts, cond-false, eqb-true, false≢true, le-ltb, ne_eqb}
@@ -45,13 +46,25 @@ module _ (t : Triple) (fine : IsTriple t) where
   digest_is = digest_of_parts t.key (32 ∷ []) t.signature (32 ∷ []) t.digest (line t) key_size refl signature_size refl refl
 
   line_size : length (line t) ≡ 324
-  line_size = size_of_parts t.key (32 ∷ []) t.signature (32 ∷ []) t.digest (line t) key_size refl signature_size refl refl ∙ ap (λ n. 196 + n) (hex_size 128 t.digest fine.digest)
+  line_size = size_of_parts t.key (32 ∷ []) t.signature (32 ∷ []) t.digest (line t) key_size refl signature_size refl refl
+      ∙ ap (λ n. 196 + n) (hex_size 128 t.digest fine.digest)
 
   triple_is : triple_of (line t) ≡ t
   triple_is = rw (key_is, signature_is, digest_is) refl
 
   line_is_triple : is_triple (line t) ≡ true
-  line_is_triple = rw (line_size, key_is, first_is, signature_is, second_is, digest_is, hex_digits 66 t.key fine.key, hex_digits 128 t.signature fine.signature, hex_digits 128 t.digest fine.digest) refl
+  line_is_triple = rw (
+    line_size,
+    key_is,
+    first_is,
+    signature_is,
+    second_is,
+    digest_is,
+    hex_digits 66 t.key fine.key,
+    hex_digits 128 t.signature
+        fine.signature,
+    hex_digits 128 t.digest fine.digest,
+  ) refl
 
 -- ---- no line has a line feed
 
@@ -79,7 +92,8 @@ line_lacks t fine =
     let signature = digits_lack t.signature (hex_digits 128 t.signature fine.signature) in
     let digest = digits_lack t.digest (hex_digits 128 t.digest fine.digest) in
     both_lack (t.key ++ 32 ∷ [] ++ t.signature ++ 32 ∷ []) t.digest
-    (both_lack (t.key ++ 32 ∷ [] ++ t.signature) (32 ∷ []) (both_lack (t.key ++ 32 ∷ []) t.signature (both_lack t.key (32 ∷ []) key space_lacks) signature) space_lacks)
+    (both_lack (t.key ++ 32 ∷ [] ++ t.signature) (32 ∷ []) (both_lack (t.key ++ 32 ∷ []) t.signature
+    (both_lack t.key (32 ∷ []) key space_lacks) signature) space_lacks)
     digest
 
 -- ---- the lines of the whole text
@@ -97,7 +111,8 @@ not_empty t fine = ap (λ n. n == 0) (line_size t fine)
 not_bad : (t : Triple) (fine : IsTriple t) → is_bad_line (line t) ≡ false
 not_bad t fine = rw (not_empty t fine, line_is_triple t fine) refl
 
-all_pass : (triples : List Triple) → AllByRecursion IsTriple triples → prefix_len (λ one. not (is_bad_line one)) (map line triples ++ [] ∷ []) ≡ length (map line triples ++ [] ∷ [])
+all_pass : (triples : List Triple) → AllByRecursion IsTriple triples
+    → prefix_len (λ one. not (is_bad_line one)) (map line triples ++ [] ∷ []) ≡ length (map line triples ++ [] ∷ [])
 all_pass [] all = refl
 all_pass (t ∷ triples) all = rw (not_bad t all.0) (omega (arith, all_pass triples all.1))
 
@@ -107,7 +122,8 @@ none_bad triples all =
     cond-false (nat_lt (prefix_len (λ one. not (is_bad_line one)) lines) (length lines)) (Some (prefix_len (λ one. not (is_bad_line one)) lines)) None
     (le-ltb (prefix_len (λ one. not (is_bad_line one)) lines) (length lines) (omega (arith, all_pass triples all)))
 
-all_listed : (triples : List Triple) → AllByRecursion IsTriple triples → map triple_of (filter (λ one. not (is_empty one)) (map line triples ++ [] ∷ [])) ≡ triples
+all_listed : (triples : List Triple) → AllByRecursion IsTriple triples
+    → map triple_of (filter (λ one. not (is_empty one)) (map line triples ++ [] ∷ [])) ≡ triples
 all_listed [] all = refl
 all_listed (t ∷ triples) all = rw (not_empty t all.0, triple_is t all.0, all_listed triples all.1) refl
 

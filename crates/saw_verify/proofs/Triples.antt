@@ -1,5 +1,6 @@
 -- The lines of triples.
-use Rattle.std.proofs.Common.{◌≡◌, ℕ, ◌+◌, ◌-◌, Bool, true, false, ◌&&◌, List, [], ◌∷◌, ◌++◌, ◌==◌, length, take, drop, refl, sym, ap, ◌∙◌, arith, length-append, append_assoc}
+use Rattle.std.proofs.Common.{◌≡◌, ℕ, ◌+◌, ◌-◌, Bool, true, false, ◌&&◌, List, [], ◌∷◌, ◌++◌, ◌==◌, length, take, drop, refl, sym, ap, ◌∙◌, arith}
+use Rattle.std.proofs.Common.{length-append, append_assoc}
 use Rattle.std.specs.List.{list_all}
 use Rattle.std.specs.Str.{bytes_eq}
 use Rattle.std.proofs.lemmas.Bool.{and_parts, and_from, false_from_ne_true, eqb-true, eq-eqb}
@@ -30,11 +31,13 @@ take_joined n m xs =
     cc
 
 -- a line is its parts, one after another
-joined_parts : (line first second : List ℕ) → take 1 (drop 66 line) ≡ first → take 1 (drop 195 line) ≡ second → take 66 line ++ first ++ take 128 (drop 67 line) ++ second ++ drop 196 line ≡ line
+joined_parts : (line first second : List ℕ) → take 1 (drop 66 line) ≡ first → take 1 (drop 195 line) ≡ second
+    → take 66 line ++ first ++ take 128 (drop 67 line) ++ second ++ drop 196 line ≡ line
 joined_parts line first second is_first is_second =
     rw (← is_first, ← is_second, take_joined 66 1 line, take_joined 67 128 line, take_joined 195 1 line) (take-append-drop 196 line)
 
-module _ (key first signature second digest line : List ℕ) (key_size : length key ≡ 66) (first_size : length first ≡ 1) (signature_size : length signature ≡ 128) (second_size : length second ≡ 1)
+module _ (key first signature second digest line : List ℕ) (key_size : length key ≡ 66) (first_size : length first ≡ 1)
+    (signature_size : length signature ≡ 128) (second_size : length second ≡ 1)
     (is : key ++ first ++ signature ++ second ++ digest ≡ line) where
   by_key : line ≡ key ++ (first ++ (signature ++ (second ++ digest)))
   by_key = sym is ∙ simp append_assoc
@@ -54,10 +57,12 @@ module _ (key first signature second digest line : List ℕ) (key_size : length 
   pub digest_of_parts : drop 196 line ≡ digest
   digest_of_parts =
       ap (drop 196) (sym is)
-      ∙ drop_at (key ++ first ++ signature ++ second) digest 196 (omega (arith, length-append (key ++ first ++ signature) second, length-append (key ++ first) signature, length-append key first))
+      ∙ drop_at (key ++ first ++ signature ++ second) digest 196
+      (omega (arith, length-append (key ++ first ++ signature) second, length-append (key ++ first) signature, length-append key first))
 
   pub first_of_parts : take 1 (drop 66 line) ≡ first
-  first_of_parts = ap (λ (v : List ℕ). take 1 v) (ap (drop 66) by_key ∙ drop_at key (first ++ (signature ++ (second ++ digest))) 66 key_size) ∙ take_at first (signature ++ (second ++ digest)) 1 first_size
+  first_of_parts = ap (λ (v : List ℕ). take 1 v) (ap (drop 66) by_key ∙ drop_at key (first ++ (signature ++ (second ++ digest))) 66 key_size)
+      ∙ take_at first (signature ++ (second ++ digest)) 1 first_size
 
   pub second_of_parts : take 1 (drop 195 line) ≡ second
   second_of_parts =
@@ -67,7 +72,14 @@ module _ (key first signature second digest line : List ℕ) (key_size : length 
       ∙ take_at second digest 1 second_size
 
   pub size_of_parts : length line ≡ 196 + length digest
-  size_of_parts = ap (λ (v : List ℕ). length v) (sym is) ∙ omega (arith, length-append (key ++ first ++ signature ++ second) digest, length-append (key ++ first ++ signature) second, length-append (key ++ first) signature, length-append key first)
+  size_of_parts = ap (λ (v : List ℕ). length v) (sym is) ∙ omega (
+    arith,
+    length-append (key ++ first ++ signature ++ second) digest,
+    length-append (key ++ first ++ signature) second,
+    length-append
+        (key ++ first) signature,
+    length-append key first,
+  )
 
 -- ---- a line and its triple
 
@@ -87,7 +99,8 @@ odd_parts a b c d e f h =
 
 spaced : (line : List ℕ) → is_triple line ≡ true → Spaced line
 spaced line h =
-    let tests = odd_parts (length line == 324) (list_all is_hex_digit (take 66 line)) (bytes_eq (take 1 (drop 66 line)) (32 ∷ [])) (list_all is_hex_digit (take 128 (drop 67 line))) (bytes_eq (take 1 (drop 195 line)) (32 ∷ [])) (list_all is_hex_digit (drop 196 line)) h in
+    let tests = odd_parts (length line == 324) (list_all is_hex_digit (take 66 line)) (bytes_eq (take 1 (drop 66 line)) (32 ∷ []))
+    (list_all is_hex_digit (take 128 (drop 67 line))) (bytes_eq (take 1 (drop 195 line)) (32 ∷ [])) (list_all is_hex_digit (drop 196 line)) h in
     record {
       size = eqb-true (length line) 324 tests.0;
       first = (bytes_eq-Decides (take 1 (drop 66 line)) (32 ∷ [])).0 tests.1;
@@ -118,7 +131,8 @@ module _ (key signature digest : List ℕ) where
   matches_by : (triple : Triple) → triple.key ≡ key → triple.signature ≡ signature → triple.digest ≡ digest → matches triple ≡ true
   matches_by triple first second third =
       and_from (bytes_eq triple.key key && bytes_eq triple.signature signature) (bytes_eq triple.digest digest)
-      (and_from (bytes_eq triple.key key) (bytes_eq triple.signature signature) ((bytes_eq-Decides triple.key key).1 first) ((bytes_eq-Decides triple.signature signature).1 second))
+      (and_from (bytes_eq triple.key key) (bytes_eq triple.signature signature) ((bytes_eq-Decides triple.key key).1 first)
+      ((bytes_eq-Decides triple.signature signature).1 second))
       ((bytes_eq-Decides triple.digest digest).1 third)
 
   module _ (line : List ℕ) (triple : is_triple line ≡ true) where
@@ -148,10 +162,18 @@ module _ (key signature digest : List ℕ) where
         ((bytes_eq-Decides asked line).1 is)
 
     pub same_answer : (fits && bytes_eq asked line) ≡ matches (triple_of line)
-    same_answer = same_from_decides {P = matches (triple_of line) ≡ true} (fits && bytes_eq asked line) (matches (triple_of line)) (matches_asked, asked_matches) (λ h. h, λ h. h)
+    same_answer = same_from_decides {P = matches (triple_of line) ≡ true} (fits && bytes_eq asked line) (matches (triple_of line))
+        (matches_asked, asked_matches) (λ h. h, λ h. h)
 
   -- no line that is asked for is empty
   pub asked_filled : (line : List ℕ) → is_empty line ≡ true → bytes_eq asked line ≡ false
   asked_filled line empty = false_from_ne_true (bytes_eq asked line) (λ h.
       let is = (bytes_eq-Decides asked line).0 h in
-      absurd (omega (arith, eqb-true (length line) 0 empty, ap length is, length-append (key ++ 32 ∷ [] ++ signature ++ 32 ∷ []) digest, length-append (key ++ 32 ∷ [] ++ signature) (32 ∷ []))))
+      absurd (omega (
+        arith,
+        eqb-true (length line) 0 empty,
+        ap length is,
+        length-append (key ++ 32 ∷ [] ++ signature ++ 32 ∷ []) digest,
+        length-append
+            (key ++ 32 ∷ [] ++ signature) (32 ∷ []),
+      )))

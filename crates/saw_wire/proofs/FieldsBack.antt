@@ -1,5 +1,6 @@
 -- What is written for a field is read back as its value, and what is written for a message as that message.
-use Rattle.std.proofs.Common.{◌≡◌, ℕ, zero, suc, ◌<◌, ◌%◌, ◌^◌, Bool, true, false, not, List, [], ◌∷◌, ◌++◌, length, map, Option, Some, None, Ok, refl, sym, ap, arith}
+use Rattle.std.proofs.Common.{◌≡◌, ℕ, zero, suc, ◌<◌, ◌%◌, ◌^◌, Bool, true, false, not, List, [], ◌∷◌, ◌++◌, length, map, Option, Some, None, Ok}
+use Rattle.std.proofs.Common.{refl, sym, ap, arith}
 use Rattle.std.specs.Prelude.{◌==◌, if◌then◌else◌}
 use Rattle.std.specs.List.{cons_option, filter_map, flat_map, AllByRecursion}
 use Rattle.std.specs.Str.{is_utf8}
@@ -13,7 +14,8 @@ use Rattle.saw_wire.specs.Written.{texts_pieces, items_pieces}
 use Rattle.saw_wire.specs.declared.fault.MessageFault.{MessageFault}
 use Rattle.saw_wire.specs.MessageFaults.{◌<|>◌}
 use Rattle.saw_wire.specs.MessageReading.{first_fault, pieces_of, fault_of, reading}
-use Rattle.saw_wire.specs.Fields.{number_of, number_in, chunk_in, last_or, last_number, last_bytes, last_flag, last_small, all_bytes, all_items, embedded, inner_pieces, inner_fault, text_fault_of, text_fault, item_fault}
+use Rattle.saw_wire.specs.Fields.{number_of, number_in, chunk_in, last_or, last_number, last_bytes, last_flag, last_small, all_bytes, all_items}
+use Rattle.saw_wire.specs.Fields.{embedded, inner_pieces, inner_fault, text_fault_of, text_fault, item_fault}
 use Rattle.saw_wire.proofs.ReadBack.{written_back}
 use Rattle.saw_wire.proofs.FieldFaults.{none_left}
 
@@ -68,7 +70,8 @@ texts_kept f g false is [] = refl
 texts_kept f g true is (text ∷ texts) = rw is (ap (λ (others : List (List ℕ)). text ∷ others) (texts_kept f g true is texts))
 texts_kept f g false is (text ∷ texts) = rw is (texts_kept f g false is texts)
 
-items_kept : {A : Type 0} (pieces : A → List Piece) (f g : ℕ) (same : Bool) → (g == f) ≡ same → (items : List A) → filter_map (chunk_in f) (items_pieces pieces g items) ≡ (if same then map (λ item. spelled (pieces item)) items else [])
+items_kept : {A : Type 0} (pieces : A → List Piece) (f g : ℕ) (same : Bool) → (g == f) ≡ same → (items : List A)
+    → filter_map (chunk_in f) (items_pieces pieces g items) ≡ (if same then map (λ item. spelled (pieces item)) items else [])
 unfolding chunk_in
 items_kept pieces f g true is [] = refl
 items_kept pieces f g false is [] = refl
@@ -81,7 +84,8 @@ chunks_of_bytes f g bytes = bytes_kept f g bytes (length bytes == 0) (g == f) re
 pub chunks_of_texts : (f g : ℕ) (texts : List (List ℕ)) → filter_map (chunk_in f) (texts_pieces g texts) ≡ (if g == f then texts else [])
 chunks_of_texts f g texts = texts_kept f g (g == f) refl texts
 
-pub chunks_of_items : {A : Type 0} (pieces : A → List Piece) (f g : ℕ) (items : List A) → filter_map (chunk_in f) (items_pieces pieces g items) ≡ (if g == f then map (λ item. spelled (pieces item)) items else [])
+pub chunks_of_items : {A : Type 0} (pieces : A → List Piece) (f g : ℕ) (items : List A)
+    → filter_map (chunk_in f) (items_pieces pieces g items) ≡ (if g == f then map (λ item. spelled (pieces item)) items else [])
 chunks_of_items pieces f g items = items_kept pieces f g (g == f) refl items
 
 pub chunks_of_number : (f g n : ℕ) → filter_map (chunk_in f) (number_pieces g n) ≡ []
@@ -104,7 +108,18 @@ numbers_of_items pieces f g [] = refl
 numbers_of_items pieces f g (item ∷ items) = rw (no_number (g == f) (spelled (pieces item)), numbers_of_items pieces f g items) refl
 
 -- what a field shows of all that was written for a message
-pub ruleset field_values = (filter_map-append, chunks_of_bytes, chunks_of_texts, chunks_of_items, chunks_of_number, numbers_of_number, numbers_of_bytes, numbers_of_texts, numbers_of_items, append-nil)
+pub ruleset field_values = (
+  filter_map-append,
+  chunks_of_bytes,
+  chunks_of_texts,
+  chunks_of_items,
+  chunks_of_number,
+  numbers_of_number,
+  numbers_of_bytes,
+  numbers_of_texts,
+  numbers_of_items,
+  append-nil,
+)
 
 -- ---- the value that a field's values give
 
@@ -132,7 +147,8 @@ flag_of : (flag : Bool) → not ((if flag then 1 else 0) == 0) ≡ flag
 flag_of true = refl
 flag_of false = refl
 
-pub flag_back : (field : ℕ) (pieces : List Piece) (flag : Bool) → filter_map (number_in field) pieces ≡ number_values (if flag then 1 else 0) → last_flag field pieces ≡ flag
+pub flag_back : (field : ℕ) (pieces : List Piece) (flag : Bool) → filter_map (number_in field) pieces ≡ number_values (if flag then 1 else 0)
+    → last_flag field pieces ≡ flag
 flag_back field pieces flag shown = rw (number_back field pieces (if flag then 1 else 0) shown) (flag_of flag)
 
 -- ---- records without a fault
@@ -141,7 +157,8 @@ flag_back field pieces flag shown = rw (number_back field pieces (if flag then 1
 pub record IsFine (fault : Piece → Option MessageFault) (pieces : List Piece) : Type 0 where
   pub none : first_fault fault pieces ≡ None
 
-neither : (a b : Piece → Option MessageFault) (pieces : List Piece) → first_fault a pieces ≡ None → first_fault b pieces ≡ None → first_fault (λ piece. a piece <|> b piece) pieces ≡ None
+neither : (a b : Piece → Option MessageFault) (pieces : List Piece) → first_fault a pieces ≡ None → first_fault b pieces ≡ None
+    → first_fault (λ piece. a piece <|> b piece) pieces ≡ None
 unfolding first_fault
 neither a b [] first second = refl
 neither a b (piece ∷ pieces) first second =
@@ -164,7 +181,8 @@ pub ◌and◌ : {a b : Piece → Option MessageFault} {pieces : List Piece} → 
 first and second = record { none = neither _ _ _ first.none second.none }
 
 one_fine : {X : Type 0} (fault : Option X → Option MessageFault) (shown : Option X) (values : List X) (others : Option MessageFault) → fault None ≡ None
-    → AllByRecursion (λ value. fault (Some value) ≡ None) (cons_option shown values) → (AllByRecursion (λ value. fault (Some value) ≡ None) values → others ≡ None) → (fault shown <|> others) ≡ None
+    → AllByRecursion (λ value. fault (Some value) ≡ None) (cons_option shown values)
+    → (AllByRecursion (λ value. fault (Some value) ≡ None) values → others ≡ None) → (fault shown <|> others) ≡ None
 one_fine fault None values others none fine rest = rw none (rest fine)
 one_fine fault (Some value) values others none fine rest = rw fine.0 (rest fine.1)
 
@@ -172,23 +190,30 @@ values_fine : {X : Type 0} (fault : Option X → Option MessageFault) (view : Pi
     → AllByRecursion (λ value. fault (Some value) ≡ None) (filter_map view pieces) → first_fault (λ piece. fault (view piece)) pieces ≡ None
 unfolding first_fault
 values_fine fault view [] none fine = refl
-values_fine fault view (piece ∷ pieces) none fine = one_fine fault (view piece) (filter_map view pieces) (first_fault (λ p. fault (view p)) pieces) none fine (values_fine fault view pieces none)
+values_fine fault view (piece ∷ pieces) none fine = one_fine fault (view piece) (filter_map view pieces)
+    (first_fault (λ p. fault (view p)) pieces) none fine (values_fine fault view pieces none)
 
 text_known : (field : ℕ) (text : List ℕ) → is_utf8 text ≡ true → text_fault_of field (Some text) ≡ None
 text_known field text is = rw is refl
 
-texts_known : (field : ℕ) (texts : List (List ℕ)) → AllByRecursion (λ text. is_utf8 text ≡ true) texts → AllByRecursion (λ text. text_fault_of field (Some text) ≡ None) texts
+texts_known : (field : ℕ) (texts : List (List ℕ)) → AllByRecursion (λ text. is_utf8 text ≡ true) texts
+    → AllByRecursion (λ text. text_fault_of field (Some text) ≡ None) texts
 texts_known field [] are = tt
 texts_known field (text ∷ texts) are = (text_known field text are.0, texts_known field texts are.1)
 
 if_some : (P : List ℕ → Type 0) (bytes : List ℕ) → P bytes → AllByRecursion P (bytes_values bytes)
 if_some P bytes is = elim (length bytes == 0) as (λ none. AllByRecursion P (if none then [] else bytes ∷ [])) [ true ↦ tt | false ↦ (is, tt) ]
 
-pub texts_fine : (field : ℕ) (pieces : List Piece) (texts : List (List ℕ)) → all_bytes field pieces ≡ texts → AllByRecursion (λ text. is_utf8 text ≡ true) texts → IsFine (text_fault field) pieces
+pub texts_fine : (field : ℕ) (pieces : List Piece) (texts : List (List ℕ)) → all_bytes field pieces ≡ texts
+    → AllByRecursion (λ text. is_utf8 text ≡ true) texts → IsFine (text_fault field) pieces
 unfolding text_fault
-texts_fine field pieces texts shown are = record { none = values_fine (text_fault_of field) (chunk_in field) pieces refl (rw shown (texts_known field texts are)) }
+texts_fine field pieces texts shown are = record {
+  none = values_fine (text_fault_of field) (chunk_in field) pieces refl
+      (rw shown (texts_known field texts are));
+}
 
-pub text_fine : (field : ℕ) (pieces : List Piece) (text : List ℕ) → all_bytes field pieces ≡ bytes_values text → is_utf8 text ≡ true → IsFine (text_fault field) pieces
+pub text_fine : (field : ℕ) (pieces : List Piece) (text : List ℕ) → all_bytes field pieces ≡ bytes_values text → is_utf8 text ≡ true
+    → IsFine (text_fault field) pieces
 text_fine field pieces text shown is = texts_fine field pieces (bytes_values text) shown (if_some (λ bytes. is_utf8 bytes ≡ true) text is)
 
 -- ---- messages
@@ -199,37 +224,48 @@ pub record ComesBack {A : Type 0} (of : List Piece → A) (fault : Piece → Opt
   pub said : of (pieces_of (spelled (pieces m))) ≡ m
 
 -- by the records that are written for it
-pub comes_back : {A : Type 0} (of : List Piece → A) (fault : Piece → Option MessageFault) (pieces : A → List Piece) (m : A) → AreWritable (pieces m) → IsFine fault (pieces m) → of (pieces m) ≡ m → ComesBack of fault pieces m
+pub comes_back : {A : Type 0} (of : List Piece → A) (fault : Piece → Option MessageFault) (pieces : A → List Piece) (m : A) → AreWritable (pieces m)
+    → IsFine fault (pieces m) → of (pieces m) ≡ m → ComesBack of fault pieces m
 unfolding fault_of pieces_of
 comes_back of fault pieces m fits fine said = let read = written_back (pieces m) fits in record { fine = rw read fine.none; said = rw read said }
 
-pub is_read : {A : Type 0} {of : List Piece → A} {fault : Piece → Option MessageFault} {pieces : A → List Piece} {m : A} → ComesBack of fault pieces m → reading of fault (spelled (pieces m)) ≡ Ok m
+pub is_read : {A : Type 0} {of : List Piece → A} {fault : Piece → Option MessageFault} {pieces : A → List Piece} {m : A} → ComesBack of fault pieces m
+    → reading of fault (spelled (pieces m)) ≡ Ok m
 is_read back = rw (back.fine, back.said) refl
 
 -- ---- repeated messages, by the law of the one
 
-items_said : {A : Type 0} {Is : A → Type 0} (of : List Piece → A) (fault : Piece → Option MessageFault) (pieces : A → List Piece) → ((m : A) → Is m → ComesBack of fault pieces m)
+items_said : {A : Type 0} {Is : A → Type 0} (of : List Piece → A) (fault : Piece → Option MessageFault) (pieces : A → List Piece)
+    → ((m : A) → Is m → ComesBack of fault pieces m)
     → (items : List A) → AllByRecursion Is items → map (λ bytes. of (pieces_of bytes)) (map (λ item. spelled (pieces item)) items) ≡ items
 items_said of fault pieces law [] are = refl
-items_said {A = A} of fault pieces law (item ∷ items) are = rw ((law item are.0).said) (ap (λ (others : List A). item ∷ others) (items_said of fault pieces law items are.1))
+items_said {A = A} of fault pieces law (item ∷ items) are = rw ((law item are.0).said)
+    (ap (λ (others : List A). item ∷ others) (items_said of fault pieces law items are.1))
 
-items_known : {A : Type 0} {Is : A → Type 0} (of : List Piece → A) (fault : Piece → Option MessageFault) (pieces : A → List Piece) → ((m : A) → Is m → ComesBack of fault pieces m)
+items_known : {A : Type 0} {Is : A → Type 0} (of : List Piece → A) (fault : Piece → Option MessageFault) (pieces : A → List Piece)
+    → ((m : A) → Is m → ComesBack of fault pieces m)
     → (items : List A) → AllByRecursion Is items → AllByRecursion (λ bytes. inner_fault fault (Some bytes) ≡ None) (map (λ item. spelled (pieces item)) items)
 items_known of fault pieces law [] are = tt
 items_known of fault pieces law (item ∷ items) are = ((law item are.0).fine, items_known of fault pieces law items are.1)
 
-pub items_back : {A : Type 0} {Is : A → Type 0} {of : List Piece → A} {fault : Piece → Option MessageFault} {pieces : A → List Piece} → ((m : A) → Is m → ComesBack of fault pieces m)
-    → (field : ℕ) (records : List Piece) (items : List A) → all_bytes field records ≡ map (λ item. spelled (pieces item)) items → AllByRecursion Is items → all_items of field records ≡ items
+pub items_back : {A : Type 0} {Is : A → Type 0} {of : List Piece → A} {fault : Piece → Option MessageFault} {pieces : A → List Piece}
+    → ((m : A) → Is m → ComesBack of fault pieces m)
+    → (field : ℕ) (records : List Piece) (items : List A) → all_bytes field records ≡ map (λ item. spelled (pieces item)) items
+    → AllByRecursion Is items → all_items of field records ≡ items
 items_back {of = of} {fault = fault} {pieces = pieces} law field records items shown are = rw shown (items_said of fault pieces law items are)
 
-pub items_fine : {A : Type 0} {Is : A → Type 0} {of : List Piece → A} {fault : Piece → Option MessageFault} {pieces : A → List Piece} → ((m : A) → Is m → ComesBack of fault pieces m)
-    → (field : ℕ) (records : List Piece) (items : List A) → all_bytes field records ≡ map (λ item. spelled (pieces item)) items → AllByRecursion Is items → IsFine (item_fault fault field) records
+pub items_fine : {A : Type 0} {Is : A → Type 0} {of : List Piece → A} {fault : Piece → Option MessageFault} {pieces : A → List Piece}
+    → ((m : A) → Is m → ComesBack of fault pieces m)
+    → (field : ℕ) (records : List Piece) (items : List A) → all_bytes field records ≡ map (λ item. spelled (pieces item)) items
+    → AllByRecursion Is items → IsFine (item_fault fault field) records
 unfolding item_fault
-items_fine {of = of} {fault = fault} {pieces = pieces} law field records items shown are = record { none = values_fine (inner_fault fault) (chunk_in field) records refl (rw shown (items_known of fault pieces law items are)) }
+items_fine {of = of} {fault = fault} {pieces = pieces} law field records items shown are =
+    record { none = values_fine (inner_fault fault) (chunk_in field) records refl (rw shown (items_known of fault pieces law items are)) }
 
 -- ---- a message within a message
 
-inner_append : (shown : Option (List ℕ)) (others : List (List ℕ)) → inner_pieces shown ++ flat_map pieces_of others ≡ flat_map pieces_of (cons_option shown others)
+inner_append : (shown : Option (List ℕ)) (others : List (List ℕ))
+    → inner_pieces shown ++ flat_map pieces_of others ≡ flat_map pieces_of (cons_option shown others)
 inner_append None others = refl
 inner_append (Some bytes) others = refl
 
@@ -246,7 +282,8 @@ said_by_values [] = sym said_by_none
 said_by_values (x ∷ bytes) = let some = not_zero (length (x ∷ bytes)) (omega arith) in rw some (append-nil (pieces_of (x ∷ bytes)))
 
 -- the records of an embedded message that was written
-pub embedded_back : (field : ℕ) (records inner : List Piece) → all_bytes field records ≡ bytes_values (spelled inner) → AreWritable inner → embedded field records ≡ inner
+pub embedded_back : (field : ℕ) (records inner : List Piece) → all_bytes field records ≡ bytes_values (spelled inner) → AreWritable inner
+    → embedded field records ≡ inner
 unfolding pieces_of
 embedded_back field records inner shown fits = rw (embedded_is field records, shown, said_by_values (spelled inner), written_back inner fits) refl
 
@@ -258,4 +295,7 @@ pub message_fine : {A : Type 0} {of : List Piece → A} {fault : Piece → Optio
     → all_bytes field records ≡ bytes_values (spelled (pieces m)) → ComesBack of fault pieces m → IsFine (item_fault fault field) records
 unfolding item_fault
 message_fine {fault = fault} {pieces = pieces} field records m shown back =
-    record { none = values_fine (inner_fault fault) (chunk_in field) records refl (rw shown (if_some (λ bytes. inner_fault fault (Some bytes) ≡ None) (spelled (pieces m)) back.fine)) }
+    record {
+      none = values_fine (inner_fault fault) (chunk_in field) records refl
+          (rw shown (if_some (λ bytes. inner_fault fault (Some bytes) ≡ None) (spelled (pieces m)) back.fine));
+    }

@@ -2,7 +2,7 @@ pub mod Pieces
 pub mod Reading
 pub mod Spelling
 pub mod Writing
-pub mod Faults
+pub mod FirstFaults
 pub mod MessageFaults
 pub mod MessageReading
 pub mod Fields

@@ -27,7 +27,8 @@ mark_is_ascii O = refl
 
 board_is_ascii : (board : List Mark) → list_all (λ b. ltb b 128) (map mark_code board) ≡ true
 board_is_ascii [] = refl
-board_is_ascii (mark ∷ board) = and_from (ltb (mark_code mark) 128) (list_all (λ b. ltb b 128) (map mark_code board)) (mark_is_ascii mark) (board_is_ascii board)
+board_is_ascii (mark ∷ board) = and_from (ltb (mark_code mark) 128) (list_all (λ b. ltb b 128) (map mark_code board)) (mark_is_ascii mark)
+    (board_is_ascii board)
 
 standing_is_ascii : (standing : Standing) → list_all (λ b. ltb b 128) (standing_text standing) ≡ true
 standing_is_ascii FirstNext = refl
@@ -55,4 +56,5 @@ texts_utf8 [] all = IsUtf8-nil
 texts_utf8 (entry ∷ []) all = entry_utf8 entry all.0
 texts_utf8 (entry ∷ next ∷ entries) all =
     let rest = join_with_byte 124 (map entry_text (next ∷ entries)) in
-    IsUtf8-append (entry_text entry) (124 ∷ rest) (entry_utf8 entry all.0) (IsUtf8-append (124 ∷ []) rest (utf8_from (124 ∷ []) refl) (texts_utf8 (next ∷ entries) all.1))
+    IsUtf8-append (entry_text entry) (124 ∷ rest) (entry_utf8 entry all.0)
+    (IsUtf8-append (124 ∷ []) rest (utf8_from (124 ∷ []) refl) (texts_utf8 (next ∷ entries) all.1))

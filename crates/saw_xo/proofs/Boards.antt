@@ -8,7 +8,8 @@ use Rattle.saw_xo.specs.declared.game.Mark.TheVariants.{Empty}
 use Rattle.saw_xo.proofs.Wholes.{all_of-missing}
 
 -- marks that stand place by place for the codes
-pub all_of-marks : (board : List Mark) (codes : List ℕ) → length board ≡ length codes → ((k : ℕ) → k < length codes → mark_in (get_or codes k 0) ≡ Some (get_or board k Empty)) → all_of (map mark_in codes) ≡ Some board
+pub all_of-marks : (board : List Mark) (codes : List ℕ) → length board ≡ length codes
+    → ((k : ℕ) → k < length codes → mark_in (get_or codes k 0) ≡ Some (get_or board k Empty)) → all_of (map mark_in codes) ≡ Some board
 all_of-marks [] [] e h = refl
 all_of-marks [] (c ∷ codes) e h = absurd (omega arith)
 all_of-marks (m ∷ board) [] e h = absurd (omega arith)
@@ -20,7 +21,8 @@ pub no_mark : (codes : List ℕ) (i : ℕ) → i < length codes → mark_in (get
 no_mark codes i h e = all_of-missing (map mark_in codes) i None (omega (arith, length-map codes mark_in, h)) (get_or-map mark_in codes i 0 None h ∙ e)
 
 -- a text of nine codes is a board where each is a mark
-pub board_whole : (text codes : List ℕ) (board : List Mark) → codes ≡ text → length codes ≡ 9 → length board ≡ 9 → ((k : ℕ) → k < 9 → mark_in (get_or codes k 0) ≡ Some (get_or board k Empty)) → Some board ≡ board_in text
+pub board_whole : (text codes : List ℕ) (board : List Mark) → codes ≡ text → length codes ≡ 9 → length board ≡ 9
+    → ((k : ℕ) → k < 9 → mark_in (get_or codes k 0) ≡ Some (get_or board k Empty)) → Some board ≡ board_in text
 board_whole text codes board e n full read =
     sym (all_of-marks board codes (full ∙ sym n) (λ k l. read k (omega arith)))
     ∙ sym (cond-true (eqb (length codes) 9) (all_of (map mark_in codes)) None (eq-eqb (length codes) 9 n)) ∙ ap board_in e

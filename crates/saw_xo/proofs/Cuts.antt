@@ -26,6 +26,8 @@ parts_of-none c text h = slice_split_none (λ b. b == c) text (none_passes (λ b
 pub parts_of-first : (c : ℕ) (first rest : List ℕ) → Lacks c first → parts_of c (first ++ c ∷ rest) ≡ first ∷ parts_of c rest
 parts_of-first c first rest h = slice_split_at (λ b. b == c) first c rest (none_passes (λ b. b == c) first h) (eq-eqb c c refl)
 
-pub parts_of-join : (c : ℕ) (first : List ℕ) (texts : List (List ℕ)) → Lacks c first → AllByRecursion (Lacks c) texts → parts_of c (join_with_byte c (first ∷ texts)) ≡ first ∷ texts
+pub parts_of-join : (c : ℕ) (first : List ℕ) (texts : List (List ℕ)) → Lacks c first → AllByRecursion (Lacks c) texts
+    → parts_of c (join_with_byte c (first ∷ texts)) ≡ first ∷ texts
 parts_of-join c first [] h all = parts_of-none c first h
-parts_of-join c first (next ∷ texts) h all = parts_of-first c first (join_with_byte c (next ∷ texts)) h ∙ ap (λ parts. first ∷ parts) (parts_of-join c next texts all.0 all.1)
+parts_of-join c first (next ∷ texts) h all = parts_of-first c first (join_with_byte c (next ∷ texts)) h
+    ∙ ap (λ parts. first ∷ parts) (parts_of-join c next texts all.0 all.1)

@@ -1,5 +1,6 @@
 -- Entries that are put into a map one after another, each name new.
-use Rattle.std.proofs.Common.{◌≡◌, ℕ, ◌+◌, ◌<◌, true, false, ◌||◌, List, [], ◌∷◌, ◌++◌, map, length, take, drop, get_or, Option, Some, None, is_some, refl, sym, ap, ◌∙◌}
+use Rattle.std.proofs.Common.{◌≡◌, ℕ, ◌+◌, ◌<◌, true, false, ◌||◌, List, [], ◌∷◌, ◌++◌, map, length, take, drop, get_or, Option, Some, None, is_some}
+use Rattle.std.proofs.Common.{refl, sym, ap, ◌∙◌}
 use Rattle.std.specs.Ordering.{nat_cmp}
 use Rattle.std.specs.Cmp.{eq_by_cmp_equiv}
 use Rattle.std.specs.Cmp.Lexicographic.{slice_cmp, nat_list_cmp_total, texts_ties}
@@ -41,35 +42,41 @@ any-is_among name (other ∷ names) =
 has-is_among : (name : List ℕ) (entries : Entries) → is_some (has entries name) ≡ is_among name (names_of entries)
 has-is_among name entries = is_some-lookup (is_at (slice_cmp nat_cmp name)) entries ∙ any-is_among name (names_of entries)
 
-has-same : (held so_far : Entries) (name : List ℕ) → finite.from_entries {R = slice_cmp nat_cmp} held ≡ finite.from_entries so_far → has so_far name ≡ has held name
+has-same : (held so_far : Entries) (name : List ℕ) → finite.from_entries {R = slice_cmp nat_cmp} held ≡ finite.from_entries so_far
+    → has so_far name ≡ has held name
 has-same held so_far name e = sym (get-map_of so_far name) ∙ ap (λ m. finite.get m name) (sym e) ∙ get-map_of held name
 
 none_there : (o : Option Game) → is_some o ≡ false → o ≡ None
 none_there (Some game) e = absurd (false≢true (sym e))
 none_there None e = refl
 
-pub one_more : (held new so_far : Entries) (name : List ℕ) (game : Game) → IsRead held so_far → is_some (has held name) ≡ false → Differs held new name (Some game) → IsRead new (so_far ++ (name, game) ∷ [])
+pub one_more : (held new so_far : Entries) (name : List ℕ) (game : Game) → IsRead held so_far → is_some (has held name) ≡ false
+    → Differs held new name (Some game) → IsRead new (so_far ++ (name, game) ∷ [])
 one_more held new so_far name game read absent updates =
     let there = has-same held so_far name read.same in
     let fresh : is_among name (names_of so_far) ≡ false = sym (has-is_among name so_far) ∙ ap is_some there ∙ absent in
     let none = find-lookup name so_far ∙ there ∙ none_there (has held name) absent in
     record {
       distinct = ap are_distinct (map_push (λ entry. entry.0) so_far (name, game)) ∙ are_distinct-push (names_of so_far) name read.distinct fresh;
-      same = map_inserted held new name game updates ∙ ap (λ m. finite.insert m name game) read.same ∙ sym (finite.from_entries_push nat_list_cmp_total exact_bytes so_far name game none);
+      same = map_inserted held new name game updates ∙ ap (λ m. finite.insert m name game) read.same
+          ∙ sym (finite.from_entries_push nat_list_cmp_total exact_bytes so_far name game none);
     }
 
 -- an entry whose name stands before
-pub again : (held so_far rest : Entries) (name : List ℕ) (game : Game) → IsRead held so_far → is_some (has held name) ≡ true → games_by (Some (so_far ++ (name, game) ∷ rest)) ≡ None
+pub again : (held so_far rest : Entries) (name : List ℕ) (game : Game) → IsRead held so_far → is_some (has held name) ≡ true
+    → games_by (Some (so_far ++ (name, game) ∷ rest)) ≡ None
 again held so_far rest name game read there =
     let all = so_far ++ (name, game) ∷ rest in
     let stands : is_among name (names_of so_far) ≡ true = sym (has-is_among name so_far) ∙ ap is_some (has-same held so_far name read.same) ∙ there in
-    cond-false (are_distinct (names_of all)) (Some (finite.from_entries all)) None (ap are_distinct (map-append (λ entry. entry.0) so_far ((name, game) ∷ rest)) ∙ not_distinct (names_of so_far) name (names_of rest) stands)
+    cond-false (are_distinct (names_of all)) (Some (finite.from_entries all)) None
+    (ap are_distinct (map-append (λ entry. entry.0) so_far ((name, game) ∷ rest)) ∙ not_distinct (names_of so_far) name (names_of rest) stands)
 
 pub all_read : (held all : Entries) → IsRead held all → Some (finite.from_entries held) ≡ games_by (Some all)
 all_read held all read = ap Some read.same ∙ sym (cond-true (are_distinct (names_of all)) (Some (finite.from_entries all)) None read.distinct)
 
 -- a list with an element in the middle
-pub cut_at : {A : Type 0} (all front : List A) (x : A) → map (λ y. y) front ≡ take (length front) all → (length front < length all) × (x ≡ get_or all (length front) x) → all ≡ front ++ x ∷ drop (length front + 1) all
+pub cut_at : {A : Type 0} (all front : List A) (x : A) → map (λ y. y) front ≡ take (length front) all → (length front < length all)
+    × (x ≡ get_or all (length front) x) → all ≡ front ++ x ∷ drop (length front + 1) all
 cut_at all front x before h =
     sym (take-append-drop (length front) all)
     ∙ ap (λ xs. xs ++ drop (length front) all) (sym before ∙ map-id front)

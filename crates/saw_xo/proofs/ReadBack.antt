@@ -18,9 +18,11 @@ use Rattle.saw_xo.proofs.Lookups.{Entries}
 use Rattle.saw_xo.proofs.Sorted.{entries_distinct, from_entries-entries}
 use Rattle.saw_xo.proofs.Written.{entry_lacks_bars, texts_lack_bars, all_of-texts}
 
-entries_in-join : (entry : List ℕ × Game) (entries : Entries) → AllByRecursion IsEntry (entry ∷ entries) → entries_in (join_with_byte 124 (map entry_text (entry ∷ entries))) ≡ Some (entry ∷ entries)
+entries_in-join : (entry : List ℕ × Game) (entries : Entries) → AllByRecursion IsEntry (entry ∷ entries)
+    → entries_in (join_with_byte 124 (map entry_text (entry ∷ entries))) ≡ Some (entry ∷ entries)
 entries_in-join entry entries all =
-    ap (λ parts. all_of (map entry_in parts)) (parts_of-join 124 (entry_text entry) (map entry_text entries) (entry_lacks_bars entry all.0) (texts_lack_bars entries all.1))
+    ap (λ parts. all_of (map entry_in parts)) (parts_of-join 124 (entry_text entry) (map entry_text entries) (entry_lacks_bars entry all.0)
+    (texts_lack_bars entries all.1))
     ∙ all_of-texts (entry ∷ entries) all
 
 some_join : (entry : List ℕ × Game) (entries : Entries) → length (join_with_byte 124 (map entry_text (entry ∷ entries))) ≡ 0 → ⊥
@@ -35,9 +37,11 @@ games_of-text whole some utf8 =
 
 games_by-entries : (games : Games) → games_by (Some (finite.entries games)) ≡ Some games
 games_by-entries games =
-    cond-true (are_distinct (names_of (finite.entries games))) (Some (finite.from_entries (finite.entries games))) None (entries_distinct games) ∙ ap Some (from_entries-entries games)
+    cond-true (are_distinct (names_of (finite.entries games))) (Some (finite.from_entries (finite.entries games))) None (entries_distinct games)
+    ∙ ap Some (from_entries-entries games)
 
-kept_some : (games : Games) (entry : List ℕ × Game) (entries : Entries) → finite.entries games ≡ entry ∷ entries → AllByRecursion IsEntry (entry ∷ entries) → games_of (kept_bytes games) ≡ Some games
+kept_some : (games : Games) (entry : List ℕ × Game) (entries : Entries) → finite.entries games ≡ entry ∷ entries
+    → AllByRecursion IsEntry (entry ∷ entries) → games_of (kept_bytes games) ≡ Some games
 unfolding kept_bytes
 kept_some games entry entries is all =
     let whole = join_with_byte 124 (map entry_text (entry ∷ entries)) in

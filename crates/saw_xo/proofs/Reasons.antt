@@ -40,7 +40,8 @@ act_own action space =
     let deleted : Result Act ℕ = cond (bytes_eq action (codes "delete")) (Ok Delete) (Err 203) in
     let taken : Result Act ℕ = cond (bytes_eq action (codes "take")) (take_at (place_in space)) deleted in
     either_own (bytes_eq action (codes "create")) (Ok Create) taken refl
-    (either_own (bytes_eq action (codes "take")) (take_at (place_in space)) deleted (take_own (place_in space)) (either_own (bytes_eq action (codes "delete")) (Ok Delete) (Err 203) refl refl))
+    (either_own (bytes_eq action (codes "take")) (take_at (place_in space)) deleted (take_own (place_in space))
+    (either_own (bytes_eq action (codes "delete")) (Ok Delete) (Err 203) refl refl))
 
 with_act_own : (name : List ℕ) (made : Result Act ℕ) → has_own_number made ≡ true → has_own_number (with_act name made) ≡ true
 with_act_own name (Ok act) own = refl
@@ -77,7 +78,8 @@ with_game_own : (games : Games) (name : List ℕ) (made : Result Game ℕ) → h
 with_game_own games name (Ok game) own = refl
 with_game_own games name (Err number) own = own
 
-changed_by_own : (signer : List ℕ) (games : Games) (name : List ℕ) (act : Act) (kept : Option Game) → has_own_number (changed_by signer games name act kept) ≡ true
+changed_by_own : (signer : List ℕ) (games : Games) (name : List ℕ) (act : Act) (kept : Option Game)
+    → has_own_number (changed_by signer games name act kept) ≡ true
 changed_by_own signer games name Create None = refl
 changed_by_own signer games name Create (Some game) = refl
 changed_by_own signer games name (Take place) None = refl

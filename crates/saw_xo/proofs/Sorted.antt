@@ -27,13 +27,15 @@ not_among : (name : List ℕ) (entries : Entries) → T (below_all (slice_cmp na
 not_among name [] h = refl
 not_among name (entry ∷ entries) h =
     let parts = both (is_lt (slice_cmp nat_cmp name entry.0)) (below_all (slice_cmp nat_cmp) name entries) h in
-    or_from (bytes_eq entry.0 name) (is_among name (names_of entries)) (sym (is_at-bytes_eq name entry.0) ∙ not_equal (slice_cmp nat_cmp name entry.0) parts.0) (not_among name entries parts.1)
+    or_from (bytes_eq entry.0 name) (is_among name (names_of entries))
+    (sym (is_at-bytes_eq name entry.0) ∙ not_equal (slice_cmp nat_cmp name entry.0) parts.0) (not_among name entries parts.1)
 
 sorted_distinct : (entries : Entries) → T (is_sorted (slice_cmp nat_cmp) entries) → are_distinct (names_of entries) ≡ true
 sorted_distinct [] h = refl
 sorted_distinct (entry ∷ entries) h =
     let parts = both (below_all (slice_cmp nat_cmp) entry.0 entries) (is_sorted (slice_cmp nat_cmp) entries) h in
-    and_from (not (is_among entry.0 (names_of entries))) (are_distinct (names_of entries)) (not_from_false (is_among entry.0 (names_of entries)) (not_among entry.0 entries parts.0)) (sorted_distinct entries parts.1)
+    and_from (not (is_among entry.0 (names_of entries))) (are_distinct (names_of entries))
+    (not_from_false (is_among entry.0 (names_of entries)) (not_among entry.0 entries parts.0)) (sorted_distinct entries parts.1)
 
 -- the names of games all differ
 pub entries_distinct : (games : Games) → are_distinct (names_of (finite.entries games)) ≡ true
@@ -42,4 +44,5 @@ entries_distinct games = sorted_distinct (finite.entries games) (finite.entries_
 -- games are those of their entries
 pub from_entries-entries : (games : Games) → finite.from_entries (finite.entries games) ≡ games
 from_entries-entries games =
-    finite.same_map nat_list_cmp_total exact_bytes (finite.from_entries (finite.entries games)) games (λ q. finite.get-from_entries nat_list_cmp_total (finite.entries games) q ∙ sym (finite.get-entries games q))
+    finite.same_map nat_list_cmp_total exact_bytes (finite.from_entries (finite.entries games)) games
+    (λ q. finite.get-from_entries nat_list_cmp_total (finite.entries games) q ∙ sym (finite.get-entries games q))

@@ -22,7 +22,8 @@ mark_in-mark_code O = refl
 
 all_of-codes : (board : List Mark) → all_of (map mark_in (map mark_code board)) ≡ Some board
 all_of-codes [] = refl
-all_of-codes (mark ∷ board) = ap (λ o. before_all o (all_of (map mark_in (map mark_code board)))) (mark_in-mark_code mark) ∙ ap (before_all (Some mark)) (all_of-codes board)
+all_of-codes (mark ∷ board) = ap (λ o. before_all o (all_of (map mark_in (map mark_code board)))) (mark_in-mark_code mark)
+    ∙ ap (before_all (Some mark)) (all_of-codes board)
 
 board_in-codes : (board : List Mark) → length board ≡ 9 → board_in (map mark_code board) ≡ Some board
 board_in-codes board full =
@@ -69,10 +70,12 @@ standing_lacks_bars Tie = refl
 -- ---- entries
 
 -- five parts with commas between them
-commas : (a b c d e : List ℕ) → (((((((a ++ 44 ∷ []) ++ b) ++ 44 ∷ []) ++ c) ++ 44 ∷ []) ++ d) ++ 44 ∷ []) ++ e ≡ a ++ 44 ∷ (b ++ 44 ∷ (c ++ 44 ∷ (d ++ 44 ∷ e)))
+commas : (a b c d e : List ℕ) → (((((((a ++ 44 ∷ []) ++ b) ++ 44 ∷ []) ++ c) ++ 44 ∷ []) ++ d) ++ 44 ∷ []) ++ e ≡ a ++ 44 ∷
+    (b ++ 44 ∷ (c ++ 44 ∷ (d ++ 44 ∷ e)))
 commas a b c d e = simp append_assoc
 
-five_parts : (a b c d e : List ℕ) → Lacks 44 a → Lacks 44 b → Lacks 44 c → Lacks 44 d → Lacks 44 e → parts_of 44 (a ++ 44 ∷ (b ++ 44 ∷ (c ++ 44 ∷ (d ++ 44 ∷ e)))) ≡ a ∷ b ∷ c ∷ d ∷ e ∷ []
+five_parts : (a b c d e : List ℕ) → Lacks 44 a → Lacks 44 b → Lacks 44 c → Lacks 44 d → Lacks 44 e
+    → parts_of 44 (a ++ 44 ∷ (b ++ 44 ∷ (c ++ 44 ∷ (d ++ 44 ∷ e)))) ≡ a ∷ b ∷ c ∷ d ∷ e ∷ []
 five_parts a b c d e ha hb hc hd he =
     parts_of-first 44 a (b ++ 44 ∷ (c ++ 44 ∷ (d ++ 44 ∷ e))) ha
     ∙ ap (λ parts. a ∷ parts) (parts_of-first 44 b (c ++ 44 ∷ (d ++ 44 ∷ e)) hb)
@@ -86,7 +89,8 @@ parts_of-entry entry is =
     let board = map mark_code entry.1.board in
     let standing = standing_text entry.1.standing in
     ap (parts_of 44) (commas entry.0 board standing entry.1.first_key entry.1.second_key)
-    ∙ five_parts entry.0 board standing entry.1.first_key entry.1.second_key is.name.commas (board_lacks 44 no_comma entry.1.board) (standing_lacks_commas entry.1.standing) is.first_key.commas is.second_key.commas
+    ∙ five_parts entry.0 board standing entry.1.first_key entry.1.second_key is.name.commas (board_lacks 44 no_comma entry.1.board)
+    (standing_lacks_commas entry.1.standing) is.first_key.commas is.second_key.commas
 
 named-game : (name : List ℕ) (game : Game) → 0 < length name → named name (Some game) ≡ Some (name, game)
 named-game name game h = cond-false (eqb (length name) 0) None (Some (name, game)) (ne_eqb (length name) 0 (λ e. omega arith))
@@ -119,4 +123,5 @@ texts_lack_bars (entry ∷ entries) all = (entry_lacks_bars entry all.0, texts_l
 
 pub all_of-texts : (entries : List (List ℕ × Game)) → AllByRecursion IsEntry entries → all_of (map entry_in (map entry_text entries)) ≡ Some entries
 all_of-texts [] all = refl
-all_of-texts (entry ∷ entries) all = ap (λ o. before_all o (all_of (map entry_in (map entry_text entries)))) (entry_in-text entry all.0) ∙ ap (before_all (Some entry)) (all_of-texts entries all.1)
+all_of-texts (entry ∷ entries) all = ap (λ o. before_all o (all_of (map entry_in (map entry_text entries)))) (entry_in-text entry all.0)
+    ∙ ap (before_all (Some entry)) (all_of-texts entries all.1)

@@ -2,8 +2,7 @@
 use Rattle.std.specs.Prelude.{◌≡◌, ℕ, true, List, [], ◌∷◌, map, take, Option, Some, None, Result, Ok, Err, ◌==◌, if◌then◌else◌, codes}
 use Rattle.std.specs.FinMap as finite
 use Rattle.sha2.specs.Sha512.{sha512}
-use Rattle.saw_messages.specs.Reasons.{has_own_reason}
-use Rattle.saw_messages.specs.declared.outcome.Reason.TheVariants.{Family}
+use Rattle.saw_messages.specs.Reasons.{has_own_reason, invalid}
 use Rattle.saw_messages.specs.declared.talk.Action.{Action}
 use Rattle.saw_messages.specs.declared.talk.Action.TheVariants as actions
 use Rattle.saw_messages.specs.declared.talk.Place.TheVariants.{At}
@@ -24,9 +23,6 @@ family_version = codes "1.0"
 -- `5b7349`, the first six hex digits of SHA-512 of the family's name, and then the first 32 bytes of SHA-512 of the name
 unfoldable pub address_of : List ℕ → List ℕ
 address_of name = 0x5b ∷ 0x73 ∷ 0x49 ∷ take 32 (sha512 name)
-
-abbrev pub invalid : ℕ → Action
-invalid number = actions.Invalid (Family number)
 
 -- the request of the address of the payload's name
 abbrev pub asked : Result Payload ℕ → Action

@@ -1,10 +1,8 @@
 //! The next action of the family.
 
-ghost use Rattle.std.specs.Prelude.{◌≡◌, ◌&&◌, ◌∷◌, [], length, IfOk};
+ghost use Rattle.std.specs.Prelude.{◌≡◌, ◌&&◌, IfOk};
 ghost use Rattle.std.specs.Str.{bytes_eq};
-ghost use Rattle.saw_messages.specs.declared.talk.Action.TheVariants as actions;
-ghost use Rattle.saw_messages.specs.declared.talk.Place.TheVariants.{At};
-ghost use Rattle.saw_xo.specs.Actions.{RepliesDecide, ReasonsAreOwn, address_of, after_change, after_get, asked, changed_in, changing, family_name, family_version, invalid, next};
+ghost use Rattle.saw_xo.specs.Actions.{RepliesDecide, ReasonsAreOwn, address_of, after_change, after_get, asked, changed_in, changing, family_name, family_version, next};
 ghost use Rattle.saw_xo.specs.Changes.{set_or_delete};
 ghost use Rattle.saw_xo.specs.Games.{games_of};
 ghost use Rattle.saw_xo.specs.Maps.{seen};
@@ -14,8 +12,7 @@ use crate::games::{Games, kept_bytes, read_games};
 use crate::moves::changed;
 use crate::payload::{Payload, read_payload};
 use saw_address::Address;
-use saw_messages::{Action, Entry, Place, Reason, Reply, Transcript, Tx};
-use saw_wire::{Bytes, Items};
+use saw_messages::{Action, Reply, Transcript, Tx};
 use sha2::{Digest, Sha512};
 use std::alloc::{AllocError, Global};
 
@@ -41,17 +38,7 @@ pub fn address_of(name: &str) -> Address
 {
     let digest = Sha512::digest(name.as_bytes());
     let (first_half, _) = digest.split_at(32);
-    family_address(first_half)
-}
-
-fn family_address(tail: &[u8]) -> Address
-    requires { length tail.now ≡ 32 }
-    ensures { result ≡ 0x5b ∷ 0x73 ∷ 0x49 ∷ tail.now }
-{
-    let mut bytes = [0; 35];
-    bytes[..3].copy_from_slice(&FAMILY_BYTES);
-    bytes[3..].copy_from_slice(tail);
-    Address::new(bytes)
+    Address::under(FAMILY_BYTES, first_half)
 }
 
 /// The next action, by the signer, the payload and the replies so far.
@@ -67,47 +54,12 @@ pub fn step(alloc: Global, tx: &Tx, talk: &Transcript) -> Result<Action, AllocEr
     }
 }
 
-fn invalid(number: u16) -> Action
-    ensures { result ≡ invalid number }
-{
-    Action::Invalid {
-        reason: Reason::Family(number),
-    }
-}
-
-fn get(alloc: Global, address: Address) -> Result<Action, AllocError>
-    ensures { IfOk result (λ action. action ≡ actions.Get (At address ∷ [])) }
-{
-    let mut places = Items::new(alloc);
-    places.push(Place::At(address))?;
-    Ok(Action::Get(places))
-}
-
-fn set(alloc: Global, address: Address, body: Bytes) -> Result<Action, AllocError>
-    ensures { IfOk result (λ action. action ≡ actions.Set (record { place = At address; body = body } ∷ [])) }
-{
-    let mut entries = Items::new(alloc);
-    entries.push(Entry {
-        place: Place::At(address),
-        body,
-    })?;
-    Ok(Action::Set(entries))
-}
-
-fn delete(alloc: Global, address: Address) -> Result<Action, AllocError>
-    ensures { IfOk result (λ action. action ≡ actions.Delete (At address ∷ [])) }
-{
-    let mut places = Items::new(alloc);
-    places.push(Place::At(address))?;
-    Ok(Action::Delete(places))
-}
-
 fn ask(alloc: Global, payload: &[u8]) -> Result<Action, AllocError>
     ensures { IfOk result (λ action. action ≡ asked (payload_of payload.now)) }
 {
     match read_payload(alloc, payload)? {
-        Ok(payload) => get(alloc, address_of(payload.name.as_str())),
-        Err(number) => Ok(invalid(number)),
+        Ok(payload) => Action::get(alloc, address_of(payload.name.as_str())),
+        Err(number) => Ok(Action::invalid(number)),
     }
 }
 
@@ -121,7 +73,7 @@ fn changing(
 {
     match read_payload(alloc, payload)? {
         Ok(payload) => after_get(alloc, signer, payload, reply),
-        Err(number) => Ok(invalid(number)),
+        Err(number) => Ok(Action::invalid(number)),
     }
 }
 
@@ -136,10 +88,10 @@ fn after_get(
     match reply {
         Reply::Entries(bodies) => match bodies.as_slice() {
             [body] => changed_in(alloc, signer, payload, body.as_slice()),
-            _ => Ok(invalid(REFUSED)),
+            _ => Ok(Action::invalid(REFUSED)),
         },
-        Reply::Done => Ok(invalid(REFUSED)),
-        Reply::Unauthorized { index: _ } => Ok(invalid(REFUSED)),
+        Reply::Done => Ok(Action::invalid(REFUSED)),
+        Reply::Unauthorized { index: _ } => Ok(Action::invalid(REFUSED)),
     }
 }
 
@@ -152,12 +104,12 @@ fn changed_in(
     ensures { IfOk result (λ action. action ≡ changed_in signer.now payload (games_of body.now)) }
 {
     let Some(games) = read_games(alloc, body)? else {
-        return Ok(invalid(NO_GAMES));
+        return Ok(Action::invalid(NO_GAMES));
     };
     let address = address_of(payload.name.as_str());
     match changed(alloc, signer, payload, games)? {
         Ok(games) => set_or_delete(alloc, address, &games),
-        Err(number) => Ok(invalid(number)),
+        Err(number) => Ok(Action::invalid(number)),
     }
 }
 
@@ -165,18 +117,18 @@ fn set_or_delete(alloc: Global, address: Address, games: &Games) -> Result<Actio
     ensures { IfOk result (λ action. action ≡ set_or_delete address (seen games.now)) }
 {
     if games.is_empty() {
-        return delete(alloc, address);
+        return Action::delete(alloc, address);
     }
-    set(alloc, address, kept_bytes(alloc, games)?)
+    Action::set(alloc, address, kept_bytes(alloc, games)?)
 }
 
 fn after_change(reply: &Reply) -> Action
     ensures { result ≡ after_change reply.now }
 {
     match reply {
-        Reply::Entries(_) => invalid(REFUSED),
+        Reply::Entries(_) => Action::invalid(REFUSED),
         Reply::Done => Action::Ok,
-        Reply::Unauthorized { index: _ } => invalid(REFUSED),
+        Reply::Unauthorized { index: _ } => Action::invalid(REFUSED),
     }
 }
 

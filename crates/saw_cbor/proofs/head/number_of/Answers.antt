@@ -16,8 +16,10 @@ loop-byte-preserved c =
     let byte : c.from.result < 256 = omega (arith, c.from.ensures, c.type_inv.bytes c.loop-byte.byte-index) in
     record {
       below = one_more_byte c.loop-byte.byte-index c.loop-byte.number c.from.result c.loop-byte.invariant.below byte;
-      so_far = rw c.from.ensures (number_goes_on c.args.bytes.now c.loop-byte.byte-index c.loop-byte.number (number_of c.args.bytes.now) c.loop-byte-test.true c.loop-byte.invariant.so_far);
+      so_far = rw c.from.ensures (number_goes_on c.args.bytes.now c.loop-byte.byte-index c.loop-byte.number
+          (number_of c.args.bytes.now) c.loop-byte-test.true c.loop-byte.invariant.so_far);
     }
 
 pub returns : goal.returns
-returns c = number_ends c.args.bytes.now c.loop-byte.byte-index c.loop-byte.number (number_of c.args.bytes.now) c.loop-byte-test.false c.loop-byte.invariant.so_far
+returns c = number_ends c.args.bytes.now c.loop-byte.byte-index c.loop-byte.number
+    (number_of c.args.bytes.now) c.loop-byte-test.false c.loop-byte.invariant.so_far

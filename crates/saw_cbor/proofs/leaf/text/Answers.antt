@@ -20,4 +20,5 @@ returns-clause-gives c =
     let end = c.args.head.behind + length content in
     let yes : is_utf8 content ≡ true = is_utf8-from_IsUtf8 _ c.in-Ok.ensures.cases.1 in
     let same : c.in_ok-from_str.field-0 ≡ content = c.in_ok-from_str.ensures ∙ c.in-Ok.ensures.cases.0 in
-    text_is (head_view c.args.head) c.args.bytes.now content end c.requires.major c.in_ok-content.ensures.gives yes ∙ ap (λ t. Ok (t, end)) (sym (view-Text c.in_ok-from_str.field-0 ∙ ap text same))
+    text_is (head_view c.args.head) c.args.bytes.now content end c.requires.major c.in_ok-content.ensures.gives yes
+    ∙ ap (λ t. Ok (t, end)) (sym (view-Text c.in_ok-from_str.field-0 ∙ ap text same))

@@ -18,7 +18,8 @@ invariant-read_items-items l = record {
   forth : l.fn.p + l.counter ≤ l.next;
   within : l.next ≤ length l.bytes;
   so_far : (fuel : ℕ) → 2 * (length l.bytes - l.fn.p) + 2 ≤ fuel
-      → items_before (map view l.found.items) (items_at (fuel - l.counter) (l.count - l.counter) l.depth l.inside l.next l.bytes) ≡ items_at fuel l.count l.depth l.inside l.fn.p l.bytes;
+      → items_before (map view l.found.items) (items_at (fuel - l.counter) (l.count - l.counter) l.depth l.inside l.next l.bytes)
+      ≡ items_at fuel l.count l.depth l.inside l.fn.p l.bytes;
 }
 
 abbrev pub invariant-read_pairs-pairs : goal.invariant-read_pairs-pairs
@@ -26,5 +27,6 @@ invariant-read_pairs-pairs l = record {
   forth : l.fn.p + l.counter ≤ l.next;
   within : l.next ≤ length l.bytes;
   so_far : (fuel : ℕ) → 2 * (length l.bytes - l.fn.p) + 2 ≤ fuel
-      → pairs_before (map pair_view l.found.items) (pairs_at (fuel - l.counter) (l.count - l.counter) l.depth l.inside l.next l.bytes) ≡ pairs_at fuel l.count l.depth l.inside l.fn.p l.bytes;
+      → pairs_before (map pair_view l.found.items) (pairs_at (fuel - l.counter) (l.count - l.counter) l.depth l.inside l.next l.bytes)
+      ≡ pairs_at fuel l.count l.depth l.inside l.fn.p l.bytes;
 }

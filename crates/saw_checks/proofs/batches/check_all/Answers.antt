@@ -9,6 +9,7 @@ loop-k-preserved g c =
     let batch = c.index-batches-k.result in
     let gives = c.in_ok-check_batch_at.ensures in
     record {
-      read = rw c.in_ok-push.ensures.ok (are_more batches k batch c.loop-k-test.true c.index-batches-k.is c.loop-k.reads c.in_ok-check_batch_at.field-0 i.read gives.1);
+      read = rw c.in_ok-push.ensures.ok (are_more batches k batch c.loop-k-test.true c.index-batches-k.is c.loop-k.reads
+          c.in_ok-check_batch_at.field-0 i.read gives.1);
       so_far = goes_on batches k batch c.loop-k-test.true c.index-batches-k.is (g.V.Verifier.accepts c.args.verifier.now) i.so_far gives.0;
     }

@@ -1,5 +1,5 @@
 use Rattle.std.proofs.Common.{◌≡◌, take, drop}
-use Rattle.saw_checks.specs.BlockFaults.{batches_fault}
+use Rattle.saw_checks.specs.StructureFaults.{batches_fault}
 use Rattle.saw_checks.specs.Readings.{AreBatchesOf}
 use Rattle.saw_checks.proofs.batches.check_all.Given as goal
 

@@ -1,5 +1,5 @@
 use Rattle.std.proofs.Common.{◌≡◌, take}
-use Rattle.saw_checks.specs.BlockFaults.{transactions_count}
+use Rattle.saw_checks.specs.StructureFaults.{transactions_count}
 use Rattle.saw_checks.proofs.batches.count_transactions.Given as goal
 
 abbrev pub invariant-loop-batch : goal.invariant-loop-batch

@@ -9,5 +9,6 @@ abbrev pub invariant-loop-t : goal.invariant-loop-t
 invariant-loop-t g l = record {
   read : AreTxsOf (take l.t l.txs) (map arc_value l.reads);
   holds : HoldsIds l.seen (ids_of (take l.t l.txs));
-  so_far : txs_fault (g.V.Verifier.accepts l.verifier) l.signer [] 0 l.txs ≡ txs_fault (g.V.Verifier.accepts l.verifier) l.signer (ids_of (take l.t l.txs)) l.t (drop l.t l.txs);
+  so_far : txs_fault (g.V.Verifier.accepts l.verifier) l.signer [] 0 l.txs ≡ txs_fault (g.V.Verifier.accepts l.verifier) l.signer
+      (ids_of (take l.t l.txs)) l.t (drop l.t l.txs);
 }

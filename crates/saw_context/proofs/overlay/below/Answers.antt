@@ -7,7 +7,8 @@ returns-in-Some g c =
 
 pub returns-in-Some-get : goal.returns-in-Some-get
 returns-in-Some-get g c =
-    rw (over_none (g.B.Base.entry c.args.base.now) c.args.view.now.entries.entries c.args.at.now c.in-None.ensures.value, ← c.in-Some-get.ensures) c.from_slice.ensures
+    rw (over_none (g.B.Base.entry c.args.base.now) c.args.view.now.entries.entries c.args.at.now c.in-None.ensures.value, ← c.in-Some-get.ensures)
+    c.from_slice.ensures
 
 pub returns-in-None-get : goal.returns-in-None-get
 returns-in-None-get g c =

@@ -1,8 +1,8 @@
 use Rattle.std.proofs.Common.{◌≡◌, List, drop, length}
 use Rattle.std.specs.List.{AllByRecursion}
-use Rattle.saw_messages.specs.Shapes.{TxShape}
-use Rattle.saw_plan.specs.Shapes.{shapes_of}
-use Rattle.saw_schedule.specs.Results.{IsValid}
+use Rattle.saw_messages.specs.TxShapes.{TxShape}
+use Rattle.saw_plan.specs.BatchShapes.{shapes_of}
+use Rattle.saw_schedule.specs.BatchResults.{IsValid}
 use Rattle.saw_station.specs.Serving.{processors_at}
 use Rattle.saw_crew.specs.Desks.{KeepsDesk}
 use Rattle.saw_crew.specs.Running.{HoldsTxs}
@@ -16,5 +16,6 @@ invariant-loop-tx g l = record {
   count : l.t ≡ l.tx-index;
   counted : length l.outcomes ≡ l.t;
   valid : AllByRecursion IsValid l.outcomes;
-  run : (others : List TxShape) → HoldsTxs l.failed others → HasRun (processors_at g.R.Station.next g.R.Station.tells l.fn.desk.offers) others (g.B.Base.entry l.base) (shapes_of l.txs) l.outcomes l.state (shapes_of (drop l.tx-index l.txs));
+  run : (others : List TxShape) → HoldsTxs l.failed others → HasRun (processors_at g.R.Station.next g.R.Station.tells l.fn.desk.offers) others
+      (g.B.Base.entry l.base) (shapes_of l.txs) l.outcomes l.state (shapes_of (drop l.tx-index l.txs));
 }

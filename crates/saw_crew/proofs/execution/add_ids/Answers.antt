@@ -1,5 +1,5 @@
 use Rattle.std.proofs.Common.{◌++◌, take}
-use Rattle.saw_plan.specs.Shapes.{ids_of, shapes_of}
+use Rattle.saw_plan.specs.BatchShapes.{ids_of, shapes_of}
 use Rattle.saw_crew.proofs.Plain.{ids-take}
 use Rattle.saw_crew.proofs.execution.add_ids.Goals as goal
 

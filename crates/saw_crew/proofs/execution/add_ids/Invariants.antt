@@ -1,6 +1,6 @@
 use Rattle.std.proofs.Common.{List, ◌++◌, take}
-use Rattle.saw_messages.specs.Shapes.{TxShape}
-use Rattle.saw_plan.specs.Shapes.{shapes_of}
+use Rattle.saw_messages.specs.TxShapes.{TxShape}
+use Rattle.saw_plan.specs.BatchShapes.{shapes_of}
 use Rattle.saw_crew.specs.Running.{HoldsTxs}
 use Rattle.saw_crew.proofs.execution.add_ids.Given as goal
 

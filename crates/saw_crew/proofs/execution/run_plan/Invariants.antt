@@ -1,7 +1,5 @@
 use Rattle.std.proofs.Common.{List, drop}
-use Rattle.std.specs.Prelude.{map}
-use Rattle.saw_messages.specs.Shapes.{TxShape}
-use Rattle.saw_schedule.specs.Results.{result_of}
+use Rattle.saw_messages.specs.TxShapes.{TxShape}
 use Rattle.saw_station.specs.Serving.{processors_at}
 use Rattle.saw_crew.specs.Desks.{KeepsDesk}
 use Rattle.saw_crew.specs.Running.{HoldsTxs}
@@ -14,6 +12,7 @@ invariant-loop-batch g l = record {
   desk : KeepsDesk g.R.Station.faults g.R.Station.offered l.fn.desk l.desk;
   others : List TxShape;
   failed : HoldsTxs l.failed others;
-  whole : AreSoFar (txs_in l.batches) (map result_of l.results) (txs_in (drop l.batch-index l.batches));
-  gone : HasGone (processors_at g.R.Station.next g.R.Station.tells l.fn.desk.offers) (g.B.Base.entry l.base) (txs_in l.batches) (map result_of l.results) others l.state (txs_in (drop l.batch-index l.batches));
+  whole : AreSoFar (txs_in l.batches) l.results (txs_in (drop l.batch-index l.batches));
+  gone : HasGone (processors_at g.R.Station.next g.R.Station.tells l.fn.desk.offers) (g.B.Base.entry l.base) (txs_in l.batches)
+      l.results others l.state (txs_in (drop l.batch-index l.batches));
 }

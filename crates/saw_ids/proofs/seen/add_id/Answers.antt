@@ -4,6 +4,7 @@ use Rattle.saw_ids.proofs.seen.add_id.Goals as goal
 pub returns : goal.returns
 returns c = λ ids holds.
     let new = c.in_ok-added.ensures in (
-      tells_repeated c.args.seen.now c.insert.new.self c.args.id.now c.in_ok-try_clone.field-0 c.in_ok-try_clone.ensures ids holds c.in_ok-added.added new.added,
+      tells_repeated c.args.seen.now c.insert.new.self c.args.id.now c.in_ok-try_clone.field-0 c.in_ok-try_clone.ensures ids holds c.in_ok-added.added
+          new.added,
       holds_one_more c.args.seen.now c.insert.new.self c.args.id.now c.in_ok-try_clone.field-0 c.in_ok-try_clone.ensures ids holds new.updates.0,
     )

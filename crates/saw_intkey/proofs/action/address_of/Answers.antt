@@ -11,4 +11,5 @@ returns c =
     let digest = sha512 c.args.name.now in
     let is : c.digest.result ≡ digest = c.digest.ensures ∙ ap sha512 c.as_bytes.ensures.value in
     let long : length (drop 32 digest) ≤ 32 = omega (arith, length-drop 32 digest, length-sha512 c.args.name.now) in
-    c.family_address.ensures ∙ ap (λ d. 0x1c ∷ 0xf1 ∷ 0x26 ∷ take 32 (drop 32 d)) is ∙ ap (λ tail. 0x1c ∷ 0xf1 ∷ 0x26 ∷ tail) (take_all 32 (drop 32 digest) long)
+    c.under.ensures ∙ ap (λ d. 0x1c ∷ 0xf1 ∷ 0x26 ∷ take 32 (drop 32 d)) is
+    ∙ ap (λ tail. 0x1c ∷ 0xf1 ∷ 0x26 ∷ tail) (take_all 32 (drop 32 digest) long)

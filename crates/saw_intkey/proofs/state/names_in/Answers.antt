@@ -14,17 +14,22 @@ returns-in_default c =
 pub returns-in_default-as_value : goal.returns-in_default-as_value
 returns-in_default-as_value c =
     let l = c.loop-pair in
-    no_value l.names.items c.args.pairs.now l.pair-index c.pair-item.result c.in-Some.name.now _ c.loop-pair-test.true c.pair-item.is c.in-Some.ensures c.in_default-as_value.ensures l.invariant.goes_on
+    no_value l.names.items c.args.pairs.now l.pair-index c.pair-item.result c.in-Some.name.now _ c.loop-pair-test.true c.pair-item.is
+    c.in-Some.ensures c.in_default-as_value.ensures l.invariant.goes_on
 
 pub returns-then-has_name : goal.returns-then-has_name
 returns-then-has_name c =
     let l = c.loop-pair in
-    again l.names.items c.args.pairs.now l.pair-index c.pair-item.result c.in-Some.name.now c.in-Some-as_value.value _ c.loop-pair-test.true c.pair-item.is c.in-Some.ensures c.in-Some-as_value.ensures (c.if-has_name.ensures ∙ ap (has_name c.in-Some.name.now) c.deref.ensures.value) l.invariant.goes_on
+    again l.names.items c.args.pairs.now l.pair-index c.pair-item.result c.in-Some.name.now c.in-Some-as_value.value _ c.loop-pair-test.true
+    c.pair-item.is c.in-Some.ensures c.in-Some-as_value.ensures
+    (c.if-has_name.ensures ∙ ap (has_name c.in-Some.name.now) c.deref.ensures.value) l.invariant.goes_on
 
 pub loop-pair-preserved : goal.loop-pair-preserved
 loop-pair-preserved c =
     let l = c.loop-pair in
-    one_more l.names.items c.push.new.self.items c.args.pairs.now l.pair-index c.pair-item.result c.in-Some.name.now c.in_ok-from_str.field-0 c.in-Some-as_value.value c.loop-pair-test.true c.pair-item.is c.in-Some.ensures c.in-Some-as_value.ensures (c.if-has_name.ensures ∙ ap (has_name c.in-Some.name.now) c.deref.ensures.value) c.in_ok-from_str.ensures c.in_ok-push.ensures.items l.invariant
+    one_more l.names.items c.push.new.self.items c.args.pairs.now l.pair-index c.pair-item.result c.in-Some.name.now c.in_ok-from_str.field-0
+    c.in-Some-as_value.value c.loop-pair-test.true c.pair-item.is c.in-Some.ensures c.in-Some-as_value.ensures
+    (c.if-has_name.ensures ∙ ap (has_name c.in-Some.name.now) c.deref.ensures.value) c.in_ok-from_str.ensures c.in_ok-push.ensures.items l.invariant
 
 pub returns : goal.returns
 returns c =

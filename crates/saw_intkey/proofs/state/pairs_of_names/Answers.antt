@@ -10,5 +10,6 @@ pub returns : goal.returns
 returns c =
     let l = c.loop-name in
     let gives = c.into_iter-name-iterator.ensures.into_iter_gives in
-    let all = YieldsList-end (YieldsList-from_vec {s = c.into_iter-name-iterator.result} c.args.names.items gives.0 (gives.1 ∙ omega (arith, c.args.names.ok.0))) l.yielded l.name-iterator l.yielded_by c.next.result c.next.new.self c.in-None.is c.next.ensures.steps in
+    let all = YieldsList-end (YieldsList-from_vec {s = c.into_iter-name-iterator.result} c.args.names.items gives.0
+    (gives.1 ∙ omega (arith, c.args.names.ok.0))) l.yielded l.name-iterator l.yielded_by c.next.result c.next.new.self c.in-None.is c.next.ensures.steps in
     ap pairs_of (l.invariant ∙ ap (map entry_pair) (sym (map-id l.yielded) ∙ all.0)) ∙ pairs_of-entries c.args.names.items

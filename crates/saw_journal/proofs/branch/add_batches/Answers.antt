@@ -2,7 +2,7 @@ use Rattle.std.proofs.Common.{List, subst, take}
 use Rattle.std.proofs.lemmas.List.{take_all}
 use Rattle.saw_receipts.specs.declared.block.BatchRecord.{BatchRecord}
 use Rattle.saw_plan.specs.StaticRules.{Ids, Knows}
-use Rattle.saw_plan.specs.Steps.{both}
+use Rattle.saw_plan.specs.SortingSteps.{both}
 use Rattle.saw_journal.specs.Branches.{batch_ids}
 use Rattle.saw_journal.proofs.Ids.{batch_ids_more}
 use Rattle.saw_journal.proofs.branch.add_batches.Goals as goal
@@ -16,4 +16,5 @@ loop-batch-preserved c = λ there knows.
 
 pub returns : goal.returns
 returns c = λ there knows.
-    subst (λ (batches : List BatchRecord). Knows c.loop-batch.known (both there (batch_ids batches))) (take_all c.loop-batch.batch-index c.args.batches.now c.loop-batch-test.false) (c.loop-batch.invariant there knows)
+    subst (λ (batches : List BatchRecord). Knows c.loop-batch.known (both there (batch_ids batches)))
+    (take_all c.loop-batch.batch-index c.args.batches.now c.loop-batch-test.false) (c.loop-batch.invariant there knows)

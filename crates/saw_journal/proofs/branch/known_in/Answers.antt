@@ -5,7 +5,7 @@ use Rattle.std.proofs.lemmas.Bool.{not-false}
 use Rattle.std.specs.Str.{bytes_eq}
 use Rattle.saw_plan.specs.StaticRules.{Knows}
 use Rattle.saw_receipts.specs.declared.block.BatchRecord.{BatchRecord}
-use Rattle.saw_plan.specs.Steps.{both}
+use Rattle.saw_plan.specs.SortingSteps.{both}
 use Rattle.saw_receipts.specs.declared.block.BlockRecord.{BlockRecord}
 use Rattle.saw_journal.specs.Branches.{batch_ids, branch_of, ids_in}
 use Rattle.saw_journal.proofs.Ids.{CoversIds, walk, opens, taken_at}
@@ -19,7 +19,8 @@ loop-place-init c =
       omega (arith, all),
       record { batches = []; transactions = [] },
       c.new-known.ensures,
-      subst (λ (some : List BlockRecord). CoversIds (record { batches = []; transactions = [] }) (ids_in (walk (reverse some) c.args.id.now)) whole) (sym (take_all c.len-place.result blocks (omega (arith, all)))) (opens whole),
+      subst (λ (some : List BlockRecord). CoversIds (record { batches = []; transactions = [] }) (ids_in (walk (reverse some) c.args.id.now)) whole)
+          (sym (take_all c.len-place.result blocks (omega (arith, all)))) (opens whole),
     )
 
 pub loop-place-preserved : goal.loop-place-preserved
@@ -29,6 +30,9 @@ loop-place-preserved c =
     let block = c.block_in-block.result.now in (
       omega (arith, i.0),
       both i.1 (batch_ids block.batches),
-      subst (λ (batches : List BatchRecord). Knows c.add_batches.new.known (both i.1 (batch_ids batches))) c.as_slice.ensures (c.in_ok-add_batches.ensures i.1 i.2),
-      taken_at (values c.args.blocks.now) l.place block c.loop-place-test.true i.0 c.block_in-block.ensures l.wanted.now i.1 (ids_in (branch_of (λ (block : BlockRecord). block) (values c.args.blocks.now) c.args.id.now)) i.3 (not-false (bytes_eq block.id l.wanted.now) (sym c.ne.ensures ∙ c.if-ne.false)),
+      subst (λ (batches : List BatchRecord). Knows c.add_batches.new.known (both i.1 (batch_ids batches))) c.as_slice.ensures
+          (c.in_ok-add_batches.ensures i.1 i.2),
+      taken_at (values c.args.blocks.now) l.place block c.loop-place-test.true i.0 c.block_in-block.ensures l.wanted.now i.1
+          (ids_in (branch_of (λ (block : BlockRecord). block) (values c.args.blocks.now) c.args.id.now)) i.3
+          (not-false (bytes_eq block.id l.wanted.now) (sym c.ne.ensures ∙ c.if-ne.false)),
     )

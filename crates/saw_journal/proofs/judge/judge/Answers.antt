@@ -1,124 +1,207 @@
-use Rattle.std.proofs.Common.{ℕ, ◌<◌, ◌^◌, List, map, sym, ap, subst, ◌∙◌}
-use Rattle.std.proofs.lemmas.Result.{IfOk-weaker}
-use Rattle.saw_address.specs.Maps.{StateMap}
-use Rattle.saw_context.specs.Possible.{MayComeOfAll}
+use Rattle.std.proofs.Common.{◌≡◌, ◌<◌, ◌^◌, List, map, sym, ap, subst, ◌∙◌}
+use Rattle.std.proofs.lemmas.Result.{err_from_is_err_and}
+use Rattle.std.specs.Prelude.{option_copied, string_bytes}
+use Rattle.indexmap.specs.IndexMap.{keys, values}
 use Rattle.saw_crew.proofs.Leaving.{keep_all}
 use Rattle.saw_crew.specs.Desks.{offers_at}
-use Rattle.saw_plan.specs.Shapes.{BatchShape, batch_shape, transactions_in, txs_of}
+use Rattle.saw_messages.specs.declared.tx.TxBatch.{TxBatch}
+use Rattle.saw_plan.specs.BatchShapes.{BatchShape, batch_shape, transactions_in}
 use Rattle.saw_station.proofs.Finished.{processors_own}
 use Rattle.saw_station.specs.Serving.{processors_at}
-use Rattle.indexmap.specs.IndexMap.{keys, values}
-use Rattle.std.specs.Prelude.{IsSome, string_bytes}
-use Rattle.saw_receipts.specs.States.{state_at}
-use Rattle.saw_journal.specs.BlockFaults.{ids_before, parent_of}
-use Rattle.saw_journal.specs.Ledger.{map_at, map_under}
-use Rattle.saw_journal.specs.Parts.{parts_in}
-use Rattle.saw_journal.proofs.Judging.{dropped, dropped_is, is_before, misplaced, plan_is, ran}
-use Rattle.saw_journal.proofs.Ways.{by_serial, here_are, is_by_serial, is_or_here, or_here}
+use Rattle.saw_journal.specs.BlockFaults.{ids_before, static_fault}
+use Rattle.saw_journal.specs.Stops.{IsStop}
+use Rattle.saw_journal.specs.declared.fault.JournalFault.TheVariants.{Full, OutOfMemory, PeerFailed}
+use Rattle.saw_journal.proofs.Counted.{few_batches, few_transactions}
+use Rattle.saw_journal.proofs.Judgements.{by_place, by_results, by_rules, by_structure, of_memory}
+use Rattle.saw_journal.proofs.Judging.{at_root, knows_before}
 use Rattle.saw_journal.proofs.judge.judge.Goals as goal
 
-pub returns-in_err-fault-clause-desks : goal.returns-in_err-fault-clause-desks
-returns-in_err-fault-clause-desks g c = keep_all g.R.Station.faults g.R.Station.offered c.args.desks.now
+pub returns-in_err-checked-clause-desks : goal.returns-in_err-checked-clause-desks
+returns-in_err-checked-clause-desks g c = keep_all g.R.Station.faults g.R.Station.offered c.args.desks.now
 
-pub returns-in-Some-clause-desks : goal.returns-in-Some-clause-desks
-returns-in-Some-clause-desks g c = keep_all g.R.Station.faults g.R.Station.offered c.args.desks.now
-
-pub returns-then-not-fits-clause-desks : goal.returns-then-not-fits-clause-desks
-returns-then-not-fits-clause-desks g c = keep_all g.R.Station.faults g.R.Station.offered c.args.desks.now
+pub returns-in_err-parent-clause-desks : goal.returns-in_err-parent-clause-desks
+returns-in_err-parent-clause-desks g c = keep_all g.R.Station.faults g.R.Station.offered c.args.desks.now
 
 pub returns-in_err-known-clause-desks : goal.returns-in_err-known-clause-desks
 returns-in_err-known-clause-desks g c = keep_all g.R.Station.faults g.R.Station.offered c.args.desks.now
 
-pub returns-in_err-fault-2-clause-desks : goal.returns-in_err-fault-2-clause-desks
-returns-in_err-fault-2-clause-desks g c = keep_all g.R.Station.faults g.R.Station.offered c.args.desks.now
+pub returns-in_err-plan-clause-desks : goal.returns-in_err-plan-clause-desks
+returns-in_err-plan-clause-desks g c = keep_all g.R.Station.faults g.R.Station.offered c.args.desks.now
 
-pub returns-in_err-before-in-Whole-clause-desks : goal.returns-in_err-before-in-Whole-clause-desks
-returns-in_err-before-in-Whole-clause-desks g c = keep_all g.R.Station.faults g.R.Station.offered c.args.desks.now
+pub returns-in_err-before-clause-desks : goal.returns-in_err-before-clause-desks
+returns-in_err-before-clause-desks g c = keep_all g.R.Station.faults g.R.Station.offered c.args.desks.now
 
-pub returns-in-Dropped-clause-desks : goal.returns-in-Dropped-clause-desks
-returns-in-Dropped-clause-desks g c = keep_all g.R.Station.faults g.R.Station.offered c.args.desks.now
-
-pub returns-in-Some-clause-judged : goal.returns-in-Some-clause-judged
-returns-in-Some-clause-judged g c =
+pub returns-in_err-checked-clause-judged : goal.returns-in_err-checked-clause-judged
+returns-in_err-checked-clause-judged g c =
+    let p = err_from_is_err_and c.from_residual.result c.from_residual.ensures.1 in
+    let hash = g.H.NodeHasher.hash_of in
+    let accepts = g.V.Verifier.accepts c.args.verifier.now in
+    let blocks = values c.args.blocks.now in
+    let states = c.args.state.now in
+    let content = c.args.bytes.now in
     let laws = g.met.R.Station g.world.𝓛 g.world.𝓜 g.world.𝓡 ((λ s x. x), (λ x. x), (λ x. x), λ x. x) in
     let own = processors_own g.R.Station.next laws.own_reasons g.R.Station.tells (offers_at c.args.desks.now) in
-    let processors = processors_at g.R.Station.next g.R.Station.tells (offers_at c.args.desks.now) in (
-      by_serial processors,
-      is_by_serial processors own,
-      misplaced g.H.NodeHasher.hash_of (by_serial processors) (values c.args.blocks.now) c.args.state.now (parts_in c.args.checked) c.in-Some.fault (sym c.in-Some.is ∙ c.in_ok-fault.ensures),
-    )
+    let processors = processors_at g.R.Station.next g.R.Station.tells (offers_at c.args.desks.now) in
+    rw (p.1, p.2) (by_structure processors own hash accepts blocks states content c.in_err-checked.field-0.0 c.in_err-checked.ensures)
+
+pub returns-in_err-parent-clause-judged : goal.returns-in_err-parent-clause-judged
+returns-in_err-parent-clause-judged g c =
+    let p = err_from_is_err_and c.from_residual-in_err-parent.result c.from_residual-in_err-parent.ensures.1 in
+    let hash = g.H.NodeHasher.hash_of in
+    let accepts = g.V.Verifier.accepts c.args.verifier.now in
+    let blocks = values c.args.blocks.now in
+    let states = c.args.state.now in
+    let content = c.args.bytes.now in
+    let checked = c.in_ok-checked.checked in
+    let sound = c.in_ok-checked.ensures in
+    let laws = g.met.R.Station g.world.𝓛 g.world.𝓜 g.world.𝓡 ((λ s x. x), (λ x. x), (λ x. x), λ x. x) in
+    let own = processors_own g.R.Station.next laws.own_reasons g.R.Station.tells (offers_at c.args.desks.now) in
+    let processors = processors_at g.R.Station.next g.R.Station.tells (offers_at c.args.desks.now) in
+    rw (p.1, p.2) (by_place processors own hash accepts blocks states content checked sound.0 sound.1 c.in_err-parent.field-0.0 c.in_err-parent.ensures)
+
+pub returns-in_err-known-clause-judged : goal.returns-in_err-known-clause-judged
+returns-in_err-known-clause-judged g c =
+    let p = err_from_is_err_and c.from_residual-in_err-known.result c.from_residual-in_err-known.ensures.1 in rw (p.1, p.2) tt
+
+pub plan_all-requires-clause-batches : goal.plan_all-requires-clause-batches
+plan_all-requires-clause-batches g c =
+    rw c.as_slice.ensures (few_batches (g.V.Verifier.accepts c.args.verifier.now) c.args.bytes.now c.in_ok-checked.checked
+    c.in_ok-checked.ensures.0 c.in_ok-checked.ensures.1)
+
+pub plan_all-requires-clause-transactions : goal.plan_all-requires-clause-transactions
+plan_all-requires-clause-transactions g c =
+    rw c.as_slice.ensures (few_transactions (g.V.Verifier.accepts c.args.verifier.now) c.args.bytes.now c.in_ok-checked.checked
+    c.in_ok-checked.ensures.0 c.in_ok-checked.ensures.1)
+
+pub returns-in_err-plan-clause-judged : goal.returns-in_err-plan-clause-judged
+returns-in_err-plan-clause-judged g c =
+    let p = err_from_is_err_and c.from_residual-in_err-plan.result c.from_residual-in_err-plan.ensures.1 in
+    let hash = g.H.NodeHasher.hash_of in
+    let accepts = g.V.Verifier.accepts c.args.verifier.now in
+    let blocks = values c.args.blocks.now in
+    let states = c.args.state.now in
+    let content = c.args.bytes.now in
+    let checked = c.in_ok-checked.checked in
+    let sound = c.in_ok-checked.ensures in
+    let placed = c.in_ok-parent.ensures in
+    let parent = option_copied c.in_ok-parent.parent in
+    let there = ids_before blocks checked.header in
+    let knows = knows_before blocks checked.id checked.header (sym placed.0) parent placed.1 c.in_ok-known.known c.in_ok-known.ensures in
+    let laws = g.met.R.Station g.world.𝓛 g.world.𝓜 g.world.𝓡 ((λ s x. x), (λ x. x), (λ x. x), λ x. x) in
+    let own = processors_own g.R.Station.next laws.own_reasons g.R.Station.tells (offers_at c.args.desks.now) in
+    let processors = processors_at g.R.Station.next g.R.Station.tells (offers_at c.args.desks.now) in
+    let dropped = subst (λ (batches : List TxBatch). IsStop (static_fault there (map batch_shape batches)) c.in_err-plan.field-0.0) c.as_slice.ensures
+    (c.in_err-plan.ensures there knows) in
+    rw (p.1, p.2) (by_rules processors own hash accepts blocks states content checked sound.0 sound.1 placed.0 c.in_err-plan.field-0.0 dropped)
+
+pub returns-in_err-before-clause-judged : goal.returns-in_err-before-clause-judged
+returns-in_err-before-clause-judged g c =
+    let p = err_from_is_err_and c.from_residual-in_err-before.result c.from_residual-in_err-before.ensures.1 in rw (p.1, p.2) tt
 
 pub run-requires-clause-known : goal.run-requires-clause-known
 run-requires-clause-known g c = λ κs alive.
     let hash = g.H.NodeHasher.hash_of in
+    let accepts = g.V.Verifier.accepts c.args.verifier.now in
     let blocks = values c.args.blocks.now in
     let states = c.args.state.now in
-    let parts = parts_in c.args.checked in
-    let there = ids_before blocks parts.header in
-    let placed = sym c.in_default.is ∙ c.in_ok-fault.ensures in
-    let parent = is_before hash (map string_bytes (keys c.args.blocks.now)) blocks states c.requires.founded parts.id parts.header placed in
-    subst (λ (root : List ℕ). IsSome (state_at states root)) (sym c.in_ok-before-in-Whole.ensures) parent.1
+    let content = c.args.bytes.now in
+    let checked = c.in_ok-checked.checked in
+    let sound = c.in_ok-checked.ensures in
+    let placed = c.in_ok-parent.ensures in
+    let parent = option_copied c.in_ok-parent.parent in
+    let root = at_root blocks checked.id checked.header (sym placed.0) parent placed.1 hash (map string_bytes (keys c.args.blocks.now)) states
+    c.requires.founded c.in_ok-before.before c.in_ok-before.ensures in
+    root.1
 
 pub run-requires-clause-plan : goal.run-requires-clause-plan
 run-requires-clause-plan g c = λ κs alive.
     let hash = g.H.NodeHasher.hash_of in
+    let accepts = g.V.Verifier.accepts c.args.verifier.now in
     let blocks = values c.args.blocks.now in
     let states = c.args.state.now in
-    let parts = parts_in c.args.checked in
-    let there = ids_before blocks parts.header in
-    let placed = sym c.in_default.is ∙ c.in_ok-fault.ensures in
-    let plan = plan_is there c.args.checked.batches c.as_slice-2.result.now c.in_ok-fault-2.field-0 c.in-Whole.plan c.in-Whole.is c.as_slice-2.ensures (c.in_ok-fault-2.ensures there c.in_ok-known.ensures) in
-    plan.1
+    let content = c.args.bytes.now in
+    let checked = c.in_ok-checked.checked in
+    let sound = c.in_ok-checked.ensures in
+    let placed = c.in_ok-parent.ensures in
+    let parent = option_copied c.in_ok-parent.parent in
+    let there = ids_before blocks checked.header in
+    let knows = knows_before blocks checked.id checked.header (sym placed.0) parent placed.1 c.in_ok-known.known c.in_ok-known.ensures in
+    (c.in_ok-plan.ensures there knows).1 ∙ ap (map batch_shape) c.as_slice.ensures
 
 pub run-requires-clause-counted : goal.run-requires-clause-counted
 run-requires-clause-counted g c = λ κs alive.
     let hash = g.H.NodeHasher.hash_of in
+    let accepts = g.V.Verifier.accepts c.args.verifier.now in
     let blocks = values c.args.blocks.now in
     let states = c.args.state.now in
-    let parts = parts_in c.args.checked in
-    let there = ids_before blocks parts.header in
-    let placed = sym c.in_default.is ∙ c.in_ok-fault.ensures in
-    let plan = plan_is there c.args.checked.batches c.as_slice-2.result.now c.in_ok-fault-2.field-0 c.in-Whole.plan c.in-Whole.is c.as_slice-2.ensures (c.in_ok-fault-2.ensures there c.in_ok-known.ensures) in
-    subst (λ (shapes : List BatchShape). transactions_in shapes < 2 ^ 32) (ap (map batch_shape) c.as_slice.ensures ∙ sym plan.1) (c.fits.ensures.transactions c.if-not-fits.false)
+    let content = c.args.bytes.now in
+    let checked = c.in_ok-checked.checked in
+    let sound = c.in_ok-checked.ensures in
+    let placed = c.in_ok-parent.ensures in
+    let parent = option_copied c.in_ok-parent.parent in
+    let there = ids_before blocks checked.header in
+    let knows = knows_before blocks checked.id checked.header (sym placed.0) parent placed.1 c.in_ok-known.known c.in_ok-known.ensures in
+    subst (λ (shapes : List BatchShape). transactions_in shapes < 2 ^ 32)
+    (sym ((c.in_ok-plan.ensures there knows).1 ∙ ap (map batch_shape) c.as_slice.ensures)) (few_transactions accepts content checked sound.0 sound.1)
 
-pub returns-in-Dropped-clause-judged : goal.returns-in-Dropped-clause-judged
-returns-in-Dropped-clause-judged g c =
+pub run-requires-clause-few : goal.run-requires-clause-few
+run-requires-clause-few g c = λ κs alive.
     let hash = g.H.NodeHasher.hash_of in
+    let accepts = g.V.Verifier.accepts c.args.verifier.now in
     let blocks = values c.args.blocks.now in
     let states = c.args.state.now in
-    let parts = parts_in c.args.checked in
-    let there = ids_before blocks parts.header in
-    let placed = sym c.in_default.is ∙ c.in_ok-fault.ensures in
+    let content = c.args.bytes.now in
+    let checked = c.in_ok-checked.checked in
+    let sound = c.in_ok-checked.ensures in
+    few_batches accepts content checked sound.0 sound.1
+
+pub returns-clause-judged : goal.returns-clause-judged
+returns-clause-judged g c =
+    let hash = g.H.NodeHasher.hash_of in
+    let accepts = g.V.Verifier.accepts c.args.verifier.now in
+    let blocks = values c.args.blocks.now in
+    let states = c.args.state.now in
+    let content = c.args.bytes.now in
+    let checked = c.in_ok-checked.checked in
+    let sound = c.in_ok-checked.ensures in
+    let placed = c.in_ok-parent.ensures in
+    let parent = option_copied c.in_ok-parent.parent in
+    let there = ids_before blocks checked.header in
+    let knows = knows_before blocks checked.id checked.header (sym placed.0) parent placed.1 c.in_ok-known.known c.in_ok-known.ensures in
+    let root = at_root blocks checked.id checked.header (sym placed.0) parent placed.1 hash (map string_bytes (keys c.args.blocks.now)) states
+    c.requires.founded c.in_ok-before.before c.in_ok-before.ensures in
     let laws = g.met.R.Station g.world.𝓛 g.world.𝓜 g.world.𝓡 ((λ s x. x), (λ x. x), (λ x. x), λ x. x) in
     let own = processors_own g.R.Station.next laws.own_reasons g.R.Station.tells (offers_at c.args.desks.now) in
-    let processors = processors_at g.R.Station.next g.R.Station.tells (offers_at c.args.desks.now) in (
-      by_serial processors,
-      is_by_serial processors own,
-      dropped hash (by_serial processors) blocks states parts placed c.in-Dropped.fault
-          (dropped_is there c.args.checked.batches c.as_slice-2.result.now c.in_ok-fault-2.field-0 c.in-Dropped.fault c.in-Dropped.is c.as_slice-2.ensures (c.in_ok-fault-2.ensures there c.in_ok-known.ensures)),
-    )
-
-pub returns-in_ok-before-in-Whole-clause-judged : goal.returns-in_ok-before-in-Whole-clause-judged
-returns-in_ok-before-in-Whole-clause-judged g c =
-    let hash = g.H.NodeHasher.hash_of in
-    let blocks = values c.args.blocks.now in
-    let states = c.args.state.now in
-    let parts = parts_in c.args.checked in
-    let there = ids_before blocks parts.header in
-    let placed = sym c.in_default.is ∙ c.in_ok-fault.ensures in
-    let parent = is_before hash (map string_bytes (keys c.args.blocks.now)) blocks states c.requires.founded parts.id parts.header placed in
-    let plan = plan_is there c.args.checked.batches c.as_slice-2.result.now c.in_ok-fault-2.field-0 c.in-Whole.plan c.in-Whole.is c.as_slice-2.ensures (c.in_ok-fault-2.ensures there c.in_ok-known.ensures) in
     let processors = processors_at g.R.Station.next g.R.Station.tells (offers_at c.args.desks.now) in
-    let laws = g.met.R.Station g.world.𝓛 g.world.𝓜 g.world.𝓡 ((λ s x. x), (λ x. x), (λ x. x), λ x. x) in
-    let own = processors_own g.R.Station.next laws.own_reasons g.R.Station.tells (offers_at c.args.desks.now) in
-    let at = c.in_ok-before-in-Whole.before in
-    let txs = txs_of parts.batches in
-    let before = map_under states (parent_of blocks parts.header) in
-    let same = parent.0 ∙ ap (map_at states) (sym c.in_ok-before-in-Whole.ensures) in
-    IfOk-weaker c.run.result _ _
-    (λ judged came. (
-      or_here processors before txs came.0,
-      is_or_here processors own before txs came.0 (subst (λ (m : StateMap). MayComeOfAll processors m txs came.0) (sym same) came.1),
-      ran hash (or_here processors before txs came.0) blocks states parts placed plan.0 came.0 at same (here_are processors before txs came.0) judged came.2,
-    ))
-    c.run.ensures.ran
+    let whole = (c.in_ok-plan.ensures there knows).0 in
+    let all = ap (λ (batches : List TxBatch). static_fault there (map batch_shape batches)) (sym c.as_slice.ensures) ∙ whole in
+    by_results processors own hash accepts blocks states content checked sound.0 sound.1 placed.0 all c.in_ok-before.before root.0
+    c.run.result c.run.ensures.ran
+
+pub returns-in_err-plan-clause-room : goal.returns-in_err-plan-clause-room
+returns-in_err-plan-clause-room g c =
+    let p = err_from_is_err_and c.from_residual-in_err-plan.result c.from_residual-in_err-plan.ensures.1 in
+    let blocks = values c.args.blocks.now in
+    let checked = c.in_ok-checked.checked in
+    let placed = c.in_ok-parent.ensures in
+    let there = ids_before blocks checked.header in
+    let knows = knows_before blocks checked.id checked.header (sym placed.0) (option_copied c.in_ok-parent.parent) placed.1 c.in_ok-known.known
+    c.in_ok-known.ensures in
+    rw (p.1, p.2) (λ is.
+    let same : Full ≡ OutOfMemory = of_memory (static_fault there (map batch_shape c.as_slice.result.now)) c.in_err-plan.field-0.0 Full
+    (c.in_err-plan.ensures there knows) is in
+    absurd cc)
+
+pub returns-in_err-plan-clause-cause : goal.returns-in_err-plan-clause-cause
+returns-in_err-plan-clause-cause g c =
+    let p = err_from_is_err_and c.from_residual-in_err-plan.result c.from_residual-in_err-plan.ensures.1 in
+    let blocks = values c.args.blocks.now in
+    let checked = c.in_ok-checked.checked in
+    let placed = c.in_ok-parent.ensures in
+    let there = ids_before blocks checked.header in
+    let knows = knows_before blocks checked.id checked.header (sym placed.0) (option_copied c.in_ok-parent.parent) placed.1 c.in_ok-known.known
+    c.in_ok-known.ensures in
+    rw (p.1, p.2) (λ is.
+    let same : PeerFailed ≡ OutOfMemory = of_memory (static_fault there (map batch_shape c.as_slice.result.now)) c.in_err-plan.field-0.0 PeerFailed
+    (c.in_err-plan.ensures there knows) is in
+    absurd cc)

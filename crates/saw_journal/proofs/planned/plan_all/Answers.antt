@@ -1,5 +1,5 @@
 use Rattle.std.proofs.Common.{map}
-use Rattle.saw_plan.specs.Shapes.{batch_shape}
+use Rattle.saw_plan.specs.BatchShapes.{batch_shape}
 use Rattle.saw_journal.proofs.Dropped.{none_from}
 use Rattle.saw_journal.proofs.planned.plan_all.Goals as goal
 

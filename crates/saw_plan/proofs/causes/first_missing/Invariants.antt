@@ -1,10 +1,11 @@
 use Rattle.std.proofs.Common.{◌≡◌, ◌++◌, ℕ, List, drop}
 use Rattle.saw_ids.specs.Seen.{HoldsIds}
 use Rattle.saw_plan.specs.StaticRules.{Ids, Knows, first_missing}
-use Rattle.saw_plan.specs.Steps.{both}
+use Rattle.saw_plan.specs.SortingSteps.{both}
 use Rattle.saw_plan.proofs.causes.first_missing.Given as goal
 
 -- the first that is missing is the first of the rest
 abbrev pub invariant-loop-dependency : goal.invariant-loop-dependency
 invariant-loop-dependency l = (there more : Ids) (before : List (List ℕ)) → Knows l.known there → Knows l.kept more → HoldsIds l.earlier before
-    → first_missing ((both there more).transactions ++ before) l.dependencies ≡ first_missing ((both there more).transactions ++ before) (drop l.dependency-index l.dependencies)
+    → first_missing ((both there more).transactions ++ before) l.dependencies ≡ first_missing ((both there more).transactions ++ before)
+    (drop l.dependency-index l.dependencies)

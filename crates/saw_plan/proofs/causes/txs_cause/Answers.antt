@@ -1,6 +1,6 @@
 use Rattle.std.proofs.Common.{take, sym, ◌∙◌}
-use Rattle.saw_plan.specs.Shapes.{shapes_of, ids_of}
-use Rattle.saw_plan.specs.Steps.{both}
+use Rattle.saw_plan.specs.BatchShapes.{shapes_of, ids_of}
+use Rattle.saw_plan.specs.SortingSteps.{both}
 use Rattle.saw_plan.proofs.Transactions.{ids_more, cause_later}
 use Rattle.saw_plan.proofs.causes.txs_cause.Goals as goal
 
@@ -12,8 +12,10 @@ loop-t-preserved c =
     let tx = c.index-txs-t.result in
     let ids = ids_of (shapes_of (take at txs)) in
     record {
-      holds = rw (← ids_more txs at tx c.loop-t-test.true c.index-txs-t.is c.deref-in-loop-t.result.now c.deref-in-loop-t.ensures) (c.in_ok-add_id.ensures ids i.holds).1;
+      holds = rw (← ids_more txs at tx c.loop-t-test.true c.index-txs-t.is c.deref-in-loop-t.result.now c.deref-in-loop-t.ensures)
+          (c.in_ok-add_id.ensures ids i.holds).1;
       so_far = λ there more known kept.
-          cause_later txs at tx c.loop-t-test.true c.index-txs-t.is c.deref.result.now c.deref.ensures (both there more).transactions (i.so_far there more known kept)
+          cause_later txs at tx c.loop-t-test.true c.index-txs-t.is c.deref.result.now c.deref.ensures (both there more).transactions
+          (i.so_far there more known kept)
           (sym c.in_default.is ∙ c.in_ok-cause.ensures there more ids known kept i.holds);
     }

@@ -1,5 +1,5 @@
 use Rattle.std.proofs.Common.{◌++◌, take}
-use Rattle.saw_plan.specs.Shapes.{shapes_of, ids_of}
+use Rattle.saw_plan.specs.BatchShapes.{shapes_of, ids_of}
 use Rattle.saw_plan.proofs.Transactions.{all_ids_more}
 use Rattle.saw_plan.proofs.drops.add_txs.Goals as goal
 

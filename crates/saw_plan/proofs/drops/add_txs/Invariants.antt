@@ -1,6 +1,6 @@
 use Rattle.std.proofs.Common.{◌++◌, ℕ, List, take}
 use Rattle.saw_ids.specs.Seen.{HoldsIds}
-use Rattle.saw_plan.specs.Shapes.{shapes_of, ids_of}
+use Rattle.saw_plan.specs.BatchShapes.{shapes_of, ids_of}
 use Rattle.saw_plan.proofs.drops.add_txs.Given as goal
 
 abbrev pub invariant-loop-tx : goal.invariant-loop-tx

@@ -1,17 +1,25 @@
 use Rattle.std.proofs.Common.{[], map, arith}
-use Rattle.saw_plan.specs.Shapes.{batch_shape}
+use Rattle.saw_plan.specs.BatchShapes.{batch_shape}
 use Rattle.saw_plan.specs.StaticRules.{batch_cause, after_batch}
-use Rattle.saw_plan.specs.Steps.{both, sorting_of}
+use Rattle.saw_plan.specs.SortingSteps.{both, sorting_of}
 use Rattle.saw_plan.proofs.Rest.{begins, goes_on, ends, few}
 use Rattle.saw_plan.proofs.drops.precheck.Goals as goal
 
 pub loop-place-init : goal.loop-place-init
-loop-place-init c = λ there known.
-    (record { batches = []; transactions = [] }, c.new-kept.ensures, begins there (map batch_shape c.args.batches.now) (sorting_of c.new-sorted.result) c.new-sorted.ensures)
+loop-place-init c = λ there known. (
+  record { batches = []; transactions = [] },
+  c.new-kept.ensures,
+  begins there (map batch_shape c.args.batches.now)
+      (sorting_of c.new-sorted.result) c.new-sorted.ensures,
+)
 
 pub sort_next-requires : goal.sort_next-requires
 sort_next-requires c =
-    omega (arith, few c.args.batches.now c.loop-place.place c.index-batches-place.result c.loop-place-test.true c.index-batches-place.is, c.requires.transactions)
+    omega (
+      arith,
+      few c.args.batches.now c.loop-place.place c.index-batches-place.result c.loop-place-test.true c.index-batches-place.is,
+      c.requires.transactions,
+    )
 
 pub loop-place-preserved : goal.loop-place-preserved
 loop-place-preserved c = λ there known.
@@ -22,7 +30,8 @@ loop-place-preserved c = λ there known.
     let done = c.in_ok-sort_next.ensures in (
       after_batch (batch_cause (both there more) (batch_shape batch)) more (batch_shape batch),
       done.ids there more known so_far.1,
-      goes_on there more c.args.batches.now l.place batch c.loop-place-test.true c.index-batches-place.is (sorting_of l.sorted) (sorting_of c.sort_next.new.sorted) (done.sorting there more known so_far.1) so_far.2,
+      goes_on there more c.args.batches.now l.place batch c.loop-place-test.true c.index-batches-place.is (sorting_of l.sorted)
+          (sorting_of c.sort_next.new.sorted) (done.sorting there more known so_far.1) so_far.2,
     )
 
 pub returns : goal.returns

@@ -1,6 +1,6 @@
 use Rattle.std.proofs.Common.{Option, sym, subst, ◌∙◌}
 use Rattle.std.proofs.lemmas.Result.{on_ok_weaker}
-use Rattle.saw_plan.specs.Shapes.{batch_shape}
+use Rattle.saw_plan.specs.BatchShapes.{batch_shape}
 use Rattle.saw_plan.specs.StaticRules.{Knows, after_batch}
 use Rattle.saw_plan.specs.declared.sorted.DropCause.{DropCause}
 use Rattle.saw_plan.proofs.drops.sort_next.Goals as goal

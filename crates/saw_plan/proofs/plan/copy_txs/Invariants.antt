@@ -1,5 +1,5 @@
 use Rattle.std.proofs.Common.{◌≡◌, take}
-use Rattle.saw_plan.specs.Shapes.{shapes_of}
+use Rattle.saw_plan.specs.BatchShapes.{shapes_of}
 use Rattle.saw_plan.proofs.plan.copy_txs.Given as goal
 
 abbrev pub invariant-loop-tx : goal.invariant-loop-tx

@@ -4,7 +4,9 @@ use Rattle.saw_receipts.proofs.plain_state.apply.Goals as goal
 
 pub returns-in_ok-insert-in-Some-clause-is : goal.returns-in_ok-insert-in-Some-clause-is
 returns-in_ok-insert-in-Some-clause-is c =
-    changed_map_inserted c.args.map.now.entries c.insert.new.self.entries c.args.change.now.address c.in_ok-try_clone-in-Some.field-0 c.args.change.now.value (c.in-Some.is ∙ ap Some (sym c.in_ok-try_clone-in-Some.ensures)) c.in_ok-insert-in-Some.ensures.updates.0
+    changed_map_inserted c.args.map.now.entries c.insert.new.self.entries c.args.change.now.address c.in_ok-try_clone-in-Some.field-0
+    c.args.change.now.value (c.in-Some.is ∙ ap Some (sym c.in_ok-try_clone-in-Some.ensures)) c.in_ok-insert-in-Some.ensures.updates.0
 
 pub returns-in-None-clause-is : goal.returns-in-None-clause-is
-returns-in-None-clause-is c = changed_map_removed c.args.map.now.entries c.remove.new.self.entries c.args.change.now.address c.args.change.now.value c.in-None.is c.remove.ensures.updates.0
+returns-in-None-clause-is c = changed_map_removed c.args.map.now.entries c.remove.new.self.entries c.args.change.now.address c.args.change.now.value
+    c.in-None.is c.remove.ensures.updates.0

@@ -1,5 +1,5 @@
-use Rattle.std.proofs.Common.{ℕ, List, [], ◌∷◌, ◌∙◌, ap, arith}
-use Rattle.saw_settings.proofs.Parts.{written_behind}
+use Rattle.std.proofs.Common.{ℕ, List, [], ◌∷◌, arith}
+use Rattle.saw_address.proofs.Parts.{written_behind}
 use Rattle.saw_settings.proofs.key.joined.Goals as goal
 
 zeros : List ℕ
@@ -8,4 +8,5 @@ zeros = 0 ∷ 0 ∷ 0 ∷ 0 ∷ 0 ∷ 0 ∷ 0 ∷ 0 ∷ 0 ∷ 0 ∷ 0 ∷ 0 ∷ 
 pub returns : goal.returns
 unfolding zeros
 returns c =
-    c.new.ensures ∙ rw (c.copy_from_slice.ensures.after, c.copy_from_slice-2.ensures.after) (ap (λ (rest : List ℕ). 0 ∷ 0 ∷ 0 ∷ rest) (written_behind c.args.front.now c.args.back.now zeros 16 16 c.told-front (omega arith)))
+    rw (c.copy_from_slice.ensures.after, c.copy_from_slice-2.ensures.after)
+    (written_behind c.args.front.now c.args.back.now zeros 16 16 c.told-front (omega arith))

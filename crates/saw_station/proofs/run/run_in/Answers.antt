@@ -6,6 +6,7 @@ use Rattle.saw_station.proofs.run.run_in.Goals as goal
 pub returns-clause-done : goal.returns-clause-done
 returns-clause-done g c =
     let laws = g.met.R.Station g.world.𝓛 g.world.𝓜 g.world.𝓡 ((λ s x. x), (λ x. x), (λ x. x), λ x. x) in
-    talk_result g.R.Station.next laws.own_reasons g.R.Station.tells c.args.desk.now.offers c.args.context.base c.args.job.now c.in-Some.served c.in_ok-spoken.spoken _
+    talk_result g.R.Station.next laws.own_reasons g.R.Station.tells c.args.desk.now.offers c.args.context.base c.args.job.now c.in-Some.served
+    c.in_ok-spoken.spoken _
     c.deref-4.result.now c.args.context.layers c.deref-4.ensures (ap (λ (a : Access). a.layers) c.requires.fresh)
     c.requires.declared (search rules) c.if-job.false c.in_ok-spoken.ensures.spoken c.in_ok-done_of.ensures

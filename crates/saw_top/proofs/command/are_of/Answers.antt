@@ -16,4 +16,11 @@ pub loop-first-preserved : goal.loop-first-preserved
 loop-first-preserved c =
     let first = c.in-Some.first in
     let more = are_more first.name.now first.value.now c.args.names.now (options_in first.rest.now) c.value_of.result c.value_of.ensures in
-    c.loop-first.invariant ∙ rw (c.in-Some.ensures.0, more, ← c.contains-is_known.ensures.value, ← c.is_some-is_again.ensures, c.if-not-is_known.false, c.if-is_again.false) refl
+    c.loop-first.invariant ∙ rw (
+      c.in-Some.ensures.0,
+      more,
+      ← c.contains-is_known.ensures.value,
+      ← c.is_some-is_again.ensures,
+      c.if-not-is_known.false,
+      c.if-is_again.false,
+    ) refl

@@ -5,8 +5,13 @@ use Rattle.saw_top.proofs.ending.list_tree.Goals as goal
 pub returns-in_err-write_listed-clause-err : goal.returns-in_err-write_listed-clause-err
 returns-in_err-write_listed-clause-err g c =
     let p = err_from_is_err_and c.from_residual-in_err-write_listed.result c.from_residual-in_err-write_listed.ensures.1 in
-    rw (p.1, ← listed_all c.args.prefix.now c.args.tree.now c.in_ok-listed.listed.items c.deref.result.now c.deref.ensures.value c.in_ok-listed.ensures) c.in_err-write_listed.ensures.err
+    rw (
+      p.1,
+      ← listed_all c.args.prefix.now c.args.tree.now c.in_ok-listed.listed.items c.deref.result.now c.deref.ensures.value
+          c.in_ok-listed.ensures,
+    ) c.in_err-write_listed.ensures.err
 
 pub returns-clause-ok : goal.returns-clause-ok
 returns-clause-ok g c =
-    rw (← listed_all c.args.prefix.now c.args.tree.now c.in_ok-listed.listed.items c.deref.result.now c.deref.ensures.value c.in_ok-listed.ensures) c.in_ok-write_listed.ensures.ok
+    rw (← listed_all c.args.prefix.now c.args.tree.now c.in_ok-listed.listed.items c.deref.result.now c.deref.ensures.value c.in_ok-listed.ensures)
+    c.in_ok-write_listed.ensures.ok

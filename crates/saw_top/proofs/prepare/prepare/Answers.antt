@@ -26,17 +26,20 @@ returns-in_err-list g c =
     let e = c.in_err-list.ensures in
     record {
       prepares = rw (p.1, p.2, c.in-Some.is)
-          (unlisted (g.V.Verifier.accepts c.args.verifier.now) c.in-Some.name.now (shelf_end g.F.Shelf c.args.shelf.now) (shelf_end g.F.Shelf c.fetch.new.self) c.in_err-list.field-0.0 e.told (λ is. e.cause (ap Err is)));
+          (unlisted (g.V.Verifier.accepts c.args.verifier.now) c.in-Some.name.now (shelf_end g.F.Shelf c.args.shelf.now)
+          (shelf_end g.F.Shelf c.fetch.new.self) c.in_err-list.field-0.0 e.told (λ is. e.cause (ap Err is)));
     }
 
 pub returns-in_err-verifier : goal.returns-in_err-verifier
 returns-in_err-verifier g c =
     let p = err_from_is_err_and c.from_residual-in_err-verifier.result c.from_residual-in_err-verifier.ensures.1 in
     let list = c.in_ok-list.ensures in
-    let why = subst (λ (l : List ℕ). (c.in_err-verifier.field-0.0 ≡ lists.OutOfMemory) ⊎ (option_map lists.BadLine (first_bad_line l) ≡ Some c.in_err-verifier.field-0.0)) c.deref.ensures.value c.in_err-verifier.ensures.fault in
+    let why = subst (λ (l : List ℕ). (c.in_err-verifier.field-0.0 ≡ lists.OutOfMemory)
+    ⊎ (option_map lists.BadLine (first_bad_line l) ≡ Some c.in_err-verifier.field-0.0)) c.deref.ensures.value c.in_err-verifier.ensures.fault in
     record {
       prepares = rw (p.1, p.2, c.in-Some.is)
-          (bad_list (g.V.Verifier.accepts c.args.verifier.now) c.in-Some.name.now (shelf_end g.F.Shelf c.args.shelf.now) (shelf_end g.F.Shelf c.fetch.new.self) c.in_ok-list.list list.told list.within c.in_err-verifier.field-0.0 why);
+          (bad_list (g.V.Verifier.accepts c.args.verifier.now) c.in-Some.name.now (shelf_end g.F.Shelf c.args.shelf.now)
+          (shelf_end g.F.Shelf c.fetch.new.self) c.in_ok-list.list list.told list.within c.in_err-verifier.field-0.0 why);
     }
 
 pub returns : goal.returns
@@ -44,6 +47,8 @@ returns g c =
     let list = c.in_ok-list.ensures in
     let v = c.in_ok-verifier.ensures in
     record {
-      prepares = rw c.in-Some.is (with_list (g.V.Verifier.accepts c.args.verifier.now) c.in-Some.name.now (shelf_end g.F.Shelf c.args.shelf.now) (shelf_end g.F.Shelf c.fetch.new.self) c.in_ok-list.list list.told list.within _
-          (good c.deref.result.now c.in_ok-list.list.items c.deref.ensures.value v.ok) (alike c.deref.result.now c.in_ok-list.list.items c.deref.ensures.value _ v.accepts));
+      prepares = rw c.in-Some.is (with_list (g.V.Verifier.accepts c.args.verifier.now) c.in-Some.name.now (shelf_end g.F.Shelf c.args.shelf.now)
+          (shelf_end g.F.Shelf c.fetch.new.self) c.in_ok-list.list list.told list.within _
+          (good c.deref.result.now c.in_ok-list.list.items c.deref.ensures.value v.ok)
+          (alike c.deref.result.now c.in_ok-list.list.items c.deref.ensures.value _ v.accepts));
     }

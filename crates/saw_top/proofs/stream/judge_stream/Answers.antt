@@ -10,7 +10,7 @@ use Rattle.saw_journal.proofs.OneByOne.{serial_one_by_one}
 use Rattle.saw_report.specs.RunFaults.{fault_of_frame}
 use Rattle.saw_report.specs.declared.run_fault.RunFault.TheVariants.{Peer, Read}
 use Rattle.saw_station.specs.Serving.{processors_at}
-use Rattle.saw_top.specs.Faults.{IsOfStream}
+use Rattle.saw_top.specs.EndingFaults.{IsOfStream}
 use Rattle.saw_top.specs.World.{rules_by}
 use Rattle.saw_top.proofs.Desks.{failed_rose}
 use Rattle.saw_top.proofs.Standings.{all_there, line_cut, line_written, no_more, not_judged, probe_fault, read_fault, so_ends, so_more, start, too_many}
@@ -18,7 +18,9 @@ use Rattle.saw_top.proofs.stream.judge_stream.Goals as goal
 
 pub loop-place-init : goal.loop-place-init
 loop-place-init g c = record {
-  so_far = λ told. start (rules_by (g.V.Verifier.accepts c.args.verifier.now) (processors_at g.R.Station.next g.R.Station.tells (offers_at c.args.desks.now))) c.args.lines (g.S.Source.unread c.args.input.now) (g.O.Sink.written c.args.output.now) c.args.journal.now
+  so_far = λ told. start (rules_by (g.V.Verifier.accepts c.args.verifier.now)
+      (processors_at g.R.Station.next g.R.Station.tells (offers_at c.args.desks.now))) c.args.lines (g.S.Source.unread c.args.input.now)
+      (g.O.Sink.written c.args.output.now) c.args.journal.now
       (record { blocks = c.requires.fresh; limit = c.requires.limit; kept = tt });
   wrote = ([], Appends-nil (g.O.Sink.written c.args.output.now));
   desks = keep_all g.R.Station.faults g.R.Station.offered c.args.desks.now;
@@ -31,7 +33,8 @@ returns-in_err-read_frame-clause-judges g c = λ told.
     let failed = c.from_residual in
     let p = err_from_is_err_and failed.result failed.ensures.1 in
     let e = c.in_err-read_frame.ensures in
-    rw (p.1, p.2) (so_ends _ _ (c.loop-place.invariant.so_far told) _ _ _ _ (λ bytes at. read_fault _ c.args.lines at _ _ c.loop-place-test.true e.told e.err.0 e.err.1 e.err.2))
+    rw (p.1, p.2) (so_ends _ _ (c.loop-place.invariant.so_far told) _ _ _ _
+    (λ bytes at. read_fault _ c.args.lines at _ _ c.loop-place-test.true e.told e.err.0 e.err.1 e.err.2))
 
 pub returns-in-None-clause-judges : goal.returns-in-None-clause-judges
 returns-in-None-clause-judges g c = λ told.
@@ -48,7 +51,8 @@ returns-in_err-verdict-in-Some-clause-judges g c = λ told.
     let full = rw (same, c.deref.ensures.value) at e.full in
     rw (p.1, p.2) (so_ends _ _ (c.loop-place.invariant.so_far told) _ _ _ _ (λ bytes at.
     not_judged _ c.args.lines at _ c.in-Some.content c.loop-place-test.true some
-    (serial_one_by_one (processors_at g.R.Station.next g.R.Station.tells (offers_at c.args.desks.now))) _ c.judge.new.journal e.fault (λ is. full told (ap Err is))))
+    (serial_one_by_one (processors_at g.R.Station.next g.R.Station.tells (offers_at c.args.desks.now))) _ c.judge.new.journal e.fault
+    (λ is. full told (ap Err is))))
 
 pub returns-in_err-tell_block-in-Some-clause-judges : goal.returns-in_err-tell_block-in-Some-clause-judges
 returns-in_err-tell_block-in-Some-clause-judges g c = λ told.
@@ -60,7 +64,8 @@ returns-in_err-tell_block-in-Some-clause-judges g c = λ told.
     let e = c.in_err-tell_block-in-Some.ensures in
     rw (p.1, p.2) (so_ends _ _ (c.loop-place.invariant.so_far told) _ _ _ _ (λ bytes at.
     line_cut _ c.args.lines at _ c.in-Some.content c.loop-place-test.true some
-    (serial_one_by_one (processors_at g.R.Station.next g.R.Station.tells (offers_at c.args.desks.now))) c.in_ok-verdict-in-Some.verdict c.judge.new.journal (says told) _ _ e.err.0 e.fault e.err.1))
+    (serial_one_by_one (processors_at g.R.Station.next g.R.Station.tells (offers_at c.args.desks.now))) c.in_ok-verdict-in-Some.verdict
+    c.judge.new.journal (says told) _ _ e.err.0 e.fault e.err.1))
 
 pub loop-place-preserved : goal.loop-place-preserved
 loop-place-preserved g c =
@@ -70,9 +75,14 @@ loop-place-preserved g c =
     record {
       so_far = λ told. so_more _ _ (c.loop-place.invariant.so_far told) _ _ _ _ (λ bytes at tell.
           line_written _ c.args.lines at _ c.in-Some.content c.loop-place-test.true some
-          (serial_one_by_one (processors_at g.R.Station.next g.R.Station.tells (offers_at c.args.desks.now))) c.in_ok-verdict-in-Some.verdict c.judge.new.journal (says told) _ _ tell
+          (serial_one_by_one (processors_at g.R.Station.next g.R.Station.tells (offers_at c.args.desks.now))) c.in_ok-verdict-in-Some.verdict
+          c.judge.new.journal (says told) _ _ tell
           c.in_ok-tell_block-in-Some.ensures.ok (ap (λ b. c.loop-place.refused || not b) c.is_accepted.ensures));
-      wrote = (c.loop-place.invariant.wrote.0 ++ _, Appends-trans _ _ _ c.loop-place.invariant.wrote.0 _ c.loop-place.invariant.wrote.1 c.in_ok-tell_block-in-Some.ensures.ok);
+      wrote = (
+        c.loop-place.invariant.wrote.0 ++ _,
+        Appends-trans _ _ _ c.loop-place.invariant.wrote.0 _ c.loop-place.invariant.wrote.1
+            c.in_ok-tell_block-in-Some.ensures.ok,
+      );
       desks = keeps_all_trans _ _ _ _ c.judge.new.desks c.loop-place.invariant.desks c.in_ok-verdict-in-Some.ensures.desks;
       input_later = omega arith;
       output_later = omega arith;
@@ -84,19 +94,22 @@ returns-in_err-has_ended-clause-judges g c = λ told.
     let p = err_from_is_err_and failed.result failed.ensures.1 in
     let e = c.in_err-has_ended.ensures in
     let is : c.in_err-has_ended.field-0.0 ≡ Read = cc e.only in
-    rw (p.1, p.2, is) (so_ends _ _ (c.loop-place.invariant.so_far told) _ _ _ _ (λ bytes at. probe_fault _ c.args.lines at _ (omega arith) (omega arith) e.err.0 e.err.1 e.err.2))
+    rw (p.1, p.2, is) (so_ends _ _ (c.loop-place.invariant.so_far told) _ _ _ _
+    (λ bytes at. probe_fault _ c.args.lines at _ (omega arith) (omega arith) e.err.0 e.err.1 e.err.2))
 
 pub returns-then-branch-clause-judges : goal.returns-then-branch-clause-judges
 returns-then-branch-clause-judges g c = λ told.
     let e = c.in_ok-has_ended.ensures in
     let ended = rw c.if-branch.true at e.ended in
-    so_ends _ _ (c.loop-place.invariant.so_far told) _ _ _ _ (λ bytes at. all_there _ c.args.lines at _ (omega arith) (omega arith) ended e.taken.0 e.taken.1 e.taken.2)
+    so_ends _ _ (c.loop-place.invariant.so_far told) _ _ _ _
+    (λ bytes at. all_there _ c.args.lines at _ (omega arith) (omega arith) ended e.taken.0 e.taken.1 e.taken.2)
 
 pub returns-clause-judges : goal.returns-clause-judges
 returns-clause-judges g c = λ told.
     let e = c.in_ok-has_ended.ensures in
     let some = rw c.if-branch.false at e.ended in
-    so_ends _ _ (c.loop-place.invariant.so_far told) _ _ _ _ (λ bytes at. too_many _ c.args.lines at _ (omega arith) (omega arith) some e.taken.0 e.taken.1 e.taken.2)
+    so_ends _ _ (c.loop-place.invariant.so_far told) _ _ _ _
+    (λ bytes at. too_many _ c.args.lines at _ (omega arith) (omega arith) some e.taken.0 e.taken.1 e.taken.2)
 
 pub returns-in_err-tell_block-in-Some-clause-wrote : goal.returns-in_err-tell_block-in-Some-clause-wrote
 returns-in_err-tell_block-in-Some-clause-wrote g c =
@@ -138,4 +151,5 @@ returns-in_err-verdict-in-Some-clause-peer g c =
     rw (p.1, p.2) (λ is.
     let peer : c.in_err-verdict-in-Some.field-0.0 ≡ Peer = cc in
     failed_rose g.R.Station.faults g.R.Station.offered c.args.desks.now c.judge.new.desks since
-    (failed_since g.R.Station.faults g.R.Station.offered c.args.desks.now c.loop-place.desks c.judge.new.desks c.loop-place.invariant.desks (e.cause (ap Err peer))))
+    (failed_since g.R.Station.faults g.R.Station.offered c.args.desks.now c.loop-place.desks c.judge.new.desks c.loop-place.invariant.desks
+    (e.cause (ap Err peer))))

@@ -12,7 +12,8 @@ use Rattle.saw_top.proofs.top.carry_out.Goals as goal
 
 pub returns-in_default : goal.returns-in_default
 returns-in_default g c = record {
-  carries = unasked (g.V.Verifier.accepts c.args.verifier.now) (alone []) _ (outside g.S.Source g.O.Sink g.N.Sink g.F.Shelf c.args.input.now c.args.output.now c.args.notes.now c.args.shelf.now) (sym c.in_default.ensures);
+  carries = unasked (g.V.Verifier.accepts c.args.verifier.now) (alone []) _
+      (outside g.S.Source g.O.Sink g.N.Sink g.F.Shelf c.args.input.now c.args.output.now c.args.notes.now c.args.shelf.now) (sym c.in_default.ensures);
 }
 
 pub returns-in_err-vouching : goal.returns-in_err-vouching
@@ -22,7 +23,8 @@ returns-in_err-vouching g c =
     record {
       carries = rw (p.1, p.2, ← c.in-Some.ensures)
           (unprepared (g.V.Verifier.accepts c.args.verifier.now) (alone []) command.task (option_map (λ name. name.now) command.attest)
-          (outside g.S.Source g.O.Sink g.N.Sink g.F.Shelf c.args.input.now c.args.output.now c.args.notes.now c.args.shelf.now) (shelf_end g.F.Shelf c.prepare.new.shelf) c.in_err-vouching.field-0.0 c.in_err-vouching.ensures.prepares);
+          (outside g.S.Source g.O.Sink g.N.Sink g.F.Shelf c.args.input.now c.args.output.now c.args.notes.now c.args.shelf.now)
+          (shelf_end g.F.Shelf c.prepare.new.shelf) c.in_err-vouching.field-0.0 c.in_err-vouching.ensures.prepares);
     }
 
 pub returns-in_err-lone_desk : goal.returns-in_err-lone_desk
@@ -32,20 +34,25 @@ returns-in_err-lone_desk g c =
     record {
       carries = rw (p.1, p.2, ← c.in-Some.ensures)
           (deskless (g.V.Verifier.accepts c.args.verifier.now) (alone []) command.task (option_map (λ name. name.now) command.attest)
-          (outside g.S.Source g.O.Sink g.N.Sink g.F.Shelf c.args.input.now c.args.output.now c.args.notes.now c.args.shelf.now) (shelf_end g.F.Shelf c.prepare.new.shelf) _ c.in_ok-vouching.ensures.prepares);
+          (outside g.S.Source g.O.Sink g.N.Sink g.F.Shelf c.args.input.now c.args.output.now c.args.notes.now c.args.shelf.now)
+          (shelf_end g.F.Shelf c.prepare.new.shelf) _ c.in_ok-vouching.ensures.prepares);
     }
 
 pub returns : goal.returns
 returns g c =
     let command = c.in-Some.command in
     let at = processors_at (λ tx turns. actions.Invalid Remote) true in
-    let counts = lone_counts (λ (r : NoStation). 0) (λ (r : NoStation). []) c.in_ok-lone_desk.field-0 c.do_task.new.desks c.in_ok-lone_desk.ensures.remote c.do_task.ensures.desks in
+    let counts = lone_counts (λ (r : NoStation). 0) (λ (r : NoStation). []) c.in_ok-lone_desk.field-0 c.do_task.new.desks
+    c.in_ok-lone_desk.ensures.remote c.do_task.ensures.desks in
     record {
       carries = rw (← c.in-Some.ensures)
           (with_ready (g.V.Verifier.accepts c.args.verifier.now) (alone []) command.task (option_map (λ name. name.now) command.attest)
-          (outside g.S.Source g.O.Sink g.N.Sink g.F.Shelf c.args.input.now c.args.output.now c.args.notes.now c.args.shelf.now) (shelf_end g.F.Shelf c.prepare.new.shelf) _ c.in_ok-vouching.ensures.prepares
-          (outside g.S.Source g.O.Sink g.N.Sink g.F.Shelf c.do_task.new.input c.do_task.new.output c.do_task.new.notes c.prepare.new.shelf) c.do_task.result refl
+          (outside g.S.Source g.O.Sink g.N.Sink g.F.Shelf c.args.input.now c.args.output.now c.args.notes.now c.args.shelf.now)
+          (shelf_end g.F.Shelf c.prepare.new.shelf) _ c.in_ok-vouching.ensures.prepares
+          (outside g.S.Source g.O.Sink g.N.Sink g.F.Shelf c.do_task.new.input c.do_task.new.output c.do_task.new.notes c.prepare.new.shelf)
+          c.do_task.result refl
           (λ from to. without_remotes at c.in_ok-lone_desk.field-0.offers c.in_ok-lone_desk.ensures.offers _ _ counts.0 counts.1 command.task _
           (outside_with g.S.Source g.O.Sink g.N.Sink c.args.input.now c.args.output.now c.args.notes.now from [])
-          (outside_with g.S.Source g.O.Sink g.N.Sink c.do_task.new.input c.do_task.new.output c.do_task.new.notes to []) c.do_task.result (c.do_task.ensures.does from to)));
+          (outside_with g.S.Source g.O.Sink g.N.Sink c.do_task.new.input c.do_task.new.output c.do_task.new.notes to []) c.do_task.result
+          (c.do_task.ensures.does from to)));
     }

@@ -1,6 +1,7 @@
 use Rattle.std.proofs.Common.{Err, Ok, refl}
 use Rattle.saw_top.specs.Outside.{sink_end}
 use Rattle.saw_top.proofs.Endings.{answered}
+use Rattle.saw_top.proofs.RunMaps.{built_in_tell}
 use Rattle.saw_top.proofs.top.run.Goals as goal
 
 pub returns-in-Ok-clause-ended : goal.returns-in-Ok-clause-ended
@@ -8,6 +9,7 @@ returns-in-Ok-clause-ended g c = record {
   came = Ok c.in-Ok.status;
   notes = sink_end g.N.Sink c.carry_out.new.notes;
   done = c.in-Ok.ensures.carries;
+  tells = built_in_tell.0;
   told = (refl, refl);
 }
 
@@ -19,6 +21,7 @@ returns-in-Err-clause-ended g c = record {
   came = Err c.in-Err.fault;
   notes = sink_end g.N.Sink c.carry_out.new.notes;
   done = c.in-Err.ensures.carries;
+  tells = built_in_tell.0;
   told = (c.tell.ensures.told, c.tell.ensures.later);
 }
 

@@ -7,5 +7,6 @@ use Rattle.saw_verify.proofs.attest.bad_index.Goals as goal
 
 pub returns : goal.returns
 returns c =
-    position_from_yields_List (λ line. is_bad_line line.now) _ _ c.position.result c.position.ensures.ran (YieldsList-from_slice c.args.lines.now cc) (λ x b q k. search (rules, tests))
+    position_from_yields_List (λ line. is_bad_line line.now) _ _ c.position.result c.position.ensures.ran (YieldsList-from_slice c.args.lines.now cc)
+    (λ x b q k. search (rules, tests))
     ∙ sym (position-map (λ line. line.now) is_bad_line c.args.lines.now)

@@ -10,4 +10,5 @@ loop-line-preserved c =
     let bytes = c.in_ok-to_vec.ensures.items_if_clones_equal (λ x y e. e) in
     let texts = map_more (λ (line : Bor (List ℕ)). line.now) lines i (record { ref_ptr = (0, 0); now = [] }) c.loop-line-test.true in
     rw (texts, ← bytes)
-    (holds_one_more c.loop-line.held c.insert.new.self c.in_ok-to_vec.field-0 (map (λ (line : Bor (List ℕ)). line.now) (take i lines)) c.in_ok-insert.ensures.keys c.loop-line.invariant)
+    (holds_one_more c.loop-line.held c.insert.new.self c.in_ok-to_vec.field-0
+    (map (λ (line : Bor (List ℕ)). line.now) (take i lines)) c.in_ok-insert.ensures.keys c.loop-line.invariant)

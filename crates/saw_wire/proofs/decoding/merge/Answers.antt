@@ -34,12 +34,16 @@ loop-one-preserved g c =
 pub returns-in_err-take-clause-err : goal.returns-in_err-take-clause-err
 returns-in_err-take-clause-err g c =
     let p = err_from_is_err_and c.from_residual-in_err-take.result c.from_residual-in_err-take.ensures.1 in
-    rw (p.1, p.2) (record_ends g.M.Message.fault c.args.bytes.now c.in_ok-found.found.items c.deref-one-items.result.now c.loop-one.one-index unread c.in_err-take.field-0.0 c.deref-one-items.ensures.value c.in_ok-found.ensures.exact c.loop-one-test.true c.loop-one.invariant.fine c.in_err-take.ensures.err)
+    rw (p.1, p.2) (record_ends g.M.Message.fault c.args.bytes.now c.in_ok-found.found.items c.deref-one-items.result.now c.loop-one.one-index unread
+    c.in_err-take.field-0.0 c.deref-one-items.ensures.value c.in_ok-found.ensures.exact c.loop-one-test.true c.loop-one.invariant.fine
+    c.in_err-take.ensures.err)
 
 pub returns-clause-ok : goal.returns-clause-ok
 returns-clause-ok g c = λ pieces e.
-    let all = all_taken c.args.bytes.now c.in_ok-found.found.items c.deref-one-items.result.now c.loop-one.one-index c.deref-one-items.ensures.value c.loop-one-test.false c.in_ok-found.ensures.exact in
+    let all = all_taken c.args.bytes.now c.in_ok-found.found.items c.deref-one-items.result.now c.loop-one.one-index c.deref-one-items.ensures.value
+    c.loop-one-test.false c.in_ok-found.ensures.exact in
     rw (← all) (c.loop-one.invariant.value pieces e)
 
 pub returns-clause-fine : goal.returns-clause-fine
-returns-clause-fine g c = all_fine g.M.Message.fault c.args.bytes.now c.in_ok-found.found.items c.deref-one-items.result.now c.loop-one.one-index c.deref-one-items.ensures.value c.loop-one-test.false c.in_ok-found.ensures.exact c.loop-one.invariant.fine
+returns-clause-fine g c = all_fine g.M.Message.fault c.args.bytes.now c.in_ok-found.found.items c.deref-one-items.result.now c.loop-one.one-index
+    c.deref-one-items.ensures.value c.loop-one-test.false c.in_ok-found.ensures.exact c.loop-one.invariant.fine

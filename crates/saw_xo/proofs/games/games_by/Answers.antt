@@ -12,10 +12,13 @@ returns-then-contains_key c =
     let gives = c.into_iter-name-iterator.ensures.into_iter_gives in
     let source = YieldsList-from_vec {s = c.into_iter-name-iterator.result} all gives.0 (gives.1 ∙ omega (arith, c.args.entries.ok.0)) in
     let before = YieldsList-so_far source l.yielded l.name-iterator l.yielded_by in
-    let here = YieldsList-turn source l.yielded l.name-iterator l.yielded_by c.next.result c.next.new.self (c.in-Some.name, c.in-Some.game) c.in-Some.is c.next.ensures.steps in
+    let here = YieldsList-turn source l.yielded l.name-iterator l.yielded_by c.next.result c.next.new.self
+    (c.in-Some.name, c.in-Some.game) c.in-Some.is c.next.ensures.steps in
     let whole = cut_at all l.yielded (c.in-Some.name, c.in-Some.game) before here in
-    sym (ap (λ entries. games_by (Some entries)) whole ∙ again l.games.entries l.yielded (drop (length l.yielded + 1) all) c.in-Some.name c.in-Some.game l.invariant (sym c.if-contains_key.ensures))
+    sym (ap (λ entries. games_by (Some entries)) whole ∙ again l.games.entries l.yielded
+    (drop (length l.yielded + 1) all) c.in-Some.name c.in-Some.game l.invariant (sym c.if-contains_key.ensures))
 
 pub loop-name-preserved : goal.loop-name-preserved
 loop-name-preserved c =
-    one_more c.loop-name.games.entries c.insert.new.self.entries c.loop-name.yielded c.in-Some.name c.in-Some.game c.loop-name.invariant (sym c.if-contains_key.ensures) c.in_ok-insert.ensures.updates.0
+    one_more c.loop-name.games.entries c.insert.new.self.entries c.loop-name.yielded c.in-Some.name c.in-Some.game c.loop-name.invariant
+    (sym c.if-contains_key.ensures) c.in_ok-insert.ensures.updates.0

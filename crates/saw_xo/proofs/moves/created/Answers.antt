@@ -7,4 +7,5 @@ returns-then-contains_key c = created_present c.args.games.entries c.args.name (
 
 pub returns : goal.returns
 returns c =
-    created_absent c.args.games.entries c.insert.new.self.entries c.args.name c.new_game.result (sym c.if-contains_key.ensures) c.new_game.ensures c.in_ok-insert.ensures.updates.0
+    created_absent c.args.games.entries c.insert.new.self.entries c.args.name c.new_game.result
+    (sym c.if-contains_key.ensures) c.new_game.ensures c.in_ok-insert.ensures.updates.0

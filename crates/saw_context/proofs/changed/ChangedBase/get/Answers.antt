@@ -5,7 +5,8 @@ use Rattle.saw_context.proofs.changed.ChangedBase.get.Goals as goal
 pub returns-in-Some : goal.returns-in-Some
 returns-in-Some g c =
     c.lent.ensures
-    ∙ seen-change (g.B.Base.entry c.self.inside.below.now) c.args.self.now c.self.inside.changes c.args.at.now c.in-Some.change.now c.self.view_is (sym c.in-Some.ensures)
+    ∙ seen-change (g.B.Base.entry c.self.inside.below.now) c.args.self.now c.self.inside.changes c.args.at.now c.in-Some.change.now c.self.view_is
+    (sym c.in-Some.ensures)
 
 pub returns-in-None : goal.returns-in-None
 returns-in-None g c =

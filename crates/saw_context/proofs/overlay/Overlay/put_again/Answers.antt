@@ -9,4 +9,5 @@ returns-in-Ok c there =
     ∙ ap (λ own. finite.insert own c.args.at c.args.change) c.self.view_is
 
 pub returns : goal.returns
-returns c there = absurd (there (ap (λ own. finite.get own c.args.at) (sym c.self.view_is) ∙ get-map_of c.self.inside.changes.entries c.args.at ∙ c.in-Err.ensures.absent))
+returns c there = absurd (there (ap (λ own. finite.get own c.args.at) (sym c.self.view_is) ∙ get-map_of c.self.inside.changes.entries c.args.at
+    ∙ c.in-Err.ensures.absent))

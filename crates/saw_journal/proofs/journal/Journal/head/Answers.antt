@@ -16,8 +16,10 @@ pub returns-in-Some-get_index-clause-found : goal.returns-in-Some-get_index-clau
 returns-in-Some-get_index-clause-found g c =
     let blocks = c.args.self.now.blocks in
     let entries = c.self.inside.blocks in
-    let found = head_so (λ (block : BlockRecord). block_at blocks block.id ≡ Some block) blocks (all_found blocks (subst (λ (j : Ledger). AreLinked j.blocks) c.self.view_is c.self.invariant.founded.linked)) in
+    let found = head_so (λ (block : BlockRecord). block_at blocks block.id ≡ Some block) blocks
+    (all_found blocks (subst (λ (j : Ledger). AreLinked j.blocks) c.self.view_is c.self.invariant.founded.linked)) in
     let is : head_of blocks ≡ Some c.in-Some-get_index.block.now =
     ap (λ (j : Ledger). head_of j.blocks) (sym c.self.view_is) ∙ sym c.self.invariant.chosen ∙ ap (head_at (values entries)) c.in-Some.is
-    ∙ slice_get-map (λ (e : String Global × BlockRecord). e.1) entries.entries c.in-Some.place ∙ ap (option_map (λ (e : String Global × BlockRecord). e.1)) (sym c.in-Some-get_index.ensures.entry) in
+    ∙ slice_get-map (λ (e : String Global × BlockRecord). e.1) entries.entries c.in-Some.place
+    ∙ ap (option_map (λ (e : String Global × BlockRecord). e.1)) (sym c.in-Some-get_index.ensures.entry) in
     subst (λ (head : Option BlockRecord). IfSome head (λ block. block_at blocks block.id ≡ Some block)) is found

@@ -10,7 +10,10 @@ use Rattle.saw_receipts.proofs.plain_state.Tree.list.Goals as goal
 
 pub returns : goal.returns
 returns g c =
-    sym (append-nil _) ∙ ap (λ es. map listed_as c.loop-address.listed.items ++ filter (λ entry. covers c.args.prefix.now entry.0) es) (sym c.in-None.ensures.steps.0)
+    sym (append-nil _) ∙ ap (λ es. map listed_as c.loop-address.listed.items ++ filter (λ entry. covers c.args.prefix.now entry.0) es)
+    (sym c.in-None.ensures.steps.0)
     ∙ c.loop-address.invariant
-    ∙ ap (filter (λ entry. covers c.args.prefix.now entry.0)) (c.into_iter-address-iterator.ensures.into_iter_gives.0 ∙ sym (entries-map_of c.self.inside.map.now.entries c.into_iter-address-iterator.ensures.into_iter_gives.5))
+    ∙ ap (filter (λ entry. covers c.args.prefix.now entry.0))
+    (c.into_iter-address-iterator.ensures.into_iter_gives.0
+    ∙ sym (entries-map_of c.self.inside.map.now.entries c.into_iter-address-iterator.ensures.into_iter_gives.5))
     ∙ ap (λ (m : StateMap). filter (λ entry. covers c.args.prefix.now entry.0) (finite.entries m)) c.self.view_is

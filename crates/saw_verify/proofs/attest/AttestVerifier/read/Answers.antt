@@ -9,7 +9,8 @@ abbrev texts : List (Bor (List ℕ)) → List (List ℕ)
 texts lines = map (λ line. line.now) lines
 
 within : (c : goal.In-Some) → c.in-Some.index + 1 ≤ length c.args.bytes.now
-within c = bad_within_bytes c.args.bytes.now (texts c.deref.result.now) c.in-Some.index (ap texts c.deref.ensures.value ∙ c.in_ok-lines.ensures) (sym c.in-Some.ensures)
+within c = bad_within_bytes c.args.bytes.now (texts c.deref.result.now) c.in-Some.index (ap texts c.deref.ensures.value ∙ c.in_ok-lines.ensures)
+    (sym c.in-Some.ensures)
 
 pub overflow_cast-line : goal.overflow_cast-line
 overflow_cast-line c = omega (arith, within c, c.requires)

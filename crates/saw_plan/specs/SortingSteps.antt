@@ -1,6 +1,6 @@
 -- The batches one after another.
 use Rattle.std.specs.Prelude.{ℕ, List, [], ◌∷◌, ◌++◌, map, Option, Some, None}
-use Rattle.saw_plan.specs.Shapes.{BatchShape, batch_shape}
+use Rattle.saw_plan.specs.BatchShapes.{BatchShape, batch_shape}
 use Rattle.saw_plan.specs.StaticRules.{Ids}
 use Rattle.saw_plan.specs.declared.sorted.DropCause.{DropCause}
 use Rattle.saw_plan.specs.declared.sorted.Dropped.{Dropped}

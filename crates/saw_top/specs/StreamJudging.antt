@@ -1,19 +1,23 @@
 -- What was written when the judging of a stream ended.
-use Rattle.std.specs.Prelude.{◌≡◌, ◌⊎◌, ◌≤◌, ◌<◌, ℕ, Bool, List, [], ◌++◌, length, Option, Some, None, Result, Ok, Err}
+use Rattle.std.specs.Prelude.{◌≡◌, ◌⊎◌, ◌≤◌, ◌<◌, ℕ, Bool, List, [], ◌++◌, length, Option, Some, None, Result, Ok, Err, IfErr, IfSome, IsErrOf}
 use Rattle.std.specs.Io.KnownBytes.{Appends, Consumes, IsAtEnd}
 use Rattle.saw_io.specs.Frame.{frame_at, IsPart}
 use Rattle.saw_journal.specs.Judgement.{Rules}
 use Rattle.saw_journal.specs.Ledger.{Ledger}
 use Rattle.saw_top.specs.History.{RootsTell, history, maps_of, some_refused}
 use Rattle.saw_top.specs.Limits.{max_frames, max_length}
-use Rattle.saw_top.specs.Outside.{WritesFront}
+use Rattle.saw_top.specs.Outside.{WritesFront, Outside, SomeRose, lines_side, other_side}
 use Rattle.saw_top.specs.Reports.{report}
 use Rattle.saw_top.specs.Run.{fault_of, run_of}
-use Rattle.saw_top.specs.Standing.{IsAfter}
+use Rattle.saw_top.specs.KeptBlocks.{IsAfter}
 use Rattle.saw_top.specs.Stream.{Reads}
 use Rattle.saw_report.specs.declared.run_fault.RunFault.{RunFault}
 use Rattle.saw_report.specs.declared.run_fault.RunFault.TheVariants.{Truncated, TooLong, Read, Write, Peer, Memory}
 use Rattle.saw_top.specs.declared.task.Lines.{Lines}
+use Rattle.saw_context.specs.Outcome.{Processors}
+use Rattle.saw_faults.specs.Counts.{Rose}
+use Rattle.saw_top.specs.EndingFaults.{IsOfStream}
+use Rattle.saw_top.specs.World.{Accepts, TellsAll, rules_by}
 
 -- a part of a frame was taken, a length, or a whole frame or the end
 abbrev pub TakesFrame : List ℕ → Option (List ℕ) → Type 0
@@ -95,3 +99,17 @@ module _ (rules : Rules) (lines : Lines) where
 -- what is so of a stream where its maps have roots that tell them apart
 abbrev pub WhereRootsTell : Rules → List ℕ → Type 0 → Type 0
 WhereRootsTell rules bytes P = RootsTell rules.hash (maps_of (run_of rules bytes).accepted) → P
+
+-- what was judged of a stream, with its lines on the output or on the notes
+module _ (processors : Processors) (accepts : Accepts) (lines : Lines) (before after : Outside) where
+  pub record JudgesFor (ledger : Ledger) (result : Result Bool RunFault) : Type 0 where
+    pub judges : TellsAll processors → IfSome before.input.tells (λ bytes.
+        WhereRootsTell (rules_by accepts processors) bytes (Judges (rules_by accepts processors) lines bytes
+        after.input.tells (lines_side lines before).tells (lines_side lines after).tells ledger result))
+    pub aside : other_side lines after ≡ other_side lines before
+    pub wrote : (written : List ℕ) × Appends (lines_side lines before).tells (lines_side lines after).tells written
+    pub kind : IfErr result IsOfStream
+    pub input : IsErrOf result Read → Rose before.input.faults after.input.faults
+    pub output : IsErrOf result Write → Rose (lines_side lines before).faults (lines_side lines after).faults
+    pub later : (lines_side lines before).faults ≤ (lines_side lines after).faults
+    pub peer : IsErrOf result Peer → SomeRose before.remotes after.remotes

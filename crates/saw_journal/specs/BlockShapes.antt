@@ -1,12 +1,12 @@
 -- What is judged of a block whose structure has no fault.
 use Rattle.std.specs.Prelude.{ℕ, List, [], map, Result, Ok, Err}
 use Rattle.saw_messages.specs.Batches.{batch_header}
-use Rattle.saw_messages.specs.Shapes.{shape_in}
+use Rattle.saw_messages.specs.TxShapes.{shape_in}
 use Rattle.saw_messages.specs.declared.batch.Batch.{Batch}
 use Rattle.saw_messages.specs.declared.batch.BatchHeader.{BatchHeader}
 use Rattle.saw_messages.specs.declared.block.Block.{Block}
 use Rattle.saw_messages.specs.declared.block.BlockHeader.{BlockHeader}
-use Rattle.saw_plan.specs.Shapes.{BatchShape, batch_shape}
+use Rattle.saw_plan.specs.BatchShapes.{BatchShape, batch_shape}
 use Rattle.saw_wire.specs.declared.fault.MessageFault.{MessageFault}
 use Rattle.saw_checks.specs.declared.checked.CheckedBlock.{CheckedBlock}
 

@@ -1,31 +1,16 @@
 -- What a run comes to.
-use Rattle.std.specs.Prelude.{◌≡◌, List, []}
+use Rattle.std.specs.Prelude.{◌≡◌, []}
 use Rattle.std.specs.Arc.{arc_value}
 use Rattle.std.specs.List.{AllByRecursion}
 use Rattle.saw_address.specs.Maps.{StateMap}
-use Rattle.saw_messages.specs.Shapes.{shape_of}
-use Rattle.saw_messages.specs.declared.outcome.Change.{Change}
-use Rattle.saw_messages.specs.declared.outcome.Outcome.{Outcome}
+use Rattle.saw_messages.specs.TxShapes.{shape_of}
 use Rattle.saw_messages.specs.declared.outcome.Outcome.TheVariants as outcomes
 use Rattle.saw_messages.specs.declared.outcome.Reason.{Reason}
-use Rattle.saw_messages.specs.declared.outcome.Reason.TheVariants.{TooManyRequests}
-use Rattle.saw_messages.specs.declared.receipt.Event.{Event}
-use Rattle.saw_messages.specs.declared.talk.Action.{Action}
-use Rattle.saw_messages.specs.declared.talk.Action.TheVariants as actions
-use Rattle.saw_context.specs.Outcome.{Processors}
-use Rattle.saw_context.specs.Results.{Agrees, IsOfBase, IsSoundDone}
+use Rattle.saw_context.specs.Outcome.{Processors, outcome_at}
+use Rattle.saw_context.specs.SoundResults.{Agrees, IsOfBase, IsSoundDone}
 use Rattle.saw_context.specs.declared.job.Done.{Done}
 use Rattle.saw_context.specs.declared.job.Job.{Job}
 use Rattle.saw_station.specs.declared.conversation.Spoken.{Spoken}
-
--- the outcome by the last action; one more request is one too many
-abbrev pub outcome_at : Action → List Change → List Event → Outcome
-outcome_at (actions.Get places) changes events = outcomes.Invalid TooManyRequests
-outcome_at (actions.Set entries) changes events = outcomes.Invalid TooManyRequests
-outcome_at (actions.Delete places) changes events = outcomes.Invalid TooManyRequests
-outcome_at (actions.AddEvent event) changes events = outcomes.Invalid TooManyRequests
-outcome_at actions.Ok changes events = outcomes.Ok changes events
-outcome_at (actions.Invalid reason) changes events = outcomes.Invalid reason
 
 -- the job's transaction under its ticket, with no conversation
 pub record IsRefusal (job : Job) (reason : Reason) (done : Done) : Type 0 where

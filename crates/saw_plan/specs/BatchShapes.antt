@@ -3,7 +3,7 @@ use Rattle.std.specs.Prelude.{ℕ, List, length, map, sum_by}
 use Rattle.std.specs.Arc.{arc_value}
 use Rattle.std.specs.Global.{Global}
 use Rattle.std.specs.declared.sync.Arc.{Arc}
-use Rattle.saw_messages.specs.Shapes.{TxShape, shape_of}
+use Rattle.saw_messages.specs.TxShapes.{TxShape, shape_of}
 use Rattle.saw_messages.specs.declared.tx.Tx.{Tx}
 use Rattle.saw_messages.specs.declared.tx.TxBatch.{TxBatch}
 

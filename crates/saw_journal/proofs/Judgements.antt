@@ -1,0 +1,115 @@
+-- What a judgement answers, by the part that ends it.
+use Rattle.std.proofs.Common.{◌≡◌, inl, inr, ℕ, Bool, true, List, map, Option, Some, None, Result, Ok, Err, refl, sym, ap, subst, ◌∙◌}
+use Rattle.std.specs.Prelude.{IsErrOf}
+use Rattle.saw_address.specs.Maps.{StateMap}
+use Rattle.saw_checks.specs.Readings.{BlockGives, IsBlockOf}
+use Rattle.saw_checks.specs.StructureFaults.{structure_fault}
+use Rattle.saw_checks.specs.Tests.{first_of}
+use Rattle.saw_checks.specs.declared.checked.CheckedBlock.{CheckedBlock}
+use Rattle.saw_checks.specs.declared.fault.StructureFault.{StructureFault}
+use Rattle.saw_checks.specs.declared.fault.StructureFault.TheVariants as structures
+use Rattle.saw_context.specs.Outcome.{Processors}
+use Rattle.saw_context.specs.Possible.{MayComeOfAll}
+use Rattle.saw_context.specs.declared.batch_result.BatchResult.{BatchResult}
+use Rattle.saw_messages.specs.Reasons.{has_own_reason}
+use Rattle.saw_messages.specs.TxShapes.{TxShape}
+use Rattle.saw_messages.specs.declared.talk.Turn.{Turn}
+use Rattle.saw_plan.specs.BatchShapes.{batch_shape, txs_of}
+use Rattle.saw_receipts.specs.States.{States}
+use Rattle.saw_receipts.specs.declared.block.BlockRecord.{BlockRecord}
+use Rattle.saw_receipts.specs.declared.verdict.BlockFault.{BlockFault}
+use Rattle.saw_receipts.specs.declared.verdict.BlockFault.TheVariants.{Structure}
+use Rattle.saw_journal.specs.BlockFaults.{ids_before, parent_of, place_tests, static_fault}
+use Rattle.saw_journal.specs.BlockShapes.{Parts, parts_in}
+use Rattle.saw_journal.specs.Judgement.{Kept, Runs, judged, judged_parts, kept_of, rules_with, unless}
+use Rattle.saw_journal.specs.Ledger.{map_at, map_under}
+use Rattle.saw_journal.specs.Parted.{ComesTo, HasRun, JudgedAs, RunsAs}
+use Rattle.saw_journal.specs.Stops.{IsStop, stop_of_structure}
+use Rattle.saw_journal.specs.declared.fault.JournalFault.{JournalFault}
+use Rattle.saw_journal.specs.declared.fault.JournalFault.TheVariants.{OutOfMemory}
+use Rattle.saw_journal.specs.declared.judge.New.{New}
+use Rattle.saw_journal.specs.declared.stop.Stop.{Stop}
+use Rattle.saw_journal.specs.declared.stop.Stop.TheVariants.{Refused, Failed}
+use Rattle.saw_journal.proofs.Judging.{by_run, dropped, misplaced}
+use Rattle.saw_journal.proofs.SameParts.{judged_bad, judged_is}
+use Rattle.saw_journal.proofs.Ways.{by_serial, here_are, is_by_serial, is_or_here, or_here}
+
+-- a part that stops for the call stops for memory
+pub of_memory : {A : Type 0} (found : Option BlockFault) (stop : Stop) (e : JournalFault) → IsStop found stop
+    → IsErrOf {T = A} (Err stop) (Failed e) → e ≡ OutOfMemory
+of_memory found (Refused fault) e is failed = absurd cc
+of_memory found (Failed fault) e is failed = let same : fault ≡ e = cc in sym same ∙ is
+
+module _ (processors : Processors) (own : (tx : TxShape) (turns : List Turn) → has_own_reason (processors.next tx turns) ≡ true)
+    (hash : List ℕ → List ℕ) (accepts : List ℕ → List ℕ → List ℕ → Bool) (blocks : List BlockRecord) (states : States) (content : List ℕ) where
+  abbrev Answers : Result New Stop → Type 0
+  Answers = JudgedAs processors hash accepts blocks states content
+
+  -- a fault that comes of each way to run batches
+  refused : (fault : BlockFault) → ((runs : Runs) → judged (rules_with hash accepts runs) (map_under states) blocks content ≡ Err fault)
+      → Answers (Err (Refused fault))
+  refused fault bad = record { runs = by_serial processors; by = is_by_serial processors own; judged_as = bad (by_serial processors) }
+
+  unsound : (e : StructureFault) → (e ≡ structures.OutOfMemory → ⊥) → BlockGives accepts content (Err e) → Answers (Err (Refused (Structure e)))
+  unsound e other (inl memory) = absurd (other memory)
+  unsound e other (inr bad) = refused (Structure e) (λ runs. judged_bad accepts hash runs (map_under states) blocks content e bad)
+
+  -- the structure has a fault
+  pub by_structure : (e : StructureFault) → BlockGives accepts content (Err e) → Answers (Err (stop_of_structure e))
+  by_structure (structures.Undecodable fault) gives = unsound (structures.Undecodable fault) (λ same. cc) gives
+  by_structure structures.IdText gives = unsound structures.IdText (λ same. cc) gives
+  by_structure structures.KeyText gives = unsound structures.KeyText (λ same. cc) gives
+  by_structure (structures.TooManyTransactions count) gives = unsound (structures.TooManyTransactions count) (λ same. cc) gives
+  by_structure (structures.BatchIds index) gives = unsound (structures.BatchIds index) (λ same. cc) gives
+  by_structure (structures.Batch k fault) gives = unsound (structures.Batch k fault) (λ same. cc) gives
+  by_structure structures.Signature gives = unsound structures.Signature (λ same. cc) gives
+  by_structure structures.OutOfMemory gives = tt
+
+  module _ (checked : CheckedBlock) (sound : structure_fault accepts content ≡ None) (of : IsBlockOf content checked) where
+    by_parts : (runs : Runs)
+        → judged (rules_with hash accepts runs) (map_under states) blocks content
+        ≡ judged_parts hash runs (map_under states) blocks (parts_in checked)
+    by_parts runs = judged_is accepts hash runs (map_under states) blocks content checked sound of
+
+    -- its place has a fault
+    pub by_place : (stop : Stop) → IsStop (first_of (place_tests blocks checked.id checked.header)) stop → Answers (Err stop)
+    by_place (Refused fault) is = refused fault (λ runs. by_parts runs ∙ misplaced hash runs blocks states (parts_in checked) fault (sym is))
+    by_place (Failed fault) is = tt
+
+    module _ (placed : first_of (place_tests blocks checked.id checked.header) ≡ None) where
+      -- a batch is dropped
+      pub by_rules : (stop : Stop) → IsStop (static_fault (ids_before blocks checked.header) (map batch_shape checked.batches)) stop
+          → Answers (Err stop)
+      by_rules (Refused fault) is = refused fault (λ runs. by_parts runs ∙ dropped hash runs blocks states (parts_in checked) (sym placed) fault is)
+      by_rules (Failed fault) is = tt
+
+      module _ (whole : static_fault (ids_before blocks checked.header) (map batch_shape checked.batches) ≡ None) (at : List ℕ)
+          (same : map_under states (parent_of blocks checked.header) ≡ map_at states at) where
+        abbrev before : StateMap
+        before = map_under states (parent_of blocks checked.header)
+
+        abbrev txs : List (List TxShape)
+        txs = txs_of (map batch_shape checked.batches)
+
+        came : (results : List BatchResult) (found : Option BlockFault) → HasRun processors hash states at (parts_in checked) results found
+            → (result : Result Kept BlockFault) → unless found (kept_of hash (parts_in checked) (map_at states at) results) ≡ result
+            → ComesTo processors hash accepts blocks states content result
+        came results found run result is = record {
+          runs = or_here processors before txs results;
+          by = is_or_here processors own before txs results
+              (subst (λ (m : StateMap). MayComeOfAll processors m txs results) (sym same) run.may);
+          judged_as = by_parts (or_here processors before txs results)
+              ∙ by_run hash (or_here processors before txs results) blocks states (parts_in checked) (sym placed) whole results at same
+              (here_are processors before txs results)
+              ∙ ap (λ found. unless found (kept_of hash (parts_in checked) (map_at states at) results)) run.tested ∙ is;
+        }
+
+        -- what the run answers
+        pub by_results : (result : Result New Stop) → RunsAs processors hash states at (parts_in checked) result → Answers result
+        by_results (Ok new) is = (
+          kept_of hash (parts_in checked) (map_at states at) is.0,
+          came is.0 None is.1 (Ok (kept_of hash (parts_in checked) (map_at states at) is.0)) refl,
+          is.2,
+        )
+        by_results (Err (Refused fault)) is = came is.0 (Some fault) is.1 (Err fault) refl
+        by_results (Err (Failed fault)) is = tt
