@@ -10,4 +10,6 @@ mod messages;
 #[cfg(test)]
 mod state;
 #[cfg(test)]
+mod store;
+#[cfg(test)]
 mod verify;

@@ -8,7 +8,7 @@ use sha2::{Digest, Sha512};
 use std::marker::Model;
 
 /// The hash of a node: 32 bytes.
-#[derive(Clone, Copy, PartialEq, Eq, PartialOrd, Ord, Debug)]
+#[derive(Clone, Copy, PartialEq, Eq, PartialOrd, Ord, Hash, Debug)]
 pub struct NodeHash {
     bytes: [u8; 32],
 }
