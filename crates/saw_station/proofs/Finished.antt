@@ -28,11 +28,8 @@ use Rattle.saw_context.specs.declared.job.Job.{Job}
 use Rattle.saw_context.specs.declared.reads.Read.{Read}
 use Rattle.saw_context.proofs.Layers.{seen_are_over}
 use Rattle.saw_context.proofs.Sound.{sound_comes}
-use Rattle.saw_intkey.proofs.Reasons as intkey
-use Rattle.saw_xo.proofs.Reasons as xo
-use Rattle.saw_settings.proofs.Reasons as settings
 use Rattle.saw_station.specs.RunResults.{IsRefusal, IsResult, IsTalk}
-use Rattle.saw_station.specs.Serving.{next_by, processors_at, serving, tells_by}
+use Rattle.saw_station.specs.Serving.{built_in_own, next_by, processors_at, serving, tells_by}
 use Rattle.saw_station.specs.Spoken.{IsSpoken}
 use Rattle.saw_station.specs.declared.conversation.Spoken.{Spoken}
 use Rattle.saw_station.specs.declared.offer.Offer.{Offer}
@@ -65,9 +62,7 @@ outcome_not_failed (actions.Invalid reason) changes events own = own_not_failed 
 
 module _ (next : TxShape → List Turn → Action) (own : (tx : TxShape) (turns : List Turn) → has_own_reason (next tx turns) ≡ true) where
   next_by_own : (tx : TxShape) (turns : List Turn) (by : Served) → has_own_reason (next_by next tx turns (Some by)) ≡ true
-  next_by_own tx turns served.IntKey = intkey.next_own tx.payload turns
-  next_by_own tx turns served.Xo = xo.next_own tx.header.signer_public_key tx.payload turns
-  next_by_own tx turns served.Settings = settings.next_own tx.header.signer_public_key tx.payload turns
+  next_by_own tx turns served.BuiltIn = built_in_own tx turns
   next_by_own tx turns served.Remote = own tx turns
 
   -- whoever serves refuses by own reasons, or nobody does

@@ -1,67 +1,39 @@
-//! The built-in processors, as stations.
+//! The built-in processors, as one station.
 
-ghost use Rattle.std.specs.Prelude.{◌≡◌, [], false, true, None, OnOk};
-ghost use Rattle.saw_intkey.specs.Actions as intkey;
-ghost use Rattle.saw_settings.specs.Actions as settings;
-ghost use Rattle.saw_xo.specs.Actions as xo;
+ghost use Rattle.std.specs.Prelude.{◌≡◌, [], false, true, None, IfOk, OnOk};
+ghost use Rattle.saw_messages.specs.TxShapes.{shape_of};
+ghost use Rattle.saw_station.specs.Serving.{built_in_next, built_in_own};
+ghost use Rattle.saw_station.specs.TalkSteps.{IsShort};
 
 use crate::fault::StationFault;
 use crate::offer::Offer;
+use crate::serving::{Family, family_of};
 use crate::station::Station;
-use saw_messages::{Action, Transcript, Tx};
-use std::alloc::Global;
+use saw_messages::{Action, Reason, Transcript, Tx};
+use std::alloc::{AllocError, Global};
 
-/// IntegerKey.
-#[derive(Clone, Copy, Debug)]
-pub(crate) struct IntKey;
-
-impl Station for IntKey {
-    ghost use Rattle.saw_intkey.proofs.Reasons.{next_own};
-
-    ghost next = { λ tx turns. intkey.next tx.payload turns };
-
-    ghost tells = { true };
-
-    ghost faults = { λ _. 0 };
-
-    ghost begun = { λ _. true };
-
-    ghost last = { λ _. None };
-
-    ghost talking = { λ _. false };
-
-    ghost offered = { λ _. [] };
-
-    ghost own_reasons = { λ tx turns. next_own tx.payload turns };
-
-    // It has always begun.
-    fn begin(&mut self, _alloc: Global) -> Result<(), StationFault>
-        ensures { OnOk result (⊥ → ⊥) }
-    {
-        Ok(())
-    }
-
-    fn offers(&self) -> &[Offer] {
-        &[]
-    }
-
-    fn step(&mut self, alloc: Global, tx: &Tx, talk: &Transcript) -> Result<Action, StationFault> {
-        Ok(saw_intkey::step(alloc, tx, talk)?)
-    }
-
-    fn close(&mut self, _alloc: Global, _tx: &Tx, _talk: &Transcript) -> Result<(), StationFault> {
-        Ok(())
+/// The next action by the processor of the transaction's family.
+fn next_action(alloc: Global, tx: &Tx, talk: &Transcript) -> Result<Action, AllocError>
+    ensures told { IfOk result (λ action. action ≡ built_in_next (shape_of tx.now) talk.now.turns) }
+    ensures short { IfOk result IsShort }
+{
+    let header = &tx.header;
+    match family_of(header.family_name.as_str(), header.family_version.as_str()) {
+        Some(Family::IntKey) => saw_intkey::step(alloc, tx, talk),
+        Some(Family::Xo) => saw_xo::step(alloc, tx, talk),
+        Some(Family::Settings) => saw_settings::step(alloc, tx, talk),
+        None => Ok(Action::Invalid {
+            reason: Reason::Remote,
+        }),
     }
 }
 
-/// XO.
+/// Serves the built-in families. It refuses all others.
 #[derive(Clone, Copy, Debug)]
-pub(crate) struct Xo;
+pub(crate) struct BuiltIn;
 
-impl Station for Xo {
-    ghost use Rattle.saw_xo.proofs.Reasons.{next_own};
-
-    ghost next = { λ tx turns. xo.next tx.header.signer_public_key tx.payload turns };
+impl Station for BuiltIn {
+    ghost next = { built_in_next };
 
     ghost tells = { true };
 
@@ -75,7 +47,7 @@ impl Station for Xo {
 
     ghost offered = { λ _. [] };
 
-    ghost own_reasons = { λ tx turns. next_own tx.header.signer_public_key tx.payload turns };
+    ghost own_reasons = { built_in_own };
 
     // It has always begun.
     fn begin(&mut self, _alloc: Global) -> Result<(), StationFault>
@@ -89,50 +61,7 @@ impl Station for Xo {
     }
 
     fn step(&mut self, alloc: Global, tx: &Tx, talk: &Transcript) -> Result<Action, StationFault> {
-        Ok(saw_xo::step(alloc, tx, talk)?)
-    }
-
-    fn close(&mut self, _alloc: Global, _tx: &Tx, _talk: &Transcript) -> Result<(), StationFault> {
-        Ok(())
-    }
-}
-
-/// Settings.
-#[derive(Clone, Copy, Debug)]
-pub(crate) struct Settings;
-
-impl Station for Settings {
-    ghost use Rattle.saw_settings.proofs.Reasons.{next_own};
-
-    ghost next = { λ tx turns. settings.next tx.header.signer_public_key tx.payload turns };
-
-    ghost tells = { true };
-
-    ghost faults = { λ _. 0 };
-
-    ghost begun = { λ _. true };
-
-    ghost last = { λ _. None };
-
-    ghost talking = { λ _. false };
-
-    ghost offered = { λ _. [] };
-
-    ghost own_reasons = { λ tx turns. next_own tx.header.signer_public_key tx.payload turns };
-
-    // It has always begun.
-    fn begin(&mut self, _alloc: Global) -> Result<(), StationFault>
-        ensures { OnOk result (⊥ → ⊥) }
-    {
-        Ok(())
-    }
-
-    fn offers(&self) -> &[Offer] {
-        &[]
-    }
-
-    fn step(&mut self, alloc: Global, tx: &Tx, talk: &Transcript) -> Result<Action, StationFault> {
-        Ok(saw_settings::step(alloc, tx, talk)?)
+        Ok(next_action(alloc, tx, talk)?)
     }
 
     fn close(&mut self, _alloc: Global, _tx: &Tx, _talk: &Transcript) -> Result<(), StationFault> {

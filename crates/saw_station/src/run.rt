@@ -15,7 +15,7 @@ ghost use Rattle.saw_station.specs.RunResults.{IsRefusal, IsResult, IsTalk};
 ghost use Rattle.saw_station.specs.Serving.{next_by, processors_at, serving, tells_by};
 ghost use Rattle.saw_station.specs.Spoken.{IsSpoken};
 
-use crate::builtin::{IntKey, Settings, Xo};
+use crate::builtin::BuiltIn;
 use crate::conversation::{Spoken, converse};
 use crate::desk::Desk;
 use crate::fault::StationFault;
@@ -113,9 +113,7 @@ fn speak<R: Station, B: Base>(
         → Rose (faults_by R.faults desk.old.remote) (faults_by R.faults desk.new.remote) }
 {
     match served {
-        Served::IntKey => converse(alloc, &mut IntKey, tx, context),
-        Served::Xo => converse(alloc, &mut Xo, tx, context),
-        Served::Settings => converse(alloc, &mut Settings, tx, context),
+        Served::BuiltIn => converse(alloc, &mut BuiltIn, tx, context),
         Served::Remote => match &mut desk.remote {
             Some(remote) => converse(alloc, remote, tx, context),
             None => unreachable!(),
