@@ -80,7 +80,8 @@ pub(crate) fn read_head(bytes: &[u8], p: usize) -> Result<Head, CborFault>
 #[tactic(auto, unfolding(crate::specs::Reading::content_at))]
 pub(crate) fn content(bytes: &[u8], head: Head) -> Result<&[u8], CborFault>
     requires { head.behind ≤ length bytes.now }
-    ensures gives { Is (λ x. (x.now, head.behind + length x.now)) result (content_at head.argument head.behind bytes.now) }
+    ensures gives { Is (λ x. (x.now, head.behind + length x.now)) result
+        (content_at head.argument head.behind bytes.now) }
     ensures within { IfOk result (λ x. head.behind + length x.now ≤ length bytes.now) }
 {
     let rest = &bytes[head.behind..];

@@ -1,8 +1,8 @@
 -- What is read of batches and blocks that have no fault.
-use Rattle.std.specs.Prelude.{◌≡◌, ◌⊎◌, ℕ, Bool, List, [], ◌∷◌, map, Some, None, Result, Ok, Err}
-use Rattle.std.specs.Arc.{arc_value}
+use Rattle.std.specs.Prelude.{◌≡◌, ◌⊎◌, ℕ, Bool, List, [], ◌∷◌, Some, None, Result, Ok, Err}
 use Rattle.saw_messages.specs.Batches.{batch_header}
 use Rattle.saw_messages.specs.Blocks.{block, block_header}
+use Rattle.saw_messages.specs.Transactions.{transaction_header}
 use Rattle.saw_messages.specs.declared.batch.Batch.{Batch}
 use Rattle.saw_messages.specs.declared.batch.BatchHeader.{BatchHeader}
 use Rattle.saw_messages.specs.declared.block.Block.{Block}
@@ -19,9 +19,10 @@ use Rattle.saw_checks.specs.declared.judged.Judged.TheVariants.{Good, Bad}
 use Rattle.saw_checks.specs.BatchFaults.{batch_fault}
 use Rattle.saw_checks.specs.StructureFaults.{structure_fault}
 
--- a read transaction is this one: the type `Tx` keeps that its header is the message of its bytes
+-- a read transaction is this one, and its header is the message of its bytes
 pub record IsTxOf (tx : Transaction) (read : Tx) : Type 0 where
   pub id : read.id ≡ tx.header_signature
+  pub header : transaction_header tx.header ≡ Ok read.header
   pub header_bytes : read.header_bytes ≡ tx.header
   pub payload : read.payload ≡ tx.payload
 
@@ -36,7 +37,7 @@ AreTxsOf (tx ∷ txs) (read ∷ reads) = IsTxOf tx read × AreTxsOf txs reads
 pub record IsBatchOf (batch : Batch) (read : TxBatch) : Type 0 where
   pub id : read.id ≡ batch.header_signature
   pub signer : (header : BatchHeader) → batch_header batch.header ≡ Ok header → read.signer ≡ header.signer_public_key
-  pub txs : AreTxsOf batch.transactions (map arc_value read.txs)
+  pub txs : AreTxsOf batch.transactions read.txs
 
 abbrev pub AreBatchesOf : List Batch → List TxBatch → Type 0
 AreBatchesOf [] [] = Unit {0}

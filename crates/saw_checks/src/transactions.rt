@@ -62,7 +62,8 @@ fn test_tx<V: Verifier>(
     t: u32,
     verifier: &V,
 ) -> Result<(), BatchFault>
-    ensures { (earlier : List (List ℕ)) → repeated ≡ list_any (λ id. bytes_eq id tx.now.header_signature) earlier
+    ensures { (earlier : List (List ℕ)) → repeated
+        ≡ list_any (λ id. bytes_eq id tx.now.header_signature) earlier
         → Tells result (first_of (tx_tests (V.accepts verifier.now) signer.now earlier t tx.now header.now)) }
 {
     let key = header.signer_public_key.as_str();

@@ -5,7 +5,7 @@ use Rattle.std.specs.FinMap as finite
 use Rattle.std.specs.List.{AllByRecursion}
 use Rattle.saw_address.specs.Maps.{StateMap, no_entries, value_at}
 use Rattle.saw_messages.specs.Reasons.{has_own_reason}
-use Rattle.saw_messages.specs.TxShapes.{TxShape, shape_of}
+use Rattle.saw_messages.specs.TxShapes.{TxShape}
 use Rattle.saw_messages.specs.declared.outcome.Outcome.{Outcome}
 use Rattle.saw_messages.specs.declared.outcome.Outcome.TheVariants as outcomes
 use Rattle.saw_messages.specs.declared.outcome.Reason.{Reason}
@@ -116,10 +116,10 @@ fits_dependency failed outcome = if failed then is_early outcome else not (is_of
 -- ---- the same of a result and its job
 
 abbrev pub IsSoundDone : Processors → Done → Type 0
-IsSoundDone processors done = IsSound processors (shape_of (arc_value done.tx)) done.talk.turns done.reads done.outcome
+IsSoundDone processors done = IsSound processors (arc_value done.tx) done.talk.turns done.reads done.outcome
 
 -- the result is of this job: its transaction, what it says of dependencies, and what its view gives
 pub record Agrees (job : Job) (done : Done) : Type 0 where
-  pub tx : shape_of (arc_value done.tx) ≡ shape_of (arc_value job.tx)
+  pub tx : arc_value done.tx ≡ arc_value job.tx
   pub dependency : fits_dependency job.dependency_failed done.outcome ≡ true
   pub seen : AllByRecursion (IsSeen (layers_of (arc_value job.view))) done.reads

@@ -14,7 +14,7 @@ use crate::overlay::Overlay;
 use crate::reads::{Changes, Origin, Read};
 use crate::view::View;
 use saw_address::{Address, Base};
-use saw_messages::{Entry, Event, Place, Tx};
+use saw_messages::{Entry, Event, Place, TransactionHeader, Tx};
 use saw_wire::{Bytes, Items};
 use std::alloc::{AllocError, Global};
 use std::marker::Model;
@@ -25,7 +25,7 @@ use std::sync::Arc;
 #[derive(Drop)]
 pub struct Context<'a, B: Base> {
     alloc: Global,
-    tx: &'a Tx,
+    header: &'a TransactionHeader,
     view: Arc<View>,
     base: &'a B,
     own: Overlay,
@@ -45,7 +45,7 @@ impl<'a, B: Base> Model for Context<'a, B> {
 
     ghost use Rattle.saw_context.specs.Views.{layers_of};
 
-    ghost view = { λ c. record { header = c.tx.now.header; base = B.entry c.base.now; layers = layers_of (arc_value c.view); own = c.own; events = c.events; reads = c.reads.items } };
+    ghost view = { λ c. record { header = c.header.now; base = B.entry c.base.now; layers = layers_of (arc_value c.view); own = c.own; events = c.events; reads = c.reads.items } };
 }
 
 impl<'a, B: Base> Context<'a, B> {
@@ -56,16 +56,20 @@ impl<'a, B: Base> Context<'a, B> {
         view: Arc<View>,
         base: &'a B,
     ) -> Result<Self, ContextFault>
-        ensures ok { IfOk result (λ c. c ≡ no_access tx.now.header (B.entry base.now) (layers_of (arc_value view))) }
+        ensures ok { IfOk result
+            (λ c. c ≡ no_access tx.now.header (B.entry base.now) (layers_of (arc_value view))) }
         ensures declared { OnOk result (are_declared tx.now.header ≡ true) }
-        ensures fault { IfErr result (λ e. (e ≡ ContextFault.OutOfMemory) ⊎ ((e ≡ ContextFault.BadDeclared) × (are_declared tx.now.header ≡ false))) }
+        ensures fault { IfErr result
+            (λ e. (e ≡ ContextFault.OutOfMemory)
+            ⊎ ((e ≡ ContextFault.BadDeclared) × (are_declared tx.now.header ≡ false))) }
     {
-        if !are_declared(&tx.header) {
+        let header = &tx.header;
+        if !are_declared(header) {
             return Err(ContextFault::BadDeclared);
         }
         Ok(Context {
             alloc,
-            tx,
+            header,
             view,
             base,
             own: Overlay::new(alloc),
@@ -80,7 +84,7 @@ impl<'a, B: Base> Context<'a, B> {
         ensures fault { IfErr result (IsRefusedAt self.old.header.inputs places.now) }
         ensures err { OnErr result (self.new ≡ self.old) }
     {
-        if let Some(index) = first_refused(self.tx.header.inputs.as_slice(), places) {
+        if let Some(index) = first_refused(self.header.inputs.as_slice(), places) {
             return Err(refused(index));
         }
         let mut reads = self.reads_of(places)?;
@@ -95,7 +99,7 @@ impl<'a, B: Base> Context<'a, B> {
         ensures fault { IfErr result (IsRefusedAt self.old.header.outputs (places_of entries.now)) }
         ensures err { OnErr result (self.new ≡ self.old) }
     {
-        if let Some(index) = first_refused_entry(self.tx.header.outputs.as_slice(), entries) {
+        if let Some(index) = first_refused_entry(self.header.outputs.as_slice(), entries) {
             return Err(refused(index));
         }
         self.own.set_all(self.alloc, entries)?;
@@ -108,7 +112,7 @@ impl<'a, B: Base> Context<'a, B> {
         ensures fault { IfErr result (IsRefusedAt self.old.header.outputs places.now) }
         ensures err { OnErr result (self.new ≡ self.old) }
     {
-        if let Some(index) = first_refused(self.tx.header.outputs.as_slice(), places) {
+        if let Some(index) = first_refused(self.header.outputs.as_slice(), places) {
             return Err(refused(index));
         }
         self.own.delete_all(self.alloc, places)?;

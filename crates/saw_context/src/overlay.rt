@@ -64,7 +64,8 @@ impl Overlay {
         base: &B,
         at: &Address,
     ) -> Result<Bytes, AllocError>
-        ensures { IfOk result (λ body. body ≡ seen_at (over (B.entry base.now) (layers_of view.now)) self.now at.now) }
+        ensures { IfOk result
+            (λ body. body ≡ seen_at (over (B.entry base.now) (layers_of view.now)) self.now at.now) }
     {
         match self.changes.get(at) {
             Some(Some(body)) => body.try_clone(alloc),
@@ -123,7 +124,8 @@ impl Overlay {
     fn note(&mut self, undos: &mut Vec<Undo>, undo: Undo) -> Result<(), AllocError>
         ensures ok { OnOk result (self.new ≡ self.old) }
         ensures err { OnErr result ((before : Owned) → IsOneStep before undo self.old → self.new ≡ before) }
-        ensures undos { (before : Owned) (earlier : Owned) → CameBy earlier undos.old.items before → IsOneStep before undo self.old
+        ensures undos { (before : Owned) (earlier : Owned) → CameBy earlier undos.old.items before
+            → IsOneStep before undo self.old
             → CameBy earlier undos.new.items self.new }
     {
         match undos.push(undo) {
@@ -142,7 +144,8 @@ impl Overlay {
         undos: &mut Vec<Undo>,
     ) -> Result<(), AllocError>
         ensures ok { OnOk result (self.new ≡ put_at self.old place.now value) }
-        ensures undos { (earlier : Owned) → CameBy earlier undos.old.items self.old → CameBy earlier undos.new.items self.new }
+        ensures undos { (earlier : Owned) → CameBy earlier undos.old.items self.old
+            → CameBy earlier undos.new.items self.new }
     {
         match place {
             Place::At(at) => {
@@ -160,7 +163,8 @@ impl Overlay {
         undos: &mut Vec<Undo>,
     ) -> Result<(), AllocError>
         ensures ok { OnOk result (self.new ≡ set_all self.old entries.now) }
-        ensures undos { (earlier : Owned) → CameBy earlier undos.old.items self.old → CameBy earlier undos.new.items self.new }
+        ensures undos { (earlier : Owned) → CameBy earlier undos.old.items self.old
+            → CameBy earlier undos.new.items self.new }
     {
         for entry in entries {
             let body = entry.body.try_clone(alloc)?;
@@ -171,7 +175,8 @@ impl Overlay {
 
     fn delete_each(&mut self, places: &[Place], undos: &mut Vec<Undo>) -> Result<(), AllocError>
         ensures ok { OnOk result (self.new ≡ delete_all self.old places.now) }
-        ensures undos { (earlier : Owned) → CameBy earlier undos.old.items self.old → CameBy earlier undos.new.items self.new }
+        ensures undos { (earlier : Owned) → CameBy earlier undos.old.items self.old
+            → CameBy earlier undos.new.items self.new }
     {
         for place in places {
             self.put_at(place, None, undos)?;
@@ -251,7 +256,8 @@ impl Overlay {
 
 // What the base has with the view on top.
 fn below<B: Base>(alloc: Global, view: &View, base: &B, at: &Address) -> Result<Bytes, AllocError>
-    ensures { IfOk result (λ body. body ≡ body_of (value_at (over (B.entry base.now) (layers_of view.now)) at.now)) }
+    ensures { IfOk result
+        (λ body. body ≡ body_of (value_at (over (B.entry base.now) (layers_of view.now)) at.now)) }
 {
     match view.entries.get(at) {
         Some(entry) => copy_of(alloc, &entry.value),

@@ -1,29 +1,26 @@
 -- How a list of batches goes on and ends.
 use Rattle.std.proofs.Common.{◌≡◌, ℕ, ◌+◌, ◌<◌, ◌≤◌, List, [], ◌∷◌, ◌++◌, append_assoc, length, drop, get_or, add-one, drop-cons, refl, sym, ap}
 use Rattle.std.proofs.Common.{subst, ◌∙◌, arith}
-use Rattle.std.specs.Prelude.{map}
+use Rattle.std.specs.Arc.{arc_value}
+use Rattle.std.specs.Global.{Global}
+use Rattle.std.specs.declared.sync.Arc.{Arc}
 use Rattle.std.proofs.lemmas.List.{append-nil, length-map}
 use Rattle.std.proofs.lemmas.List.Sums.{get_or-le-sum_by}
-use Rattle.std.proofs.Math.ListN.{get_or-map}
 use Rattle.saw_address.specs.Maps.{StateMap}
-use Rattle.saw_messages.specs.TxShapes.{TxShape}
-use Rattle.saw_messages.specs.declared.tx.TxBatch.{TxBatch}
+use Rattle.saw_messages.specs.TxShapes.{BatchShape, TxShape}
+use Rattle.saw_messages.specs.declared.tx.Tx.{Tx}
 use Rattle.saw_context.specs.Outcome.{Processors}
 use Rattle.saw_context.specs.Possible.{MayComeFrom, MayComeOfAll, MayComeOfBatch}
 use Rattle.saw_context.specs.Serial.{failed_with, left_by}
 use Rattle.saw_context.specs.declared.batch_result.BatchResult.{BatchResult}
-use Rattle.saw_plan.specs.BatchShapes.{BatchShape, batch_shape, shapes_of, transactions_in, txs_of}
+use Rattle.saw_plan.specs.BatchShapes.{shapes_of, transactions_in, txs_of}
 use Rattle.saw_schedule.specs.BatchResults.{AreResultsFor, IsResultFor}
 
--- the transactions of batches
-abbrev pub txs_in : List TxBatch → List (List TxShape)
-txs_in batches = txs_of (map batch_shape batches)
-
-pub txs_in-drop : (batches : List TxBatch) (i : ℕ) (batch : TxBatch) → i < length batches → batch ≡ get_or batches i batch
-    → txs_in (drop i batches) ≡ shapes_of batch.txs ∷ txs_in (drop (i + 1) batches)
-txs_in-drop batches i batch below is =
+pub txs_of-drop : (batches : List BatchShape) (i : ℕ) (batch : BatchShape) → i < length batches → batch ≡ get_or batches i batch
+    → txs_of (drop i batches) ≡ batch.txs ∷ txs_of (drop (i + 1) batches)
+txs_of-drop batches i batch below is =
     let cut : drop i batches ≡ get_or batches i batch ∷ drop (i + 1) batches = rw add-one (drop-cons batches i batch below) in
-    ap txs_in cut ∙ ap (λ (b : TxBatch). shapes_of b.txs ∷ txs_in (drop (i + 1) batches)) (sym is)
+    ap txs_of cut ∙ ap (λ (b : BatchShape). b.txs ∷ txs_of (drop (i + 1) batches)) (sym is)
 
 -- whatever may come of the rest over the map, these results before it may come of all over the start
 pub record HasGone (processors : Processors) (start : StateMap) (all : List (List TxShape)) (before : List BatchResult) (failed : List TxShape)
@@ -69,14 +66,11 @@ module _ (all : List (List TxShape)) (before : List BatchResult) where
       (so_far [] (subst (λ (batches : List (List TxShape)). AreResultsFor batches []) (sym none) tt))
 
 -- a batch has no more transactions than all batches
-pub batch_within : (batches : List TxBatch) (i : ℕ) (batch : TxBatch) → i < length batches → batch ≡ get_or batches i batch → (n : ℕ)
-    → transactions_in (map batch_shape batches) < n → length batch.txs < n
-batch_within batches i batch below is n few =
-    let within : i < length (map batch_shape batches) = simp length-map below in
-    let here : length (get_or (map batch_shape batches) i (batch_shape batch)).txs ≤ transactions_in (map batch_shape batches) =
-    get_or-le-sum_by (λ (b : BatchShape). length b.txs) (map batch_shape batches) i (batch_shape batch) within in
-    let counted : length (shapes_of batch.txs) ≤ transactions_in (map batch_shape batches) =
-    subst (λ (b : BatchShape). length b.txs ≤ transactions_in (map batch_shape batches))
-    (get_or-map batch_shape batches i batch ∙ ap batch_shape (sym is)) here in
-    let same : length (shapes_of batch.txs) ≡ length batch.txs = simp length-map in
-    omega arith
+pub batch_within : (batches : List BatchShape) (i : ℕ) (batch : BatchShape) (txs : List (Arc Tx Global)) → i < length batches
+    → batch ≡ get_or batches i batch → shapes_of txs ≡ batch.txs → (n : ℕ) → transactions_in batches < n → length txs < n
+batch_within batches i batch txs below is same n few =
+    let here : length (get_or batches i batch).txs ≤ transactions_in batches =
+    get_or-le-sum_by (λ (b : BatchShape). length b.txs) batches i batch below in
+    let counted : length batch.txs ≤ transactions_in batches =
+    subst (λ (b : BatchShape). length b.txs ≤ transactions_in batches) (sym is) here in
+    omega (arith, length-map txs arc_value, ap length same, counted, few)

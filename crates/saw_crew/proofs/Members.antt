@@ -5,7 +5,7 @@ use Rattle.std.specs.declared.sync.Arc.{Arc}
 use Rattle.std.specs.Global.{Global}
 use Rattle.std.specs.List.{AllByRecursion}
 use Rattle.saw_address.specs.Maps.{StateMap}
-use Rattle.saw_messages.specs.TxShapes.{TxShape, shape_of}
+use Rattle.saw_messages.specs.TxShapes.{TxShape}
 use Rattle.saw_messages.specs.declared.outcome.Change.{Change}
 use Rattle.saw_messages.specs.declared.outcome.Outcome.{Outcome}
 use Rattle.saw_messages.specs.declared.outcome.Outcome.TheVariants as outcomes
@@ -80,7 +80,7 @@ valid-push (first ∷ before) outcome valid here = (valid.0, valid-push before o
 
 -- the transactions from an index on: that one, and those behind it
 pub shapes-drop : (txs : List (Arc Tx Global)) (i : ℕ) (tx : Arc Tx Global) → i < length txs → tx ≡ get_or txs i tx
-    → shapes_of (drop i txs) ≡ shape_of (arc_value tx) ∷ shapes_of (drop (i + 1) txs)
+    → shapes_of (drop i txs) ≡ arc_value tx ∷ shapes_of (drop (i + 1) txs)
 shapes-drop txs i tx below is =
     let cut : drop i txs ≡ get_or txs i tx ∷ drop (i + 1) txs = rw add-one (drop-cons txs i tx below) in
-    ap shapes_of cut ∙ ap (λ t. shape_of (arc_value t) ∷ shapes_of (drop (i + 1) txs)) (sym is)
+    ap shapes_of cut ∙ ap (λ t. arc_value t ∷ shapes_of (drop (i + 1) txs)) (sym is)

@@ -12,7 +12,7 @@ use Rattle.std.specs.Cmp.Lexicographic.{slice_cmp, nat_list_eq_equiv}
 use Rattle.std.specs.BTreeSet.{BTreeSet, contains}
 use Rattle.saw_address.specs.Maps.{StateMap}
 use Rattle.saw_ids.specs.Seen.{is_among}
-use Rattle.saw_messages.specs.TxShapes.{TxShape, shape_of}
+use Rattle.saw_messages.specs.TxShapes.{TxShape}
 use Rattle.saw_messages.specs.declared.outcome.Outcome.{Outcome}
 use Rattle.saw_messages.specs.declared.tx.Tx.{Tx}
 use Rattle.saw_context.specs.Outcome.{Processors}
@@ -29,12 +29,12 @@ over_nothing m view none = rw none (over-empty m)
 -- what may come of a transaction under a view with no entries
 pub outcome_plain : (processors : Processors) (m : StateMap) (tx its : Tx) (view made : View) (failed depends : Bool) (outcome : Outcome) → tx ≡ its
     → view ≡ made → made.entries.entries ≡ [] → failed ≡ depends
-    → MayCome processors (shape_of tx) (over m (layers_of view)) failed outcome → MayCome processors (shape_of its) m depends outcome
+    → MayCome processors tx (over m (layers_of view)) failed outcome → MayCome processors its m depends outcome
 outcome_plain processors m tx its view made failed depends outcome same shows none flag may =
     let shown : over m (layers_of view) ≡ m = ap (λ (v : View). over m (layers_of v)) shows ∙ over_nothing m made none in
-    subst (λ (t : Tx). MayCome processors (shape_of t) m depends outcome) same
-    (subst (λ (f : Bool). MayCome processors (shape_of tx) m f outcome) flag
-    (subst (λ (n : StateMap). MayCome processors (shape_of tx) n failed outcome) shown may))
+    subst (λ (t : Tx). MayCome processors t m depends outcome) same
+    (subst (λ (f : Bool). MayCome processors tx m f outcome) flag
+    (subst (λ (n : StateMap). MayCome processors tx n failed outcome) shown may))
 
 -- ---- dependencies
 
@@ -50,15 +50,22 @@ module _ (seen : BTreeSet (List ℕ)) (others : List TxShape) (holds : HoldsTxs 
   held-names (id ∷ ids) = rw (holds id, among-ids others id) (ap (λ (b : Bool). list_any (λ other. bytes_eq id other.id) others || b) (held-names ids))
 
 -- the ids of the transactions up to an index, with one more
-pub ids-take : (others : List TxShape) (txs : List (Arc Tx Global)) (i : ℕ) (tx : Arc Tx Global) → i < length txs → tx ≡ get_or txs i tx
+ids-take : (others : List TxShape) (txs : List (Arc Tx Global)) (i : ℕ) (tx : Arc Tx Global) → i < length txs → tx ≡ get_or txs i tx
     → ids_of (others ++ shapes_of (take i txs)) ++ (arc_value tx).id ∷ [] ≡ ids_of (others ++ shapes_of (take (i + 1) txs))
 ids-take others txs i tx below is =
     rw (
       take_more txs i tx below,
       ← is,
-      map-append (λ t. shape_of (arc_value t)) (take i txs) (tx ∷ []),
+      map-append arc_value (take i txs) (tx ∷ []),
       map-append (λ (t : TxShape). t.id) others (shapes_of (take i txs)),
       map-append (λ (t : TxShape). t.id) others (shapes_of (take i txs) ++ shapes_of (tx ∷ [])),
       map-append (λ (t : TxShape). t.id) (shapes_of (take i txs)) (shapes_of (tx ∷ [])),
     )
     (append_assoc (ids_of others) (ids_of (shapes_of (take i txs))) ((arc_value tx).id ∷ []))
+
+-- the same, where the one more is known by an equation
+pub ids-take_seen : (others : List TxShape) (txs : List (Arc Tx Global)) (i : ℕ) (tx : Arc Tx Global) (seen : TxShape) → seen ≡ arc_value tx
+    → i < length txs → tx ≡ get_or txs i tx
+    → ids_of (others ++ shapes_of (take i txs)) ++ seen.id ∷ [] ≡ ids_of (others ++ shapes_of (take (i + 1) txs))
+ids-take_seen others txs i tx seen same below is =
+    ap (λ (one : TxShape). ids_of (others ++ shapes_of (take i txs)) ++ one.id ∷ []) same ∙ ids-take others txs i tx below is

@@ -8,7 +8,7 @@ ghost use Rattle.std.specs.List.{list_any};
 ghost use Rattle.std.specs.Ordering.{nat_cmp};
 ghost use Rattle.saw_context.specs.Serial.{names_one};
 ghost use Rattle.saw_crew.specs.Running.{HoldsTxs, IsBatchResult, IsOutcome, Leaves};
-ghost use Rattle.saw_messages.specs.TxShapes.{TxShape, shape_of};
+ghost use Rattle.saw_messages.specs.TxShapes.{TxShape};
 ghost use Rattle.saw_plan.specs.BatchShapes.{shapes_of};
 ghost use Rattle.saw_schedule.specs.BatchResults.{IsResultFor};
 ghost use Rattle.saw_station.specs.Serving.{processors_at};
@@ -34,7 +34,7 @@ fn holds_one(set: &BTreeSet<Text>, ids: &[Text]) -> bool
 // Whether the transaction depends on one of these.
 fn names_one(tx: &Tx, failed: &BTreeSet<Text>) -> bool
     ensures { (others : List TxShape) → HoldsTxs failed.now others
-        → result ≡ names_one (shape_of tx.now) others }
+        → result ≡ names_one tx.now others }
 {
     holds_one(failed, tx.header.dependencies.as_slice())
 }
@@ -48,7 +48,7 @@ fn run_tx<B: Base, R: Station>(
     tx: &Arc<Tx>,
 ) -> Result<Outcome, CrewFault>
     ensures outcome { IfOk result (IsOutcome (processors_at R.next R.tells desk.old.offers) failed.now
-        (B.entry base.now) (shape_of (arc_value tx.now))) }
+        (B.entry base.now) (arc_value tx.now)) }
     ensures desk { Leaves R.faults R.offered desk.old desk.new (IsErrOf result CrewFault.PeerFailed) }
 {
     let view = View {

@@ -1,13 +1,13 @@
 //! The batches of a plan, one after another.
 
-ghost use Rattle.std.specs.Prelude.{◌≡◌, ◌<◌, ◌^◌, ◌++◌, List, length, map, IfOk, IsErrOf, OnOk};
+ghost use Rattle.std.specs.Prelude.{◌≡◌, ◌<◌, ◌^◌, ◌++◌, List, length, IfOk, IsErrOf, OnOk};
 ghost use Rattle.std.specs.Arc.{arc_value};
 ghost use Rattle.saw_context.specs.Possible.{MayComeOfAll};
 ghost use Rattle.saw_context.specs.Serial.{failed_with, left_by, map_after_all};
 ghost use Rattle.saw_crew.specs.Desks.{HaveSameOffers, KeepsDesks, Failed, offers_at};
 ghost use Rattle.saw_crew.specs.Running.{HoldsTxs, Leaves};
 ghost use Rattle.saw_messages.specs.TxShapes.{TxShape};
-ghost use Rattle.saw_plan.specs.BatchShapes.{batch_shape, ids_of, shapes_of, transactions_in, txs_of};
+ghost use Rattle.saw_plan.specs.BatchShapes.{ids_of, shapes_of, transactions_in, txs_of};
 ghost use Rattle.saw_schedule.specs.BatchResults.{AreResultsFor};
 ghost use Rattle.saw_station.specs.Serving.{processors_at};
 
@@ -36,12 +36,12 @@ pub fn execute<B: Base, R: Station>(
 ) -> Result<Results, CrewFault>
     requires some { 0 < length desks.old }
     requires alike { HaveSameOffers desks.old }
-    requires counted { transactions_in (map batch_shape (arc_value plan).batches) < 2 ^ 32 }
+    requires counted { transactions_in (arc_value plan).batches < 2 ^ 32 }
     ensures results { let processors = processors_at R.next R.tells (offers_at desks.old) in
-        let batches = txs_of (map batch_shape (arc_value plan).batches) in
+        let batches = txs_of (arc_value plan).batches in
         IfOk result (λ results. MayComeOfAll processors (B.entry base.now) batches results.batches) }
     ensures whole { IfOk result (λ results. AreResultsFor
-        (txs_of (map batch_shape (arc_value plan).batches)) results.batches) }
+        (txs_of (arc_value plan).batches) results.batches) }
     ensures desks { KeepsDesks R.faults R.offered desks.old desks.new }
     ensures cause { IsErrOf result CrewFault.PeerFailed → Failed R.faults desks.old desks.new }
 {
@@ -55,11 +55,11 @@ fn run_plan<B: Base, R: Station>(
     base: &B,
     desk: &mut Desk<R>,
 ) -> Result<Results, CrewFault>
-    requires counted { transactions_in (map batch_shape batches.now) < 2 ^ 32 }
+    requires counted { transactions_in batches.now < 2 ^ 32 }
     ensures results { let processors = processors_at R.next R.tells desk.old.offers in
-        let batches = txs_of (map batch_shape batches.now) in
+        let batches = txs_of batches.now in
         IfOk result (λ results. MayComeOfAll processors (B.entry base.now) batches results.batches) }
-    ensures whole { IfOk result (λ results. AreResultsFor (txs_of (map batch_shape batches.now))
+    ensures whole { IfOk result (λ results. AreResultsFor (txs_of batches.now)
         results.batches) }
     ensures desk { Leaves R.faults R.offered desk.old desk.new (IsErrOf result CrewFault.PeerFailed) }
 {

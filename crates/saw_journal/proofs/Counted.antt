@@ -8,10 +8,10 @@ use Rattle.saw_checks.specs.Readings.{IsBlockOf}
 use Rattle.saw_checks.specs.StructureFaults.{structure_fault, transactions_count}
 use Rattle.saw_checks.specs.declared.checked.CheckedBlock.{CheckedBlock}
 use Rattle.saw_checks.proofs.Faultless.{faultless_block}
-use Rattle.saw_messages.specs.TxShapes.{shape_in}
+use Rattle.saw_messages.specs.TxShapes.{BatchShape, shape_in}
 use Rattle.saw_messages.specs.declared.batch.Batch.{Batch}
 use Rattle.saw_messages.specs.declared.block.Block.{Block}
-use Rattle.saw_plan.specs.BatchShapes.{BatchShape, batch_shape, transactions_in}
+use Rattle.saw_plan.specs.BatchShapes.{transactions_in}
 use Rattle.saw_journal.specs.BlockShapes.{Parts, batch_in}
 use Rattle.saw_journal.proofs.SameParts.{same_parts}
 
@@ -34,16 +34,16 @@ module _ (accepts : List ℕ → List ℕ → List ℕ → Bool) where
     good : IsGoodBlock accepts content
     good = (faultless_block accepts content).0 sound
 
-    shapes_are : map batch_shape checked.batches ≡ map batch_in good.read.batches
+    shapes_are : checked.batches ≡ map batch_in good.read.batches
     shapes_are =
         let decoded : Ok of.read ≡ Ok good.read = sym of.decoded ∙ good.decoded in
         let same : of.read ≡ good.read = cc in
         ap (λ (parts : Parts). parts.batches) (same_parts accepts content checked of sound) ∙ ap (λ (read : Block). map batch_in read.batches) same
 
-    pub few_transactions : transactions_in (map batch_shape checked.batches) < 2 ^ 32
+    pub few_transactions : transactions_in checked.batches < 2 ^ 32
     few_transactions = omega (arith, ap transactions_in shapes_are ∙ count_in good.read.batches, good.few)
 
     pub few_batches : length checked.batches < 2 ^ 32
     few_batches =
-        let count = sym (length-map checked.batches batch_shape) ∙ ap length shapes_are ∙ length-map good.read.batches batch_in in
+        let count = ap length shapes_are ∙ length-map good.read.batches batch_in in
         omega (arith, count, no_fewer good.read.batches good.batches, good.few)

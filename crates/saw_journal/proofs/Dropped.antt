@@ -1,7 +1,7 @@
 -- Blocks of which no batch is dropped.
-use Rattle.std.proofs.Common.{◌≡◌, List, [], ◌∷◌, map, None, refl, sym, ap, ◌∙◌, arith}
+use Rattle.std.proofs.Common.{◌≡◌, List, [], ◌∷◌, None, refl, sym, ap, ◌∙◌, arith}
 use Rattle.saw_plan.proofs.Whole.{none_dropped}
-use Rattle.saw_plan.specs.BatchShapes.{BatchShape, batch_shape}
+use Rattle.saw_messages.specs.TxShapes.{BatchShape}
 use Rattle.saw_plan.specs.Sorting.{IsSorted, dropped_by}
 use Rattle.saw_plan.specs.StaticRules.{Ids, causes}
 use Rattle.saw_plan.specs.declared.sorted.Dropped.{Dropped}
@@ -13,7 +13,7 @@ empty_from [] none = refl
 empty_from (one ∷ others) none = absurd (grind (arith, none))
 
 pub none_from : (there : Ids) (batches : List BatchShape) (sorted : Sorted) → IsSorted there batches sorted → None ≡ first_dropped sorted.dropped
-    → (static_fault there batches ≡ None) × (map batch_shape sorted.plan.batches ≡ batches)
+    → (static_fault there batches ≡ None) × (sorted.plan.batches ≡ batches)
 none_from there batches sorted is none =
     let empty : dropped_by 0 (causes there batches) ≡ [] = sym is.dropped ∙ empty_from sorted.dropped none in
     (ap first_dropped empty, is.plan ∙ none_dropped 0 there batches empty)

@@ -11,8 +11,7 @@ use Rattle.std.proofs.lemmas.List.Folds.{list_any-append}
 use Rattle.saw_ids.specs.Seen.{HoldsIds, is_among}
 use Rattle.saw_messages.specs.declared.receipt.Receipt.{Receipt}
 use Rattle.saw_context.specs.declared.batch_result.BatchResult.{BatchResult}
-use Rattle.saw_messages.specs.declared.tx.TxBatch.{TxBatch}
-use Rattle.saw_plan.specs.BatchShapes.{BatchShape, batch_shape}
+use Rattle.saw_messages.specs.TxShapes.{BatchShape}
 use Rattle.saw_journal.specs.Judgement.{batch_records}
 use Rattle.saw_plan.specs.StaticRules.{Ids, Knows}
 use Rattle.saw_plan.specs.SortingSteps.{both}
@@ -151,14 +150,9 @@ no_records (batch ∷ batches) [] none = refl
 no_records (batch ∷ batches) (result ∷ results) (inl is) = absurd (grind (arith, is))
 no_records (batch ∷ batches) (result ∷ results) (inr is) = absurd (grind (arith, is))
 
-pub ended : (made whole : List BatchRecord) (batches : List TxBatch) (results : List BatchResult) → (batches ≡ []) ⊎ (results ≡ [])
-    → made ++ batch_records (map batch_shape batches) results ≡ whole → made ≡ whole
-ended made whole batches results none known =
-    sym (append-nil made) ∙ ap (λ rest. made ++ rest) (sym (no_records (map batch_shape batches) results (both_mapped batches results none))) ∙ known
-  where
-    both_mapped : (batches : List TxBatch) (results : List BatchResult) → (batches ≡ []) ⊎ (results ≡ []) → (map batch_shape batches ≡ []) ⊎ (results ≡ [])
-    both_mapped batches results (inl is) = inl (ap (map batch_shape) is)
-    both_mapped batches results (inr is) = inr is
+pub ended : (made whole : List BatchRecord) (batches : List BatchShape) (results : List BatchResult) → (batches ≡ []) ⊎ (results ≡ [])
+    → made ++ batch_records batches results ≡ whole → made ≡ whole
+ended made whole batches results none known = sym (append-nil made) ∙ ap (λ rest. made ++ rest) (sym (no_records batches results none)) ∙ known
 
 -- ---- a place of the walk
 

@@ -1,5 +1,5 @@
 -- What a judgement answers, by the part that ends it.
-use Rattle.std.proofs.Common.{◌≡◌, inl, inr, ℕ, Bool, true, List, map, Option, Some, None, Result, Ok, Err, refl, sym, ap, subst, ◌∙◌}
+use Rattle.std.proofs.Common.{◌≡◌, inl, inr, ℕ, Bool, true, List, Option, Some, None, Result, Ok, Err, refl, sym, ap, subst, ◌∙◌}
 use Rattle.std.specs.Prelude.{IsErrOf}
 use Rattle.saw_address.specs.Maps.{StateMap}
 use Rattle.saw_checks.specs.Readings.{BlockGives, IsBlockOf}
@@ -14,7 +14,7 @@ use Rattle.saw_context.specs.declared.batch_result.BatchResult.{BatchResult}
 use Rattle.saw_messages.specs.Reasons.{has_own_reason}
 use Rattle.saw_messages.specs.TxShapes.{TxShape}
 use Rattle.saw_messages.specs.declared.talk.Turn.{Turn}
-use Rattle.saw_plan.specs.BatchShapes.{batch_shape, txs_of}
+use Rattle.saw_plan.specs.BatchShapes.{txs_of}
 use Rattle.saw_receipts.specs.States.{States}
 use Rattle.saw_receipts.specs.declared.block.BlockRecord.{BlockRecord}
 use Rattle.saw_receipts.specs.declared.verdict.BlockFault.{BlockFault}
@@ -78,18 +78,18 @@ module _ (processors : Processors) (own : (tx : TxShape) (turns : List Turn) →
 
     module _ (placed : first_of (place_tests blocks checked.id checked.header) ≡ None) where
       -- a batch is dropped
-      pub by_rules : (stop : Stop) → IsStop (static_fault (ids_before blocks checked.header) (map batch_shape checked.batches)) stop
+      pub by_rules : (stop : Stop) → IsStop (static_fault (ids_before blocks checked.header) checked.batches) stop
           → Answers (Err stop)
       by_rules (Refused fault) is = refused fault (λ runs. by_parts runs ∙ dropped hash runs blocks states (parts_in checked) (sym placed) fault is)
       by_rules (Failed fault) is = tt
 
-      module _ (whole : static_fault (ids_before blocks checked.header) (map batch_shape checked.batches) ≡ None) (at : List ℕ)
+      module _ (whole : static_fault (ids_before blocks checked.header) checked.batches ≡ None) (at : List ℕ)
           (same : map_under states (parent_of blocks checked.header) ≡ map_at states at) where
         abbrev before : StateMap
         before = map_under states (parent_of blocks checked.header)
 
         abbrev txs : List (List TxShape)
-        txs = txs_of (map batch_shape checked.batches)
+        txs = txs_of checked.batches
 
         came : (results : List BatchResult) (found : Option BlockFault) → HasRun processors hash states at (parts_in checked) results found
             → (result : Result Kept BlockFault) → unless found (kept_of hash (parts_in checked) (map_at states at) results) ≡ result

@@ -9,11 +9,10 @@ use Rattle.saw_context.specs.Outcome.{Processors, map_after}
 use Rattle.saw_context.specs.Possible.{MayComeOfAll}
 use Rattle.saw_context.specs.Serial.{left_after}
 use Rattle.saw_context.specs.declared.batch_result.BatchResult.{BatchResult}
-use Rattle.saw_messages.specs.TxShapes.{TxShape}
+use Rattle.saw_messages.specs.TxShapes.{BatchShape, TxShape}
 use Rattle.saw_messages.specs.declared.outcome.Change.{Change}
-use Rattle.saw_messages.specs.declared.tx.TxBatch.{TxBatch}
 use Rattle.saw_node.specs.Trees.{root_of_map}
-use Rattle.saw_plan.specs.BatchShapes.{batch_shape, txs_of}
+use Rattle.saw_plan.specs.BatchShapes.{txs_of}
 use Rattle.saw_receipts.specs.States.{States, state_at}
 use Rattle.saw_receipts.specs.declared.block.BlockRecord.{BlockRecord}
 use Rattle.saw_receipts.specs.declared.verdict.BlockFault.{BlockFault}
@@ -47,21 +46,21 @@ same_length [] (result ∷ results) are = absurd are
 same_length (txs ∷ batches) [] are = absurd are
 same_length (txs ∷ batches) (result ∷ results) are = omega (arith, same_length batches results are.1)
 
-pub few_results : (planned batches : List TxBatch) (results : List BatchResult) → map batch_shape planned ≡ map batch_shape batches
-    → AreResultsFor (txs_of (map batch_shape planned)) results
+pub few_results : (planned batches : List BatchShape) (results : List BatchResult) → planned ≡ batches
+    → AreResultsFor (txs_of planned) results
     → length batches < 2 ^ 32 → length results < 2 ^ 32
 few_results planned batches results same are few =
     omega (
       arith,
-      same_length (txs_of (map batch_shape planned)) results are
-          ∙ length-map (map batch_shape planned) (λ batch. batch.txs) ∙ ap length same ∙ length-map batches batch_shape,
+      same_length (txs_of planned) results are
+          ∙ length-map planned (λ (batch : BatchShape). batch.txs) ∙ ap length same,
       few,
     )
 
 -- ---- the tests behind the run
 
 module _ (processors : Processors) (hash : List ℕ → List ℕ) (states : States) (before : List ℕ) (checked : CheckedBlock) (results : List BatchResult)
-    (may : MayComeOfAll processors (map_at states before) (txs_of (map batch_shape checked.batches)) results) where
+    (may : MayComeOfAll processors (map_at states before) (txs_of checked.batches) results) where
   abbrev Answers : Result New Stop → Type 0
   Answers = RunsAs processors hash states before (parts_in checked)
 
@@ -100,7 +99,7 @@ module _ (processors : Processors) (hash : List ℕ → List ℕ) (states : Stat
           signer =
               checked.header.signer_public_key;
           root = root;
-          batches = batch_records (map batch_shape checked.batches) results;
+          batches = batch_records checked.batches results;
         }
         → Answers (Ok (record { block = block; before = before; changes = changes }))
     is_new block told known rising made = (
@@ -114,7 +113,7 @@ module _ (processors : Processors) (hash : List ℕ → List ℕ) (states : Stat
           signer =
               checked.header.signer_public_key;
           root = root;
-          batches = batch_records (map batch_shape checked.batches) results;
+          batches = batch_records checked.batches results;
         }) root_is;
         rising = rising;
         known = known;

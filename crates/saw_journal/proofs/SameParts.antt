@@ -1,9 +1,6 @@
 -- What a checked block has in common with the block of its bytes.
 use Rattle.std.proofs.Common.{◌≡◌, ℕ, ◌+◌, Bool, List, [], ◌∷◌, map, Option, Some, None, Result, Ok, Err, refl, sym, ap, ◌∙◌, arith}
 use Rattle.std.specs.Prelude.{option_map}
-use Rattle.std.specs.Arc.{arc_value}
-use Rattle.std.specs.declared.sync.Arc.{Arc}
-use Rattle.std.specs.Global.{Global}
 use Rattle.saw_checks.specs.BatchFaults.{batch_fault}
 use Rattle.saw_checks.specs.StructureFaults.{batch_ids_of, batches_fault, block_tests, structure_fault, structure_fault_by}
 use Rattle.saw_checks.specs.Readings.{IsTxOf, AreTxsOf, IsBatchOf, AreBatchesOf, IsBlockOf}
@@ -14,8 +11,7 @@ use Rattle.saw_checks.specs.declared.fault.StructureFault.{StructureFault}
 use Rattle.saw_checks.specs.declared.fault.StructureFault.TheVariants as faults
 use Rattle.saw_messages.specs.Batches.{batch_header}
 use Rattle.saw_messages.specs.Blocks.{block, block_header}
-use Rattle.saw_messages.specs.Transactions.{transaction_header}
-use Rattle.saw_messages.specs.TxShapes.{TxShape, shape_of, shape_in, header_by}
+use Rattle.saw_messages.specs.TxShapes.{BatchShape, TxShape, shape_in, header_by}
 use Rattle.saw_messages.specs.declared.batch.Batch.{Batch}
 use Rattle.saw_messages.specs.declared.batch.BatchHeader.{BatchHeader}
 use Rattle.saw_messages.specs.declared.block.Block.{Block}
@@ -24,7 +20,6 @@ use Rattle.saw_messages.specs.declared.transaction.Transaction.{Transaction}
 use Rattle.saw_messages.specs.declared.transaction.TransactionHeader.{TransactionHeader}
 use Rattle.saw_messages.specs.declared.tx.Tx.{Tx}
 use Rattle.saw_messages.specs.declared.tx.TxBatch.{TxBatch}
-use Rattle.saw_plan.specs.BatchShapes.{batch_shape, shapes_of}
 use Rattle.saw_receipts.specs.declared.block.BlockRecord.{BlockRecord}
 use Rattle.saw_receipts.specs.declared.verdict.BlockFault.TheVariants.{Structure}
 use Rattle.saw_wire.specs.declared.fault.MessageFault.{MessageFault}
@@ -38,16 +33,19 @@ same_shape : (id id' bytes bytes' payload payload' : List ℕ) (header header' :
     let second : TxShape = record { id = id'; header = header'; header_bytes = bytes'; payload = payload' } in first ≡ second)
 same_shape id id' bytes bytes' payload payload' header header' a b c d = rw (a, b, c, d) refl
 
-tx_shape : (tx : Transaction) (read : Tx) → IsTxOf tx read → shape_of read ≡ shape_in tx
-tx_shape tx read is =
-    let said : transaction_header tx.header ≡ Ok read.header = ap transaction_header (sym is.header_bytes) ∙ read.read in
-    same_shape _ _ _ _ _ _ _ _ is.id (sym (ap header_by said)) is.header_bytes is.payload
+tx_shape : (tx : Transaction) (read : Tx) → IsTxOf tx read → read ≡ shape_in tx
+tx_shape tx read is = same_shape _ _ _ _ _ _ _ _ is.id (sym (ap header_by is.header)) is.header_bytes is.payload
 
-tx_shapes : (txs : List Transaction) (reads : List (Arc Tx Global)) → AreTxsOf txs (map arc_value reads) → shapes_of reads ≡ map shape_in txs
+tx_shapes : (txs : List Transaction) (reads : List Tx) → AreTxsOf txs reads → reads ≡ map shape_in txs
 tx_shapes [] [] are = refl
 tx_shapes [] (read ∷ reads) are = absurd are
 tx_shapes (tx ∷ txs) [] are = absurd are
-tx_shapes (tx ∷ txs) (read ∷ reads) are = rw (tx_shape tx (arc_value read) are.0, tx_shapes txs reads are.1) refl
+tx_shapes (tx ∷ txs) (read ∷ reads) are = rw (tx_shape tx read are.0, tx_shapes txs reads are.1) refl
+
+same_batch : (id id' signer signer' : List ℕ) (txs txs' : List TxShape) → id ≡ id' → signer ≡ signer' → txs ≡ txs'
+    → (let first : BatchShape = record { id = id; signer = signer; txs = txs } in
+    let second : BatchShape = record { id = id'; signer = signer'; txs = txs' } in first ≡ second)
+same_batch id id' signer signer' txs txs' a b c = rw (a, b, c) refl
 
 -- ---- the signers of batches without fault
 
@@ -68,16 +66,13 @@ module _ (accepts : List ℕ → List ℕ → List ℕ → Bool) where
       let bad : batch_fault accepts batch ≡ Some Header = rw is refl in
       absurd (grind (arith, bad, fine))
 
-  batch_is : (batch : Batch) (read : TxBatch) → batch_fault accepts batch ≡ None → IsBatchOf batch read → batch_shape read ≡ batch_in batch
-  batch_is batch read fine is = rw (
-    is.id,
-    said_by batch fine
-        (batch_header batch.header) refl read.signer is.signer,
-    tx_shapes batch.transactions read.txs is.txs,
-  ) refl
+  batch_is : (batch : Batch) (read : TxBatch) → batch_fault accepts batch ≡ None → IsBatchOf batch read → read ≡ batch_in batch
+  batch_is batch read fine is =
+      same_batch _ _ _ _ _ _ is.id (said_by batch fine (batch_header batch.header) refl read.signer is.signer)
+      (tx_shapes batch.transactions read.txs is.txs)
 
   batches_are : (k : ℕ) (batches : List Batch) (reads : List TxBatch) → batches_fault accepts k batches ≡ None → AreBatchesOf batches reads
-      → map batch_shape reads ≡ map batch_in batches
+      → reads ≡ map batch_in batches
   batches_are k [] [] fine are = refl
   batches_are k [] (read ∷ reads) fine are = absurd are
   batches_are k (batch ∷ batches) [] fine are = absurd are

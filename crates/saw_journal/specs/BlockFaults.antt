@@ -9,7 +9,7 @@ use Rattle.saw_context.specs.Serial.{left_after}
 use Rattle.saw_context.specs.declared.batch_result.BatchResult.{BatchResult}
 use Rattle.saw_messages.specs.declared.block.BlockHeader.{BlockHeader}
 use Rattle.saw_node.specs.Trees.{root_of_map}
-use Rattle.saw_plan.specs.BatchShapes.{BatchShape}
+use Rattle.saw_messages.specs.TxShapes.{BatchShape}
 use Rattle.saw_plan.specs.Sorting.{dropped_by}
 use Rattle.saw_plan.specs.StaticRules.{Ids, causes}
 use Rattle.saw_plan.specs.declared.sorted.Dropped.{Dropped}

@@ -1,12 +1,11 @@
 -- What is judged of a block whose structure has no fault.
 use Rattle.std.specs.Prelude.{ℕ, List, [], map, Result, Ok, Err}
 use Rattle.saw_messages.specs.Batches.{batch_header}
-use Rattle.saw_messages.specs.TxShapes.{shape_in}
+use Rattle.saw_messages.specs.TxShapes.{BatchShape, shape_in}
 use Rattle.saw_messages.specs.declared.batch.Batch.{Batch}
 use Rattle.saw_messages.specs.declared.batch.BatchHeader.{BatchHeader}
 use Rattle.saw_messages.specs.declared.block.Block.{Block}
 use Rattle.saw_messages.specs.declared.block.BlockHeader.{BlockHeader}
-use Rattle.saw_plan.specs.BatchShapes.{BatchShape, batch_shape}
 use Rattle.saw_wire.specs.declared.fault.MessageFault.{MessageFault}
 use Rattle.saw_checks.specs.declared.checked.CheckedBlock.{CheckedBlock}
 
@@ -29,4 +28,4 @@ parts_of b header = record { id = b.header_signature; header = header; batches =
 
 -- the same of a block that was checked
 abbrev pub parts_in : CheckedBlock → Parts
-parts_in checked = record { id = checked.id; header = checked.header; batches = map batch_shape checked.batches }
+parts_in checked = record { id = checked.id; header = checked.header; batches = checked.batches }

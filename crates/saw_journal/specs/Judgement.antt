@@ -9,12 +9,12 @@ use Rattle.saw_context.specs.Serial.{left_after}
 use Rattle.saw_context.specs.declared.batch_result.BatchResult.{BatchResult}
 use Rattle.saw_context.specs.declared.batch_result.BatchResult.TheVariants.{Applied, Failed}
 use Rattle.saw_messages.specs.Blocks.{block, block_header}
-use Rattle.saw_messages.specs.TxShapes.{TxShape}
+use Rattle.saw_messages.specs.TxShapes.{BatchShape, TxShape}
 use Rattle.saw_messages.specs.declared.block.Block.{Block}
 use Rattle.saw_messages.specs.declared.block.BlockHeader.{BlockHeader}
 use Rattle.saw_messages.specs.declared.outcome.Outcome.{Outcome}
 use Rattle.saw_node.specs.Trees.{root_of_map}
-use Rattle.saw_plan.specs.BatchShapes.{BatchShape, ids_of, txs_of}
+use Rattle.saw_plan.specs.BatchShapes.{ids_of, txs_of}
 use Rattle.saw_receipts.specs.Receipts.{receipts}
 use Rattle.saw_receipts.specs.declared.block.BatchRecord.{BatchRecord}
 use Rattle.saw_receipts.specs.declared.block.BlockRecord.{BlockRecord}

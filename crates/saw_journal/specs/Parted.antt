@@ -11,7 +11,8 @@ use Rattle.saw_context.specs.Serial.{left_after}
 use Rattle.saw_context.specs.declared.batch_result.BatchResult.{BatchResult}
 use Rattle.saw_messages.specs.declared.block.BlockHeader.{BlockHeader}
 use Rattle.saw_node.specs.Trees.{root_of_map}
-use Rattle.saw_plan.specs.BatchShapes.{BatchShape, batch_shape, txs_of}
+use Rattle.saw_messages.specs.TxShapes.{BatchShape}
+use Rattle.saw_plan.specs.BatchShapes.{txs_of}
 use Rattle.saw_plan.specs.StaticRules.{Ids}
 use Rattle.saw_plan.specs.declared.plan.Plan.{Plan}
 use Rattle.saw_receipts.specs.States.{States, knows, state_at}
@@ -37,7 +38,7 @@ PlacedAs blocks id header (Err stop) = IsStop (first_of (place_tests blocks id h
 
 -- a plan of all batches, or the fault of the first that is dropped
 abbrev pub PlansAs : Ids → List BatchShape → Result Plan Stop → Type 0
-PlansAs there batches (Ok plan) = (static_fault there batches ≡ None) × (map batch_shape plan.batches ≡ batches)
+PlansAs there batches (Ok plan) = (static_fault there batches ≡ None) × (plan.batches ≡ batches)
 PlansAs there batches (Err stop) = IsStop (static_fault there batches) stop
 
 -- the root under which the map before a block stands

@@ -1,9 +1,9 @@
 //! The batches of a block by the static rules.
 
-ghost use Rattle.std.specs.Prelude.{◌≡◌, ◌<◌, ◌^◌, length, map};
+ghost use Rattle.std.specs.Prelude.{◌≡◌, ◌<◌, ◌^◌, length};
 ghost use Rattle.saw_journal.specs.BlockFaults.{first_dropped};
 ghost use Rattle.saw_journal.specs.Parted.{PlansAs};
-ghost use Rattle.saw_plan.specs.BatchShapes.{batch_shape, transactions_in};
+ghost use Rattle.saw_plan.specs.BatchShapes.{transactions_in};
 ghost use Rattle.saw_plan.specs.StaticRules.{Ids, Knows};
 
 use crate::stop::Stop;
@@ -16,8 +16,8 @@ use std::alloc::Global;
 /// Plans all batches of a block, against the ids that are there. It stops at the first that the static rules drop.
 pub(crate) fn plan_all(alloc: Global, known: &Known, batches: &[TxBatch]) -> Result<Plan, Stop>
     requires batches { length batches.now < 2 ^ 32 }
-    requires transactions { transactions_in (map batch_shape batches.now) < 2 ^ 32 }
-    ensures { (there : Ids) → Knows known.now there → PlansAs there (map batch_shape batches.now) result }
+    requires transactions { transactions_in batches.now < 2 ^ 32 }
+    ensures { (there : Ids) → Knows known.now there → PlansAs there batches.now result }
 {
     let Sorted {
         plan,

@@ -1,10 +1,9 @@
 //! What the results of a block's batches say.
 
-ghost use Rattle.std.specs.Prelude.{◌≡◌, ◌<◌, ◌^◌, length, map, IfOk};
+ghost use Rattle.std.specs.Prelude.{◌≡◌, ◌<◌, ◌^◌, length, IfOk};
 ghost use Rattle.saw_checks.specs.BatchParts.{Tells};
 ghost use Rattle.saw_journal.specs.BlockFaults.{failure_fault};
 ghost use Rattle.saw_journal.specs.Judgement.{batch_record, batch_records, outcomes_in};
-ghost use Rattle.saw_plan.specs.BatchShapes.{batch_shape};
 
 use saw_messages::{Outcome, TxBatch};
 use saw_receipts::{BatchRecord, BlockFault, batch_receipts};
@@ -43,7 +42,7 @@ fn batch_record(
     batch: &TxBatch,
     done: &BatchResult,
 ) -> Result<BatchRecord, AllocError>
-    ensures { IfOk result (λ made. made ≡ batch_record (batch_shape batch.now) done.now) }
+    ensures { IfOk result (λ made. made ≡ batch_record batch.now done.now) }
 {
     let receipts = batch_receipts(alloc, batch, outcomes_in(done))?;
     Ok(BatchRecord {
@@ -59,7 +58,7 @@ pub(crate) fn batch_records(
     results: &Results,
 ) -> Result<Items<BatchRecord>, AllocError>
     ensures { IfOk result (λ made.
-        made ≡ batch_records (map batch_shape batches.now) results.now.batches) }
+        made ≡ batch_records batches.now results.now.batches) }
 {
     let mut made = Items::new(alloc);
     for (batch, done) in batches.iter().zip(results.batches.as_slice()) {

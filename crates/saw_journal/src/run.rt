@@ -9,7 +9,7 @@ ghost use Rattle.saw_journal.specs.Ledger.{map_at};
 ghost use Rattle.saw_journal.specs.Parted.{RunsAs};
 ghost use Rattle.saw_journal.specs.Stops.{TestsAs};
 ghost use Rattle.saw_journal.specs.BlockShapes.{parts_in};
-ghost use Rattle.saw_plan.specs.BatchShapes.{batch_shape, transactions_in, txs_of};
+ghost use Rattle.saw_plan.specs.BatchShapes.{transactions_in, txs_of};
 ghost use Rattle.saw_receipts.specs.States.{state_at};
 ghost use Rattle.saw_schedule.specs.BatchResults.{AreResultsFor};
 ghost use Rattle.saw_station.specs.Serving.{processors_at};
@@ -37,14 +37,14 @@ fn execute_over<H: NodeHasher, R: Station>(
     desks: &mut [Desk<R>],
 ) -> Result<Results, JournalFault>
     requires known { IsSome (state_at state.now before) }
-    requires counted { transactions_in (map batch_shape plan.batches) < 2 ^ 32 }
+    requires counted { transactions_in plan.batches < 2 ^ 32 }
     requires some { 0 < length desks.old }
     requires alike { HaveSameOffers desks.old }
     ensures results { let processors = processors_at R.next R.tells (offers_at desks.old) in
-        let batches = txs_of (map batch_shape plan.batches) in
+        let batches = txs_of plan.batches in
         IfOk result (λ results.
         MayComeOfAll processors (map_at state.now before) batches results.batches) }
-    ensures whole { IfOk result (λ results. AreResultsFor (txs_of (map batch_shape plan.batches))
+    ensures whole { IfOk result (λ results. AreResultsFor (txs_of plan.batches)
         results.batches) }
     ensures room { IsErrOf result JournalFault.Full → ⊥ }
     ensures desks { KeepsDesks R.faults R.offered desks.old desks.new }
@@ -83,7 +83,7 @@ fn record_of(
       previous = checked.header.previous_block_id;
       signer = checked.header.signer_public_key;
       root = root;
-      batches = batch_records (map batch_shape checked.batches) results.now.batches;
+      batches = batch_records checked.batches results.now.batches;
     }) }
 {
     let batches = batch_records(alloc, checked.batches.as_slice(), results)?;
@@ -112,8 +112,8 @@ pub(crate) fn run<H: NodeHasher, R: Station>(
     desks: &mut [Desk<R>],
 ) -> Result<New, Stop>
     requires known { IsSome (state_at state.now before) }
-    requires plan { map batch_shape plan.batches ≡ map batch_shape checked.batches }
-    requires counted { transactions_in (map batch_shape plan.batches) < 2 ^ 32 }
+    requires plan { plan.batches ≡ checked.batches }
+    requires counted { transactions_in plan.batches < 2 ^ 32 }
     requires few { length checked.batches < 2 ^ 32 }
     requires some { 0 < length desks.old }
     requires alike { HaveSameOffers desks.old }
@@ -121,7 +121,8 @@ pub(crate) fn run<H: NodeHasher, R: Station>(
         RunsAs processors H.hash_of state.now before (parts_in checked) result }
     ensures room { IsErrOf result (Stop.Failed JournalFault.Full) → ⊥ }
     ensures desks { KeepsDesks R.faults R.offered desks.old desks.new }
-    ensures cause { IsErrOf result (Stop.Failed JournalFault.PeerFailed) → Failed R.faults desks.old desks.new }
+    ensures cause { IsErrOf result (Stop.Failed JournalFault.PeerFailed)
+        → Failed R.faults desks.old desks.new }
 {
     let results = execute_over(alloc, state, before, plan, desks)?;
     test_results(&results)?;

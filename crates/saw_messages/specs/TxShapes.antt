@@ -1,10 +1,9 @@
--- A transaction by itself: its id, its header with the bytes that it was read from, and its payload.
+-- A transaction by itself: its id, its header with the bytes that it was read from, and its payload. A batch by itself.
 use Rattle.std.specs.Prelude.{ℕ, List, [], Result, Ok, Err}
 use Rattle.saw_wire.specs.declared.fault.MessageFault.{MessageFault}
 use Rattle.saw_messages.specs.Transactions.{transaction_header, transaction_header_of}
 use Rattle.saw_messages.specs.declared.transaction.Transaction.{Transaction}
 use Rattle.saw_messages.specs.declared.transaction.TransactionHeader.{TransactionHeader}
-use Rattle.saw_messages.specs.declared.tx.Tx.{Tx}
 
 pub record TxShape : Type 0 where
   pub id : List ℕ
@@ -12,8 +11,11 @@ pub record TxShape : Type 0 where
   pub header_bytes : List ℕ
   pub payload : List ℕ
 
-abbrev pub shape_of : Tx → TxShape
-shape_of tx = record { id = tx.id; header = tx.header; header_bytes = tx.header_bytes; payload = tx.payload }
+-- a batch by itself
+pub record BatchShape : Type 0 where
+  pub id : List ℕ
+  pub signer : List ℕ
+  pub txs : List TxShape
 
 -- the header that bytes say, and the empty one where they say none
 abbrev pub header_by : Result TransactionHeader MessageFault → TransactionHeader

@@ -58,7 +58,8 @@ impl Action {
 
     /// The request to keep bytes at one address.
     pub fn set(alloc: Global, address: Address, body: Bytes) -> Result<Self, AllocError>
-        ensures { IfOk result (λ action. action ≡ actions.Set (record { place = At address; body = body } ∷ [])) }
+        ensures { IfOk result
+            (λ action. action ≡ actions.Set (record { place = At address; body = body } ∷ [])) }
     {
         let mut entries = Items::new(alloc);
         entries.push(Entry {

@@ -7,6 +7,7 @@ use crate::decoding::decode_transaction_header;
 use crate::transaction::TransactionHeader;
 use saw_wire::{Bytes, Items, MessageFault, Text};
 use std::alloc::Global;
+use std::marker::Model;
 use std::sync::Arc;
 
 /// A transaction whose header has been read from its bytes.
@@ -17,7 +18,19 @@ pub struct Tx {
     pub header: TransactionHeader,
     pub header_bytes: Bytes,
     pub payload: Bytes,
-    ghost read: { transaction_header header_bytes ≡ Ok header },
+}
+
+impl Model for Tx {
+    ghost use Rattle.std.specs.Prelude.{◌≡◌, Ok};
+    ghost use Rattle.saw_messages.specs.Transactions.{transaction_header};
+    ghost use Rattle.saw_messages.specs.TxShapes.{TxShape};
+
+    ghost Value = { TxShape };
+
+    ghost view = { λ tx.
+        record { id = tx.id; header = tx.header; header_bytes = tx.header_bytes; payload = tx.payload } };
+
+    ghost invariant = { λ tx. transaction_header tx.header_bytes ≡ Ok tx.header };
 }
 
 impl Tx {
@@ -28,8 +41,11 @@ impl Tx {
         header_bytes: Bytes,
         payload: Bytes,
     ) -> Result<Self, MessageFault>
-        ensures ok { IfOk result (λ tx. (tx.id ≡ id) × (tx.header_bytes ≡ header_bytes) × (tx.payload ≡ payload)) }
-        ensures err { IfErr result (λ e. (e ≡ MessageFault.OutOfMemory) ⊎ (transaction_header header_bytes ≡ Err e)) }
+        ensures ok { IfOk result
+            (λ tx. (tx.id ≡ id) × (tx.header_bytes ≡ header_bytes) × (tx.payload ≡ payload)) }
+        ensures header { IfOk result (λ tx. transaction_header header_bytes ≡ Ok tx.header) }
+        ensures err { IfErr result
+            (λ e. (e ≡ MessageFault.OutOfMemory) ⊎ (transaction_header header_bytes ≡ Err e)) }
     {
         let header = decode_transaction_header(alloc, header_bytes.as_slice())?;
         Ok(Tx {
@@ -49,4 +65,14 @@ pub struct TxBatch {
     /// The key of its signer.
     pub signer: Text,
     pub txs: Items<Arc<Tx>>,
+}
+
+impl Model for TxBatch {
+    ghost use Rattle.std.specs.Arc.{arc_value};
+    ghost use Rattle.std.specs.Prelude.{map};
+    ghost use Rattle.saw_messages.specs.TxShapes.{BatchShape};
+
+    ghost Value = { BatchShape };
+
+    ghost view = { λ batch. record { id = batch.id; signer = batch.signer; txs = map arc_value batch.txs } };
 }

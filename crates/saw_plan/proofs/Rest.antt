@@ -1,15 +1,10 @@
 -- The batches that are sorted, and the rest of the list.
-use Rattle.std.proofs.Common.{◌≡◌, ℕ, zero, suc, ◌+◌, ◌<◌, ◌≤◌, List, [], ◌∷◌, ◌++◌, length, map, drop, get_or, Some, None, Option, refl, sym, ap}
+use Rattle.std.proofs.Common.{◌≡◌, ℕ, zero, suc, ◌+◌, ◌<◌, ◌≤◌, List, [], ◌∷◌, ◌++◌, length, drop, get_or, Some, None, Option, refl, sym}
 use Rattle.std.proofs.Common.{subst, ◌∙◌, arith}
-use Rattle.std.proofs.lemmas.List.{append_assoc, append-nil, drop_more, drop_all, length-map}
+use Rattle.std.proofs.lemmas.List.{append_assoc, append-nil, drop_more, drop_all}
 use Rattle.std.proofs.lemmas.List.Sums.{sum_by-cons}
-use Rattle.std.specs.Arc.{arc_value}
-use Rattle.std.specs.Global.{Global}
-use Rattle.std.specs.declared.sync.Arc.{Arc}
-use Rattle.saw_messages.specs.TxShapes.{shape_of}
-use Rattle.saw_messages.specs.declared.tx.Tx.{Tx}
-use Rattle.saw_messages.specs.declared.tx.TxBatch.{TxBatch}
-use Rattle.saw_plan.specs.BatchShapes.{BatchShape, batch_shape, ids_of, transactions_in}
+use Rattle.saw_messages.specs.TxShapes.{BatchShape}
+use Rattle.saw_plan.specs.BatchShapes.{ids_of, transactions_in}
 use Rattle.saw_plan.specs.Sorting.{kept_by, places_by, dropped_by, IsSorted}
 use Rattle.saw_plan.specs.StaticRules.{Ids, batch_cause, after_batch, causes}
 use Rattle.saw_plan.specs.SortingSteps.{Sorting, sorting_of, both, with_batch}
@@ -55,18 +50,16 @@ step there now place batch rest all sorting so_far =
       dropped = dropped_more place batch others sorting cause ∙ so_far.dropped;
     }
 
-pub goes_on : (there more : Ids) (batches : List TxBatch) (place : ℕ) (batch : TxBatch) → place < length batches → batch ≡ get_or batches place batch
-    → (sorting new : Sorting) → new ≡ with_batch (batch_cause (both there more) (batch_shape batch)) place (batch_shape batch) sorting
-    → GoesOn there (both there more) place (map batch_shape (drop place batches)) (map batch_shape batches) sorting
-    → GoesOn there (both there (after_batch (batch_cause (both there more) (batch_shape batch)) more (batch_shape batch))) (place + 1)
-    (map batch_shape (drop (place + 1) batches)) (map batch_shape batches) new
+pub goes_on : (there more : Ids) (batches : List BatchShape) (place : ℕ) (batch : BatchShape) → place < length batches → batch ≡ get_or batches place batch
+    → (sorting new : Sorting) → new ≡ with_batch (batch_cause (both there more) batch) place batch sorting
+    → GoesOn there (both there more) place (drop place batches) batches sorting
+    → GoesOn there (both there (after_batch (batch_cause (both there more) batch) more batch)) (place + 1)
+    (drop (place + 1) batches) batches new
 goes_on there more batches place batch below here sorting new is so_far =
-    let shape = batch_shape batch in
-    let cut : map batch_shape (drop place batches) ≡ shape ∷ map batch_shape (drop (place + 1) batches) =
-    rw (drop_more batches place batch below, ← here) refl in
-    rw (is, both_after (batch_cause (both there more) shape) there more shape)
-    (step there (both there more) place shape (map batch_shape (drop (place + 1) batches)) (map batch_shape batches) sorting
-    (subst (λ (rest : List BatchShape). GoesOn there (both there more) place rest (map batch_shape batches) sorting) cut so_far))
+    let cut : drop place batches ≡ batch ∷ drop (place + 1) batches = rw (drop_more batches place batch below, ← here) refl in
+    rw (is, both_after (batch_cause (both there more) batch) there more batch)
+    (step there (both there more) place batch (drop (place + 1) batches) batches sorting
+    (subst (λ (rest : List BatchShape). GoesOn there (both there more) place rest batches sorting) cut so_far))
 
 -- nothing is sorted, and all is left
 pub begins : (there : Ids) (all : List BatchShape) (sorting : Sorting) → sorting ≡ record { plan = []; places = []; dropped = [] }
@@ -75,12 +68,12 @@ begins there all sorting is =
     rw (is, append-nil there.batches, append-nil there.transactions) (record { plan = refl; places = refl; dropped = refl })
 
 -- nothing is left
-pub ends : (there now : Ids) (place : ℕ) (batches : List TxBatch) (sorted : Sorted) → length batches ≤ place
-    → GoesOn there now place (map batch_shape (drop place batches)) (map batch_shape batches) (sorting_of sorted)
-    → IsSorted there (map batch_shape batches) sorted
+pub ends : (there now : Ids) (place : ℕ) (batches : List BatchShape) (sorted : Sorted) → length batches ≤ place
+    → GoesOn there now place (drop place batches) batches (sorting_of sorted)
+    → IsSorted there batches sorted
 ends there now place batches sorted over so_far =
-    let none = ap (map batch_shape) (drop_all place batches over) in
-    let all = subst (λ (rest : List BatchShape). GoesOn there now place rest (map batch_shape batches) (sorting_of sorted)) none so_far in
+    let none = drop_all place batches over in
+    let all = subst (λ (rest : List BatchShape). GoesOn there now place rest batches (sorting_of sorted)) none so_far in
     record {
       plan = sym (append-nil (sorting_of sorted).plan) ∙ all.plan;
       places = sym (append-nil (sorting_of sorted).places) ∙ all.places;
@@ -88,22 +81,19 @@ ends there now place batches sorted over so_far =
     }
 
 -- a batch has no more transactions than all have
-few_at : (batches : List TxBatch) (place : ℕ) (d : TxBatch) → place < length batches
-    → length (get_or batches place d).txs ≤ transactions_in (map batch_shape batches)
+few_at : (batches : List BatchShape) (place : ℕ) (d : BatchShape) → place < length batches
+    → length (get_or batches place d).txs ≤ transactions_in batches
 few_at [] place d below = absurd (omega arith)
 few_at (first ∷ batches) zero d below = omega (
   arith,
-  sum_by-cons (λ (b : BatchShape). length b.txs) (batch_shape first)
-      (map batch_shape batches),
-  length-map first.txs (λ (tx : Arc Tx Global). shape_of (arc_value tx)),
+  sum_by-cons (λ (b : BatchShape). length b.txs) first batches,
 )
 few_at (first ∷ batches) (suc place) d below = omega (
   arith,
-  sum_by-cons (λ (b : BatchShape). length b.txs) (batch_shape first)
-      (map batch_shape batches),
+  sum_by-cons (λ (b : BatchShape). length b.txs) first batches,
   few_at batches place d (omega arith),
 )
 
-pub few : (batches : List TxBatch) (place : ℕ) (batch : TxBatch) → place < length batches → batch ≡ get_or batches place batch
-    → length batch.txs ≤ transactions_in (map batch_shape batches)
+pub few : (batches : List BatchShape) (place : ℕ) (batch : BatchShape) → place < length batches → batch ≡ get_or batches place batch
+    → length batch.txs ≤ transactions_in batches
 few batches place batch below here = rw here (few_at batches place batch below)

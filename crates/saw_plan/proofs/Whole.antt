@@ -1,6 +1,6 @@
 -- A list of which no batch is dropped.
 use Rattle.std.proofs.Common.{◌≡◌, ℕ, ◌+◌, List, [], ◌∷◌, Option, Some, None, refl, ap}
-use Rattle.saw_plan.specs.BatchShapes.{BatchShape}
+use Rattle.saw_messages.specs.TxShapes.{BatchShape}
 use Rattle.saw_plan.specs.Sorting.{kept_by, dropped_by}
 use Rattle.saw_plan.specs.StaticRules.{Ids, batch_cause, after_batch, causes}
 use Rattle.saw_plan.specs.declared.sorted.DropCause.{DropCause}

@@ -1,6 +1,6 @@
 -- What is true of the static rules.
 use Rattle.std.specs.Prelude.{◌≡◌, List, []}
-use Rattle.saw_plan.specs.BatchShapes.{BatchShape}
+use Rattle.saw_messages.specs.TxShapes.{BatchShape}
 use Rattle.saw_plan.specs.StaticRules.{Ids, causes}
 use Rattle.saw_plan.specs.Sorting.{kept_by, dropped_by}
 

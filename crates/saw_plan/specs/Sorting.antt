@@ -1,6 +1,6 @@
 -- The kept and the dropped batches of a list.
-use Rattle.std.specs.Prelude.{◌≡◌, ℕ, ◌+◌, List, [], ◌∷◌, map, Option, Some, None}
-use Rattle.saw_plan.specs.BatchShapes.{BatchShape, batch_shape}
+use Rattle.std.specs.Prelude.{◌≡◌, ℕ, ◌+◌, List, [], ◌∷◌, Option, Some, None}
+use Rattle.saw_messages.specs.TxShapes.{BatchShape}
 use Rattle.saw_plan.specs.StaticRules.{Ids, causes}
 use Rattle.saw_plan.specs.declared.sorted.DropCause.{DropCause}
 use Rattle.saw_plan.specs.declared.sorted.Dropped.{Dropped}
@@ -27,6 +27,6 @@ dropped_by place (Some cause ∷ causes) = record { place = place; cause = cause
 
 -- what the static rules make of batches
 pub record IsSorted (there : Ids) (batches : List BatchShape) (sorted : Sorted) : Type 0 where
-  pub plan : map batch_shape sorted.plan.batches ≡ kept_by (causes there batches) batches
+  pub plan : sorted.plan.batches ≡ kept_by (causes there batches) batches
   pub places : sorted.places ≡ places_by 0 (causes there batches)
   pub dropped : sorted.dropped ≡ dropped_by 0 (causes there batches)

@@ -1,6 +1,6 @@
 -- The batches one after another.
-use Rattle.std.specs.Prelude.{ℕ, List, [], ◌∷◌, ◌++◌, map, Option, Some, None}
-use Rattle.saw_plan.specs.BatchShapes.{BatchShape, batch_shape}
+use Rattle.std.specs.Prelude.{ℕ, List, [], ◌∷◌, ◌++◌, Option, Some, None}
+use Rattle.saw_messages.specs.TxShapes.{BatchShape}
 use Rattle.saw_plan.specs.StaticRules.{Ids}
 use Rattle.saw_plan.specs.declared.sorted.DropCause.{DropCause}
 use Rattle.saw_plan.specs.declared.sorted.Dropped.{Dropped}
@@ -17,7 +17,7 @@ pub record Sorting : Type 0 where
   pub dropped : List Dropped
 
 abbrev pub sorting_of : Sorted → Sorting
-sorting_of sorted = record { plan = map batch_shape sorted.plan.batches; places = sorted.places; dropped = sorted.dropped }
+sorting_of sorted = record { plan = sorted.plan.batches; places = sorted.places; dropped = sorted.dropped }
 
 -- a sorting with one more batch that is kept
 abbrev pub with_kept : ℕ → BatchShape → Sorting → Sorting

@@ -2,8 +2,8 @@
 use Rattle.std.specs.Prelude.{ℕ, ◌+◌, List, [], ◌∷◌, ◌++◌, Option, Some, None, option_map, if◌then◌else◌}
 use Rattle.std.specs.Option.{option_or}
 use Rattle.saw_ids.specs.Seen.{is_among, HoldsIds}
-use Rattle.saw_messages.specs.TxShapes.{TxShape}
-use Rattle.saw_plan.specs.BatchShapes.{BatchShape, ids_of}
+use Rattle.saw_messages.specs.TxShapes.{BatchShape, TxShape}
+use Rattle.saw_plan.specs.BatchShapes.{ids_of}
 use Rattle.saw_plan.specs.declared.known.Known.{Known}
 use Rattle.saw_plan.specs.declared.sorted.DropCause.{DropCause}
 use Rattle.saw_plan.specs.declared.sorted.DropCause.TheVariants.{DuplicateBatch, DuplicateTransaction, MissingDependency}

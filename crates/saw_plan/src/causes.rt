@@ -2,8 +2,7 @@
 
 ghost use Rattle.std.specs.Prelude.{◌≡◌, ◌<◌, ◌^◌, ◌++◌, [], ℕ, List, length, IfOk};
 ghost use Rattle.saw_ids.specs.Seen.{HoldsIds, is_among};
-ghost use Rattle.saw_messages.specs.TxShapes.{shape_of};
-ghost use Rattle.saw_plan.specs.BatchShapes.{batch_shape, shapes_of};
+ghost use Rattle.saw_plan.specs.BatchShapes.{shapes_of};
 ghost use Rattle.saw_plan.specs.StaticRules.{Ids, Knows, first_missing, tx_cause, txs_cause, batch_cause};
 ghost use Rattle.saw_plan.specs.SortingSteps.{both};
 
@@ -18,20 +17,23 @@ use std::sync::Arc;
 
 // What is there is what is known and what the kept batches added: two sets, since there may be very many known ids.
 fn is_batch_there(known: &Known, kept: &Known, id: &Text) -> bool
-    ensures { (there more : Ids) → Knows known.now there → Knows kept.now more → result ≡ is_among (both there more).batches id.now }
+    ensures { (there more : Ids) → Knows known.now there → Knows kept.now more → result
+        ≡ is_among (both there more).batches id.now }
 {
     has_id(&known.batches, id) || has_id(&kept.batches, id)
 }
 
 fn is_tx_there(known: &Known, kept: &Known, id: &Text) -> bool
-    ensures { (there more : Ids) → Knows known.now there → Knows kept.now more → result ≡ is_among (both there more).transactions id.now }
+    ensures { (there more : Ids) → Knows known.now there → Knows kept.now more → result
+        ≡ is_among (both there more).transactions id.now }
 {
     has_id(&known.transactions, id) || has_id(&kept.transactions, id)
 }
 
 // Whether a dependency is there or earlier in the batch.
 fn is_met(known: &Known, kept: &Known, earlier: &BTreeSet<Text>, dependency: &Text) -> bool
-    ensures { (there more : Ids) (before : List (List ℕ)) → Knows known.now there → Knows kept.now more → HoldsIds earlier.now before
+    ensures { (there more : Ids) (before : List (List ℕ)) → Knows known.now there → Knows kept.now more
+        → HoldsIds earlier.now before
         → result ≡ is_among ((both there more).transactions ++ before) dependency.now }
 {
     is_tx_there(known, kept, dependency) || has_id(earlier, dependency)
@@ -44,7 +46,9 @@ fn first_missing(
     earlier: &BTreeSet<Text>,
     dependencies: &[Text],
 ) -> Result<Option<Text>, AllocError>
-    ensures { IfOk result (λ missing. (there more : Ids) (before : List (List ℕ)) → Knows known.now there → Knows kept.now more → HoldsIds earlier.now before
+    ensures { IfOk result
+        (λ missing. (there more : Ids) (before : List (List ℕ)) → Knows known.now there → Knows kept.now more
+        → HoldsIds earlier.now before
         → missing ≡ first_missing ((both there more).transactions ++ before) dependencies.now) }
 {
     for dependency in dependencies {
@@ -63,8 +67,10 @@ fn tx_cause(
     t: u32,
     tx: &Tx,
 ) -> Result<Option<DropCause>, AllocError>
-    ensures { IfOk result (λ cause. (there more : Ids) (before : List (List ℕ)) → Knows known.now there → Knows kept.now more → HoldsIds earlier.now before
-        → cause ≡ tx_cause (both there more).transactions before t (shape_of tx.now)) }
+    ensures { IfOk result
+        (λ cause. (there more : Ids) (before : List (List ℕ)) → Knows known.now there → Knows kept.now more
+        → HoldsIds earlier.now before
+        → cause ≡ tx_cause (both there more).transactions before t tx.now) }
 {
     if is_tx_there(known, kept, &tx.id) {
         return Ok(Some(DropCause::DuplicateTransaction { t }));
@@ -111,7 +117,7 @@ pub(crate) fn batch_cause(
 ) -> Result<Option<DropCause>, AllocError>
     requires { length batch.now.txs < 2 ^ 32 }
     ensures { IfOk result (λ cause. (there more : Ids) → Knows known.now there → Knows kept.now more
-        → cause ≡ batch_cause (both there more) (batch_shape batch.now)) }
+        → cause ≡ batch_cause (both there more) batch.now) }
 {
     if is_batch_there(known, kept, &batch.id) {
         return Ok(Some(DropCause::DuplicateBatch));

@@ -1,8 +1,8 @@
 //! The static rules, batch by batch.
 
-ghost use Rattle.std.specs.Prelude.{◌≡◌, ◌<◌, ◌^◌, ◌++◌, ℕ, List, None, length, map, IfOk, OnOk};
+ghost use Rattle.std.specs.Prelude.{◌≡◌, ◌<◌, ◌^◌, ◌++◌, ℕ, List, None, length, IfOk, OnOk};
 ghost use Rattle.saw_ids.specs.Seen.{HoldsIds};
-ghost use Rattle.saw_plan.specs.BatchShapes.{batch_shape, shapes_of, ids_of, transactions_in};
+ghost use Rattle.saw_plan.specs.BatchShapes.{shapes_of, ids_of, transactions_in};
 ghost use Rattle.saw_plan.specs.Sorting.{IsSorted};
 ghost use Rattle.saw_plan.specs.SortingSteps.{both, sorting_of, with_batch};
 ghost use Rattle.saw_plan.specs.StaticRules.{Ids, Knows, batch_cause, after_batch};
@@ -19,7 +19,9 @@ use std::collections::BTreeSet;
 use std::sync::Arc;
 
 fn add_txs(seen: &mut BTreeSet<Text>, alloc: Global, txs: &[Arc<Tx>]) -> Result<(), AllocError>
-    ensures { OnOk result ((ids : List (List ℕ)) → HoldsIds seen.old ids → HoldsIds seen.new (ids ++ ids_of (shapes_of txs.now))) }
+    ensures { OnOk result
+        ((ids : List (List ℕ)) → HoldsIds seen.old ids
+        → HoldsIds seen.new (ids ++ ids_of (shapes_of txs.now))) }
 {
     for tx in txs {
         add_id(seen, alloc, &tx.id)?;
@@ -29,7 +31,8 @@ fn add_txs(seen: &mut BTreeSet<Text>, alloc: Global, txs: &[Arc<Tx>]) -> Result<
 
 // Adds the ids of a kept batch and of its transactions.
 fn add_batch(kept: &mut Known, alloc: Global, batch: &TxBatch) -> Result<(), AllocError>
-    ensures { OnOk result ((more : Ids) → Knows kept.old more → Knows kept.new (after_batch None more (batch_shape batch.now))) }
+    ensures { OnOk result
+        ((more : Ids) → Knows kept.old more → Knows kept.new (after_batch None more batch.now)) }
 {
     add_id(&mut kept.batches, alloc, &batch.id)?;
     add_txs(&mut kept.transactions, alloc, batch.txs.as_slice())
@@ -46,9 +49,9 @@ fn sort_next(
 ) -> Result<(), AllocError>
     requires { length batch.now.txs < 2 ^ 32 }
     ensures ids { OnOk result ((there more : Ids) → Knows known.now there → Knows kept.old more
-        → Knows kept.new (after_batch (batch_cause (both there more) (batch_shape batch.now)) more (batch_shape batch.now))) }
+        → Knows kept.new (after_batch (batch_cause (both there more) batch.now) more batch.now)) }
     ensures sorting { OnOk result ((there more : Ids) → Knows known.now there → Knows kept.old more
-        → sorting_of sorted.new ≡ with_batch (batch_cause (both there more) (batch_shape batch.now)) place (batch_shape batch.now) (sorting_of sorted.old)) }
+        → sorting_of sorted.new ≡ with_batch (batch_cause (both there more) batch.now) place batch.now (sorting_of sorted.old)) }
 {
     match batch_cause(alloc, known, kept, batch)? {
         None => {
@@ -63,8 +66,9 @@ fn sort_next(
 /// or that of one of its transactions is there already, or where a dependency is neither there nor earlier in the batch.
 pub fn precheck(alloc: Global, known: &Known, batches: &[TxBatch]) -> Result<Sorted, AllocError>
     requires batches { length batches.now < 2 ^ 32 }
-    requires transactions { transactions_in (map batch_shape batches.now) < 2 ^ 32 }
-    ensures { IfOk result (λ sorted. (there : Ids) → Knows known.now there → IsSorted there (map batch_shape batches.now) sorted) }
+    requires transactions { transactions_in batches.now < 2 ^ 32 }
+    ensures { IfOk result
+        (λ sorted. (there : Ids) → Knows known.now there → IsSorted there batches.now sorted) }
 {
     let mut kept = Known::new(alloc);
     let mut sorted = Sorted::new(alloc);

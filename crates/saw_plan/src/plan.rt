@@ -1,7 +1,7 @@
 //! The batches that are to be run.
 
 ghost use Rattle.std.specs.Prelude.{◌≡◌, IfOk};
-ghost use Rattle.saw_plan.specs.BatchShapes.{batch_shape, shapes_of};
+ghost use Rattle.saw_plan.specs.BatchShapes.{shapes_of};
 
 use saw_messages::{Tx, TxBatch};
 use saw_wire::Items;
@@ -26,7 +26,7 @@ fn copy_txs(alloc: Global, txs: &[Arc<Tx>]) -> Result<Items<Arc<Tx>>, AllocError
 
 /// A batch with the same transactions, which are shared and not copied.
 pub(crate) fn copy_batch(alloc: Global, batch: &TxBatch) -> Result<TxBatch, AllocError>
-    ensures { IfOk result (λ copy. batch_shape copy ≡ batch_shape batch.now) }
+    ensures { IfOk result (λ copy. copy ≡ batch.now) }
 {
     Ok(TxBatch {
         id: batch.id.try_clone(alloc)?,

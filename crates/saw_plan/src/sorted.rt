@@ -1,7 +1,6 @@
 //! What becomes of a list of batches by the static rules.
 
 ghost use Rattle.std.specs.Prelude.{◌≡◌, [], OnOk};
-ghost use Rattle.saw_plan.specs.BatchShapes.{batch_shape};
 ghost use Rattle.saw_plan.specs.SortingSteps.{sorting_of, with_kept, with_dropped};
 
 use crate::plan::Plan;
@@ -51,7 +50,7 @@ impl Sorted {
 
     /// Adds a batch that is kept.
     pub(crate) fn keep(&mut self, place: u32, batch: TxBatch) -> Result<(), AllocError>
-        ensures { OnOk result (sorting_of self.new ≡ with_kept place (batch_shape batch) (sorting_of self.old)) }
+        ensures { OnOk result (sorting_of self.new ≡ with_kept place batch (sorting_of self.old)) }
     {
         self.plan.batches.push(batch)?;
         self.places.push(place)

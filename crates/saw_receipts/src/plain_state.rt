@@ -136,7 +136,9 @@ impl<H: NodeHasher> State<H> {
         requires known { IsSome (state_at self.now root.now) }
         requires rising { AreRising changes.now }
         requires workers { 1 ≤ _workers }
-        ensures { IfOk result (λ answer. IfSome (state_at self.now root.now) (λ m. answer ≡ root_of_map H.hash_of (map_after m changes.now))) }
+        ensures { IfOk result
+            (λ answer. IfSome (state_at self.now root.now)
+            (λ m. answer ≡ root_of_map H.hash_of (map_after m changes.now))) }
     {
         let after = self.after(root, changes)?;
         let answer = root_by::<H>(self.alloc, &after)?;
@@ -206,7 +208,9 @@ impl<'a, H: NodeHasher> Base for Tree<'a, H> {
 impl<'a, H: NodeHasher> Tree<'a, H> {
     /// The entries whose addresses the prefix covers, in address order.
     pub fn list(&self, prefix: &Prefix) -> Result<Vec<Listed>, AllocError>
-        ensures { IfOk result (λ listed. map listed_as listed.items ≡ filter (λ entry. covers prefix.now entry.0) (finite.entries self.now)) }
+        ensures { IfOk result
+            (λ listed. map listed_as listed.items
+            ≡ filter (λ entry. covers prefix.now entry.0) (finite.entries self.now)) }
     {
         let mut listed = Vec::new(self.alloc);
         for (address, value) in self.map {

@@ -1,7 +1,7 @@
 //! Receipts of transactions.
 
 ghost use Rattle.std.specs.Prelude.{◌≡◌, map, IfOk};
-ghost use Rattle.saw_plan.specs.BatchShapes.{ids_of, shapes_of};
+ghost use Rattle.saw_plan.specs.BatchShapes.{ids_of};
 ghost use Rattle.saw_receipts.specs.Receipts.{told, receipt, receipts};
 
 use saw_messages::{Change, Event, Outcome, Receipt, StateChange, TxBatch};
@@ -76,7 +76,7 @@ pub fn batch_receipts(
     batch: &TxBatch,
     outcomes: &[Outcome],
 ) -> Result<Vec<Receipt>, AllocError>
-    ensures { IfOk result (λ made. made.items ≡ receipts (ids_of (shapes_of batch.now.txs)) outcomes.now) }
+    ensures { IfOk result (λ made. made.items ≡ receipts (ids_of batch.now.txs) outcomes.now) }
 {
     let mut made = Vec::new(alloc);
     for (tx, outcome) in batch.txs.as_slice().iter().zip(outcomes) {

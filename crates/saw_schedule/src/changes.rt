@@ -13,7 +13,9 @@ use saw_wire::Items;
 use std::alloc::{AllocError, Global};
 
 fn gather(gathered: &mut Overlay, alloc: Global, outcome: &Outcome) -> Result<(), AllocError>
-    ensures { OnOk result ((m : StateMap) → map_after m (changes_of gathered.new) ≡ map_after_all (map_after m (changes_of gathered.old)) (outcome.now ∷ [])) }
+    ensures { OnOk result
+        ((m : StateMap) → map_after m (changes_of gathered.new)
+        ≡ map_after_all (map_after m (changes_of gathered.old)) (outcome.now ∷ [])) }
 {
     match outcome {
         Outcome::Ok { changes, events: _ } => gathered.change_all(alloc, changes.as_slice()),
@@ -26,7 +28,9 @@ fn gather_outcomes(
     alloc: Global,
     outcomes: &[Outcome],
 ) -> Result<(), AllocError>
-    ensures { OnOk result ((m : StateMap) → map_after m (changes_of gathered.new) ≡ map_after_all (map_after m (changes_of gathered.old)) outcomes.now) }
+    ensures { OnOk result
+        ((m : StateMap) → map_after m (changes_of gathered.new)
+        ≡ map_after_all (map_after m (changes_of gathered.old)) outcomes.now) }
 {
     for outcome in outcomes {
         gather(gathered, alloc, outcome)?;
@@ -39,7 +43,9 @@ fn gather_batch(
     alloc: Global,
     batch: &BatchResult,
 ) -> Result<(), AllocError>
-    ensures { OnOk result ((m : StateMap) → map_after m (changes_of gathered.new) ≡ left_by (map_after m (changes_of gathered.old)) batch.now) }
+    ensures { OnOk result
+        ((m : StateMap) → map_after m (changes_of gathered.new)
+        ≡ left_by (map_after m (changes_of gathered.old)) batch.now) }
 {
     match batch {
         BatchResult::Applied { outcomes } => gather_outcomes(gathered, alloc, outcomes.as_slice()),
@@ -50,7 +56,8 @@ fn gather_batch(
 impl Results {
     /// The changes of the applied batches together, in address order.
     pub fn changes(&self, alloc: Global) -> Result<Items<Change>, AllocError>
-        ensures left { IfOk result (λ changes. (m : StateMap) → map_after m changes ≡ left_after m self.now.batches) }
+        ensures left { IfOk result
+            (λ changes. (m : StateMap) → map_after m changes ≡ left_after m self.now.batches) }
         ensures rising { IfOk result AreRising }
     {
         let mut gathered = Overlay::new(alloc);

@@ -4,7 +4,7 @@ use Rattle.std.specs.Arc.{arc_value}
 use Rattle.std.specs.Prelude.{is_some}
 use Rattle.saw_address.specs.Maps.{StateMap}
 use Rattle.saw_messages.specs.Reasons.{has_own_reason, is_own_reason}
-use Rattle.saw_messages.specs.TxShapes.{TxShape, shape_of}
+use Rattle.saw_messages.specs.TxShapes.{TxShape}
 use Rattle.saw_messages.specs.declared.outcome.Change.{Change}
 use Rattle.saw_messages.specs.declared.outcome.Outcome.{Outcome}
 use Rattle.saw_messages.specs.declared.outcome.Outcome.TheVariants as outcomes
@@ -90,12 +90,12 @@ module _ (next : TxShape → List Turn → Action) (own : (tx : TxShape) (turns 
     -- a result by a conversation
     result_by_talk : (job : Job) (by : Served) (spoken : Spoken) (done : Done) → are_declared (arc_value job.tx).header ≡ true
         → Some by ≡ serving offers (arc_value job.tx).header.family_name (arc_value job.tx).header.family_version → job.dependency_failed ≡ false
-        → IsSpoken (tells_by tells (Some by)) (λ turns. next_by next (shape_of (arc_value job.tx)) turns (Some by)) (arc_value job.tx).header base
+        → IsSpoken (tells_by tells (Some by)) (λ turns. next_by next (arc_value job.tx) turns (Some by)) (arc_value job.tx).header base
         (layers_of (arc_value job.view))
         spoken.talk.turns spoken.last spoken.done.changes spoken.done.events spoken.done.reads
         → IsTalk job spoken done → IsResult (processors_at next tells offers) base job done
     result_by_talk job by spoken done declared serves none_failed is talk =
-        let tx : TxShape = shape_of (arc_value job.tx) in
+        let tx : TxShape = arc_value job.tx in
         let processors : Processors = processors_at next tells offers in
         let outcome : Outcome = outcome_at spoken.last spoken.done.changes spoken.done.events in
         let conversed = spoken_conversed tx by (layers_of (arc_value job.view)) spoken.talk.turns spoken.last spoken.done.changes spoken.done.events
@@ -120,19 +120,19 @@ module _ (next : TxShape → List Turn → Action) (own : (tx : TxShape) (turns 
         → layers ≡ layers_of (arc_value job.view)
         → are_declared (arc_value job.tx).header ≡ true → Some by ≡ serving offers (arc_value job.tx).header.family_name
         (arc_value job.tx).header.family_version → job.dependency_failed ≡ false
-        → IsSpoken (tells_by tells (Some by)) (λ turns. next_by next (shape_of tx) turns (Some by)) tx.header base layers spoken.talk.turns
+        → IsSpoken (tells_by tells (Some by)) (λ turns. next_by next tx turns (Some by)) tx.header base layers spoken.talk.turns
         spoken.last spoken.done.changes spoken.done.events spoken.done.reads
         → IsTalk job spoken done → IsResult (processors_at next tells offers) base job done
     talk_result job by spoken done tx layers tx_is layers_is declared serves none_failed is talk =
         result_by_talk job by spoken done declared serves none_failed
         (subst
-        (λ (t : Tx). IsSpoken (tells_by tells (Some by)) (λ turns. next_by next (shape_of t) turns (Some by)) t.header base
+        (λ (t : Tx). IsSpoken (tells_by tells (Some by)) (λ turns. next_by next t turns (Some by)) t.header base
         (layers_of (arc_value job.view)) spoken.talk.turns spoken.last spoken.done.changes spoken.done.events
         spoken.done.reads)
         tx_is
         (subst
         (λ (l : Layers). IsSpoken (tells_by tells (Some by))
-        (λ turns. next_by next (shape_of tx) turns (Some by)) tx.header base l spoken.talk.turns spoken.last spoken.done.changes
+        (λ turns. next_by next tx turns (Some by)) tx.header base l spoken.talk.turns spoken.last spoken.done.changes
         spoken.done.events spoken.done.reads)
         layers_is is))
         talk
@@ -141,19 +141,19 @@ module _ (next : TxShape → List Turn → Action) (own : (tx : TxShape) (turns 
 
 -- the outcome may come over the base with the view on top
 outcome_comes : (processors : Processors) (base : StateMap) (job : Job) (done : Done)
-    → ((turns : List Turn) → has_own_reason (processors.next (shape_of (arc_value job.tx)) turns) ≡ true) → IsResult processors base job done
-    → MayCome processors (shape_of (arc_value job.tx)) (over base (layers_of (arc_value job.view))) job.dependency_failed done.outcome
+    → ((turns : List Turn) → has_own_reason (processors.next (arc_value job.tx) turns) ≡ true) → IsResult processors base job done
+    → MayCome processors (arc_value job.tx) (over base (layers_of (arc_value job.view))) job.dependency_failed done.outcome
 outcome_comes processors base job done own is =
-    sound_comes processors (shape_of (arc_value job.tx)) done.talk.turns done.reads done.outcome
+    sound_comes processors (arc_value job.tx) done.talk.turns done.reads done.outcome
     (over base (layers_of (arc_value job.view))) job.dependency_failed own
     (subst (λ tx. IsSound processors tx done.talk.turns done.reads done.outcome) is.agrees.tx is.sound) is.agrees.dependency
     (seen_are_over base (layers_of (arc_value job.view)) done.reads is.agrees.seen is.of_base)
 
 -- the same, of a base that is the context's
 pub outcome_in : (processors : Processors) (access : Access) (header : TransactionHeader) (base : StateMap) (layers : Layers) (job : Job) (done : Done)
-    → ((turns : List Turn) → has_own_reason (processors.next (shape_of (arc_value job.tx)) turns) ≡ true) → access ≡ no_access header base layers
+    → ((turns : List Turn) → has_own_reason (processors.next (arc_value job.tx) turns) ≡ true) → access ≡ no_access header base layers
     → IsResult processors access.base job done
-    → MayCome processors (shape_of (arc_value job.tx)) (over base (layers_of (arc_value job.view))) job.dependency_failed done.outcome
+    → MayCome processors (arc_value job.tx) (over base (layers_of (arc_value job.view))) job.dependency_failed done.outcome
 outcome_in processors access header base layers job done own new is =
     outcome_comes processors base job done own (subst (λ (b : StateMap). IsResult processors b job done) (ap (λ (a : Access). a.base) new) is)
 
@@ -165,11 +165,11 @@ undeclared fault tx its same is (inr bad) = ap (λ (t : Tx). are_declared t.head
 
 -- it is refused before any conversation
 pub undeclared_comes : (processors : Processors) (job : Job) (done : Done) (m : StateMap) (fault : ContextFault) (tx : Tx)
-    → ((turns : List Turn) → has_own_reason (processors.next (shape_of (arc_value job.tx)) turns) ≡ true)
+    → ((turns : List Turn) → has_own_reason (processors.next (arc_value job.tx) turns) ≡ true)
     → tx ≡ arc_value job.tx → fault ≡ faults.BadDeclared → (fault ≡ faults.OutOfMemory) ⊎ ((fault ≡ faults.BadDeclared) × (are_declared tx.header ≡ false))
-    → IsRefusal job BadDeclared done → MayCome processors (shape_of (arc_value job.tx)) m job.dependency_failed done.outcome
+    → IsRefusal job BadDeclared done → MayCome processors (arc_value job.tx) m job.dependency_failed done.outcome
 undeclared_comes processors job done m fault tx own same is why refused = record {
-  next = processors.next (shape_of (arc_value job.tx));
+  next = processors.next (arc_value job.tx);
   answers = record { reasons = own; told = λ told turns. refl };
   decided = rw (undeclared fault tx (arc_value job.tx) same is why) refused.outcome;
 }

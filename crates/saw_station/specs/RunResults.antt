@@ -3,7 +3,6 @@ use Rattle.std.specs.Prelude.{◌≡◌, []}
 use Rattle.std.specs.Arc.{arc_value}
 use Rattle.std.specs.List.{AllByRecursion}
 use Rattle.saw_address.specs.Maps.{StateMap}
-use Rattle.saw_messages.specs.TxShapes.{shape_of}
 use Rattle.saw_messages.specs.declared.outcome.Outcome.TheVariants as outcomes
 use Rattle.saw_messages.specs.declared.outcome.Reason.{Reason}
 use Rattle.saw_context.specs.Outcome.{Processors, outcome_at}
@@ -15,7 +14,7 @@ use Rattle.saw_station.specs.declared.conversation.Spoken.{Spoken}
 -- the job's transaction under its ticket, with no conversation
 pub record IsRefusal (job : Job) (reason : Reason) (done : Done) : Type 0 where
   pub ticket : done.ticket ≡ job.ticket
-  pub tx : shape_of (arc_value done.tx) ≡ shape_of (arc_value job.tx)
+  pub tx : arc_value done.tx ≡ arc_value job.tx
   pub turns : done.talk.turns ≡ []
   pub reads : done.reads ≡ []
   pub outcome : done.outcome ≡ outcomes.Invalid reason
@@ -23,7 +22,7 @@ pub record IsRefusal (job : Job) (reason : Reason) (done : Done) : Type 0 where
 -- the same with a conversation
 pub record IsTalk (job : Job) (spoken : Spoken) (done : Done) : Type 0 where
   pub ticket : done.ticket ≡ job.ticket
-  pub tx : shape_of (arc_value done.tx) ≡ shape_of (arc_value job.tx)
+  pub tx : arc_value done.tx ≡ arc_value job.tx
   pub turns : done.talk.turns ≡ spoken.talk.turns
   pub reads : done.reads ≡ spoken.done.reads
   pub outcome : done.outcome ≡ outcome_at spoken.last spoken.done.changes spoken.done.events

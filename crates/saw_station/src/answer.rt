@@ -17,7 +17,9 @@ pub(crate) fn answer<B: Base>(
     context: &mut Context<'_, B>,
     action: &Action,
 ) -> Result<Reply, AllocError>
-    ensures reply { IfOk result (λ reply. reply ≡ reply_to context.old.header (map_of_access context.old) context.old.own action.now) }
+    ensures reply { IfOk result
+        (λ reply. reply ≡ reply_to context.old.header
+        (map_of_access context.old) context.old.own action.now) }
     ensures ok { OnOk result (context.new ≡ access_after context.old action.now) }
     ensures err { OnErr result (context.new ≡ context.old) }
 {

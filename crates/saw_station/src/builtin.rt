@@ -1,7 +1,6 @@
 //! The built-in processors, as one station.
 
 ghost use Rattle.std.specs.Prelude.{◌≡◌, [], false, true, None, IfOk, OnOk};
-ghost use Rattle.saw_messages.specs.TxShapes.{shape_of};
 ghost use Rattle.saw_station.specs.Serving.{built_in_next, built_in_own};
 ghost use Rattle.saw_station.specs.TalkSteps.{IsShort};
 
@@ -14,7 +13,7 @@ use std::alloc::{AllocError, Global};
 
 /// The next action by the processor of the transaction's family.
 fn next_action(alloc: Global, tx: &Tx, talk: &Transcript) -> Result<Action, AllocError>
-    ensures told { IfOk result (λ action. action ≡ built_in_next (shape_of tx.now) talk.now.turns) }
+    ensures told { IfOk result (λ action. action ≡ built_in_next tx.now talk.now.turns) }
     ensures short { IfOk result IsShort }
 {
     let header = &tx.header;

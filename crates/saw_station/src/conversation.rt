@@ -4,7 +4,6 @@ ghost use Rattle.std.specs.Prelude.{◌≡◌, ◌≤◌, false, true, IfOk, IsE
 ghost use Rattle.saw_context.specs.Access.{no_access};
 ghost use Rattle.saw_context.specs.Outcome.{changes_of, is_request};
 ghost use Rattle.saw_faults.specs.Counts.{Rose};
-ghost use Rattle.saw_messages.specs.TxShapes.{shape_of};
 ghost use Rattle.saw_station.specs.Spoken.{IsSpoken};
 
 use crate::answer::answer;
@@ -49,13 +48,15 @@ pub(crate) fn converse<S: Station, B: Base>(
 ) -> Result<Spoken, StationFault>
     requires begun { S.begun station.old ≡ true }
     requires fresh { context ≡ no_access tx.now.header context.base context.layers }
-    ensures spoken { IfOk result (λ spoken. IsSpoken S.tells (S.next (shape_of tx.now)) tx.now.header context.entry.base context.entry.layers
+    ensures spoken { IfOk result
+        (λ spoken. IsSpoken S.tells (S.next tx.now) tx.now.header context.entry.base context.entry.layers
         spoken.talk.turns spoken.last spoken.done.changes spoken.done.events spoken.done.reads) }
     ensures closed { OnOk result (S.talking station.new ≡ false) }
     ensures begun { S.begun station.new ≡ true }
     ensures offers { S.offered station.new ≡ S.offered station.old }
     ensures later { S.faults station.old ≤ S.faults station.new }
-    ensures cause { IsErrOf result StationFault.PeerFailed → Rose (S.faults station.old) (S.faults station.new) }
+    ensures cause { IsErrOf result StationFault.PeerFailed
+        → Rose (S.faults station.old) (S.faults station.new) }
 {
     let mut talk = Transcript {
         turns: Items::new(alloc),

@@ -9,7 +9,6 @@ ghost use Rattle.saw_context.specs.Possible.{MayCome};
 ghost use Rattle.saw_context.specs.SoundResults.{Agrees, IsOfBase, IsSoundDone};
 ghost use Rattle.saw_context.specs.Views.{layers_of, over};
 ghost use Rattle.saw_faults.specs.Counts.{Rose};
-ghost use Rattle.saw_messages.specs.TxShapes.{shape_of};
 ghost use Rattle.saw_station.specs.DeskPlaces.{faults_by, offered_by, talking_by};
 ghost use Rattle.saw_station.specs.RunResults.{IsRefusal, IsResult, IsTalk};
 ghost use Rattle.saw_station.specs.Serving.{next_by, processors_at, serving, tells_by};
@@ -40,14 +39,15 @@ pub fn run_one<R: Station, B: Base>(
     ensures agrees { IfOk result (Agrees job.now) }
     ensures base { IfOk result (λ done. AllByRecursion (IsOfBase (B.entry base.now)) done.reads) }
     ensures outcome { let processors = processors_at R.next R.tells desk.old.offers in
-        let tx = shape_of (arc_value job.now.tx) in
+        let tx = arc_value job.now.tx in
         IfOk result (λ done. MayCome processors tx
         (over (B.entry base.now) (layers_of (arc_value job.now.view)))
         job.now.dependency_failed done.outcome) }
     ensures offers { desk.new.offers ≡ desk.old.offers }
     ensures own_offers { offered_by R.offered desk.new.remote ≡ offered_by R.offered desk.old.remote }
     ensures remote { is_some desk.new.remote ≡ is_some desk.old.remote }
-    ensures closed { OnOk result (talking_by R.talking desk.old.remote ≡ false → talking_by R.talking desk.new.remote ≡ false) }
+    ensures closed { OnOk result
+        (talking_by R.talking desk.old.remote ≡ false → talking_by R.talking desk.new.remote ≡ false) }
     ensures later { faults_by R.faults desk.old.remote ≤ faults_by R.faults desk.new.remote }
     ensures cause { IsErrOf result StationFault.PeerFailed
         → Rose (faults_by R.faults desk.old.remote) (faults_by R.faults desk.new.remote) }
@@ -66,13 +66,16 @@ fn run_in<R: Station, B: Base>(
     job: &Job,
     context: Context<'_, B>,
 ) -> Result<Done, StationFault>
-    requires fresh { context ≡ no_access (arc_value job.now.tx).header context.base (layers_of (arc_value job.now.view)) }
+    requires fresh { context
+        ≡ no_access (arc_value job.now.tx).header context.base (layers_of (arc_value job.now.view)) }
     requires declared { are_declared (arc_value job.now.tx).header ≡ true }
-    ensures done { IfOk result (IsResult (processors_at R.next R.tells desk.old.offers) context.entry.base job.now) }
+    ensures done { IfOk result
+        (IsResult (processors_at R.next R.tells desk.old.offers) context.entry.base job.now) }
     ensures offers { desk.new.offers ≡ desk.old.offers }
     ensures own_offers { offered_by R.offered desk.new.remote ≡ offered_by R.offered desk.old.remote }
     ensures remote { is_some desk.new.remote ≡ is_some desk.old.remote }
-    ensures closed { OnOk result (talking_by R.talking desk.old.remote ≡ false → talking_by R.talking desk.new.remote ≡ false) }
+    ensures closed { OnOk result
+        (talking_by R.talking desk.old.remote ≡ false → talking_by R.talking desk.new.remote ≡ false) }
     ensures later { faults_by R.faults desk.old.remote ≤ faults_by R.faults desk.new.remote }
     ensures cause { IsErrOf result StationFault.PeerFailed
         → Rose (faults_by R.faults desk.old.remote) (faults_by R.faults desk.new.remote) }
@@ -100,14 +103,18 @@ fn speak<R: Station, B: Base>(
     tx: &Tx,
     context: Context<'_, B>,
 ) -> Result<Spoken, StationFault>
-    requires served { Some served ≡ serving desk.old.offers tx.now.header.family_name tx.now.header.family_version }
+    requires served { Some served
+        ≡ serving desk.old.offers tx.now.header.family_name tx.now.header.family_version }
     requires fresh { context ≡ no_access tx.now.header context.base context.layers }
-    ensures spoken { IfOk result (λ spoken. IsSpoken (tells_by R.tells (Some served)) (λ turns. next_by R.next (shape_of tx.now) turns (Some served)) tx.now.header
+    ensures spoken { IfOk result
+        (λ spoken. IsSpoken (tells_by R.tells (Some served))
+        (λ turns. next_by R.next tx.now turns (Some served)) tx.now.header
         context.entry.base context.entry.layers spoken.talk.turns spoken.last spoken.done.changes spoken.done.events spoken.done.reads) }
     ensures offers { desk.new.offers ≡ desk.old.offers }
     ensures own_offers { offered_by R.offered desk.new.remote ≡ offered_by R.offered desk.old.remote }
     ensures remote { is_some desk.new.remote ≡ is_some desk.old.remote }
-    ensures closed { OnOk result (talking_by R.talking desk.old.remote ≡ false → talking_by R.talking desk.new.remote ≡ false) }
+    ensures closed { OnOk result
+        (talking_by R.talking desk.old.remote ≡ false → talking_by R.talking desk.new.remote ≡ false) }
     ensures later { faults_by R.faults desk.old.remote ≤ faults_by R.faults desk.new.remote }
     ensures cause { IsErrOf result StationFault.PeerFailed
         → Rose (faults_by R.faults desk.old.remote) (faults_by R.faults desk.new.remote) }

@@ -4,7 +4,7 @@ ghost use Rattle.std.specs.Prelude.{◌≡◌, ◌≤◌, ℕ, List, [], Bool, t
 ghost use Rattle.saw_context.specs.Outcome.{is_request};
 ghost use Rattle.saw_faults.specs.Counts.{Rose};
 ghost use Rattle.saw_messages.specs.Reasons.{has_own_reason};
-ghost use Rattle.saw_messages.specs.TxShapes.{TxShape, shape_of};
+ghost use Rattle.saw_messages.specs.TxShapes.{TxShape};
 ghost use Rattle.saw_messages.specs.declared.outcome.Reason.TheVariants.{Remote};
 ghost use Rattle.saw_messages.specs.declared.talk.Action.{Action};
 ghost use Rattle.saw_messages.specs.declared.talk.Action.TheVariants as actions;
@@ -54,11 +54,11 @@ pub trait Station: Send + Drop {
     /// still open.
     fn step(&mut self, alloc: Global, tx: &Tx, talk: &Transcript) -> Result<Action, StationFault>
         requires begun { begun self.old ≡ true }
-        requires follows { MayFollow (last self.old) (shape_of tx.now) talk.now.turns }
-        ensures told { tells ≡ true → IfOk result (λ action. action ≡ next (shape_of tx.now) talk.now.turns) }
+        requires follows { MayFollow (last self.old) tx.now talk.now.turns }
+        ensures told { tells ≡ true → IfOk result (λ action. action ≡ next tx.now talk.now.turns) }
         ensures reason { IfOk result (λ action. has_own_reason action ≡ true) }
         ensures short { IfOk result IsShort }
-        ensures keeps { IfOk result (KeepsStep (last self.new) (shape_of tx.now) talk.now.turns) }
+        ensures keeps { IfOk result (KeepsStep (last self.new) tx.now talk.now.turns) }
         ensures talking { IfOk result (λ action. talking self.new ≡ true → is_request action ≡ true) }
         ensures begun { begun self.new ≡ true }
         ensures offers { offered self.new ≡ offered self.old }
@@ -68,7 +68,7 @@ pub trait Station: Send + Drop {
     /// Ends a conversation that went past its last request. None is open then.
     fn close(&mut self, alloc: Global, tx: &Tx, talk: &Transcript) -> Result<(), StationFault>
         requires begun { begun self.old ≡ true }
-        requires last { IsOfLast (last self.old) (shape_of tx.now) talk.now.turns }
+        requires last { IsOfLast (last self.old) tx.now talk.now.turns }
         ensures closed { OnOk result (talking self.new ≡ false) }
         ensures begun { begun self.new ≡ true }
         ensures offers { offered self.new ≡ offered self.old }

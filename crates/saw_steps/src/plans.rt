@@ -1,7 +1,7 @@
 //! The static rules over a list of batches, and what comes of a plan over the empty map.
 
 ghost use Rattle.std.specs.Prelude.{◌≡◌, ◌<◌, ◌^◌, true, length, map};
-ghost use Rattle.saw_plan.specs.BatchShapes.{batch_shape, transactions_in};
+ghost use Rattle.saw_plan.specs.BatchShapes.{transactions_in};
 
 use crate::families::put_reason;
 use crate::tx::{NO_WORDS, Words, tx_of};
@@ -93,7 +93,7 @@ fn add_batch(alloc: Global, planning: &mut Planning, id: &str) -> anyhow::Result
 /// Whether 32 bits count batches and their transactions.
 fn fits(batches: &[TxBatch]) -> bool
     ensures batches { result ≡ true → length batches.now < 2 ^ 32 }
-    ensures transactions { result ≡ true → transactions_in (map batch_shape batches.now) < 2 ^ 32 }
+    ensures transactions { result ≡ true → transactions_in batches.now < 2 ^ 32 }
 {
     let mut room: usize = 0xffff_ffff;
     for batch in batches {

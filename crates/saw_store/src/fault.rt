@@ -2,13 +2,15 @@
 
 use saw_node::Node;
 use std::alloc::{AllocError, AllocFailed};
+use thiserror::Error;
 
 /// Why a node was not kept.
-#[derive(Drop)]
+#[derive(Debug, Drop, Error)]
 pub enum StoreFault {
     /// A different node of equal hash is kept.
+    #[error("a different node of equal hash is kept")]
     Collision { kept: Node, given: Node },
-    /// There was no memory for the node.
+    #[error("out of memory")]
     OutOfMemory,
 }
 

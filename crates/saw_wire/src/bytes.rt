@@ -7,7 +7,7 @@ use std::cmp::Ordering;
 use std::marker::Model;
 
 /// Bytes, seen as their list.
-#[derive(Drop)]
+#[derive(Debug, Drop)]
 pub struct Bytes {
     held: Vec<u8>,
 }

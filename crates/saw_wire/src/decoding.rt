@@ -11,7 +11,9 @@ use std::alloc::Global;
 
 /// Takes the records of bytes, after those that the message was built from.
 pub fn merge<M: Message>(message: &mut M, alloc: Global, bytes: &[u8]) -> Result<(), MessageFault>
-    ensures ok { OnOk result ((pieces : List Piece) → message.old ≡ M.of pieces → message.new ≡ M.of (pieces ++ pieces_of bytes.now)) }
+    ensures ok { OnOk result
+        ((pieces : List Piece) → message.old ≡ M.of pieces → message.new
+        ≡ M.of (pieces ++ pieces_of bytes.now)) }
     ensures fine { OnOk result (fault_of M.fault bytes.now ≡ None) }
     ensures err { IfErr result (λ e. (e ≡ MessageFault.OutOfMemory) ⊎ (fault_of M.fault bytes.now ≡ Some e)) }
 {

@@ -6,7 +6,7 @@ use std::alloc::{AllocError, Global};
 use std::marker::Model;
 
 /// A list, seen as the list of its elements.
-#[derive(Drop)]
+#[derive(Debug, Drop)]
 pub struct Items<T: Drop> {
     held: Vec<T>,
 }

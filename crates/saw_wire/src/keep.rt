@@ -44,7 +44,8 @@ fn chunk<'a>(field: u32, bytes: &'a [u8], one: &Record) -> Option<&'a [u8]>
 
 /// Keeps the last number of the field.
 pub fn keep_number(kept: &mut u64, field: u32, bytes: &[u8], one: &Record)
-    ensures { (pieces : List Piece) → kept.old ≡ last_number field pieces → kept.new ≡ last_number field (pieces ++ seen bytes.now one.now ∷ []) }
+    ensures { (pieces : List Piece) → kept.old ≡ last_number field pieces → kept.new
+        ≡ last_number field (pieces ++ seen bytes.now one.now ∷ []) }
 {
     if let Some(number) = number(field, one) {
         *kept = number;
@@ -53,7 +54,8 @@ pub fn keep_number(kept: &mut u64, field: u32, bytes: &[u8], one: &Record)
 
 /// Keeps the low 32 bits of the last number of the field.
 pub fn keep_small(kept: &mut u32, field: u32, bytes: &[u8], one: &Record)
-    ensures { (pieces : List Piece) → kept.old ≡ last_small field pieces → kept.new ≡ last_small field (pieces ++ seen bytes.now one.now ∷ []) }
+    ensures { (pieces : List Piece) → kept.old ≡ last_small field pieces → kept.new
+        ≡ last_small field (pieces ++ seen bytes.now one.now ∷ []) }
 {
     if let Some(number) = number(field, one) {
         *kept = (number % 0x1_0000_0000) as u32;
@@ -69,7 +71,9 @@ pub fn keep_all_bytes(
     one: &Record,
 ) -> Result<(), AllocError>
     requires { IsInside bytes.now one.now.value }
-    ensures { OnOk result ((pieces : List Piece) → kept.old ≡ all_bytes field pieces → kept.new ≡ all_bytes field (pieces ++ seen bytes.now one.now ∷ [])) }
+    ensures { OnOk result
+        ((pieces : List Piece) → kept.old ≡ all_bytes field pieces → kept.new
+        ≡ all_bytes field (pieces ++ seen bytes.now one.now ∷ [])) }
 {
     if let Some(found) = chunk(field, bytes, one) {
         kept.push(Bytes::from_slice(alloc, found)?)?;
@@ -79,7 +83,8 @@ pub fn keep_all_bytes(
 
 /// Keeps whether the last number of the field is another than 0.
 pub fn keep_flag(kept: &mut bool, field: u32, bytes: &[u8], one: &Record)
-    ensures { (pieces : List Piece) → kept.old ≡ last_flag field pieces → kept.new ≡ last_flag field (pieces ++ seen bytes.now one.now ∷ []) }
+    ensures { (pieces : List Piece) → kept.old ≡ last_flag field pieces → kept.new
+        ≡ last_flag field (pieces ++ seen bytes.now one.now ∷ []) }
 {
     if let Some(number) = number(field, one) {
         *kept = number != 0;
@@ -95,7 +100,9 @@ pub fn keep_bytes(
     one: &Record,
 ) -> Result<(), AllocError>
     requires { IsInside bytes.now one.now.value }
-    ensures { OnOk result ((pieces : List Piece) → kept.old ≡ last_bytes field pieces → kept.new ≡ last_bytes field (pieces ++ seen bytes.now one.now ∷ [])) }
+    ensures { OnOk result
+        ((pieces : List Piece) → kept.old ≡ last_bytes field pieces → kept.new
+        ≡ last_bytes field (pieces ++ seen bytes.now one.now ∷ [])) }
 {
     if let Some(found) = chunk(field, bytes, one) {
         *kept = Bytes::from_slice(alloc, found)?;
@@ -107,7 +114,8 @@ pub fn keep_bytes(
 #[tactic(auto, unfolding(crate::specs::Fields::text_fault))]
 fn text<'a>(field: u32, bytes: &'a [u8], one: &Record) -> Result<Option<&'a str>, MessageFault>
     requires { IsInside bytes.now one.now.value }
-    ensures some { IfOk result (λ found. IfSome found (λ text. chunk_in field (seen bytes.now one.now) ≡ Some text.now)) }
+    ensures some { IfOk result
+        (λ found. IfSome found (λ text. chunk_in field (seen bytes.now one.now) ≡ Some text.now)) }
     ensures none { IfOk result (λ found. IfNone found (chunk_in field (seen bytes.now one.now) ≡ None)) }
     ensures fine { OnOk result (text_fault field (seen bytes.now one.now) ≡ None) }
     ensures fault { IfErr result (λ e. text_fault field (seen bytes.now one.now) ≡ Some e) }
@@ -130,9 +138,12 @@ pub fn keep_text(
     one: &Record,
 ) -> Result<(), MessageFault>
     requires { IsInside bytes.now one.now.value }
-    ensures ok { OnOk result ((pieces : List Piece) → kept.old ≡ last_bytes field pieces → kept.new ≡ last_bytes field (pieces ++ seen bytes.now one.now ∷ [])) }
+    ensures ok { OnOk result
+        ((pieces : List Piece) → kept.old ≡ last_bytes field pieces → kept.new
+        ≡ last_bytes field (pieces ++ seen bytes.now one.now ∷ [])) }
     ensures fine { OnOk result (text_fault field (seen bytes.now one.now) ≡ None) }
-    ensures err { IfErr result (λ e. (e ≡ MessageFault.OutOfMemory) ⊎ (text_fault field (seen bytes.now one.now) ≡ Some e)) }
+    ensures err { IfErr result
+        (λ e. (e ≡ MessageFault.OutOfMemory) ⊎ (text_fault field (seen bytes.now one.now) ≡ Some e)) }
 {
     if let Some(found) = text(field, bytes, one)? {
         *kept = Text::from_str(alloc, found)?;
@@ -149,9 +160,12 @@ pub fn keep_texts(
     one: &Record,
 ) -> Result<(), MessageFault>
     requires { IsInside bytes.now one.now.value }
-    ensures ok { OnOk result ((pieces : List Piece) → kept.old ≡ all_bytes field pieces → kept.new ≡ all_bytes field (pieces ++ seen bytes.now one.now ∷ [])) }
+    ensures ok { OnOk result
+        ((pieces : List Piece) → kept.old ≡ all_bytes field pieces → kept.new
+        ≡ all_bytes field (pieces ++ seen bytes.now one.now ∷ [])) }
     ensures fine { OnOk result (text_fault field (seen bytes.now one.now) ≡ None) }
-    ensures err { IfErr result (λ e. (e ≡ MessageFault.OutOfMemory) ⊎ (text_fault field (seen bytes.now one.now) ≡ Some e)) }
+    ensures err { IfErr result
+        (λ e. (e ≡ MessageFault.OutOfMemory) ⊎ (text_fault field (seen bytes.now one.now) ≡ Some e)) }
 {
     if let Some(found) = text(field, bytes, one)? {
         kept.push(Text::from_str(alloc, found)?)?;
@@ -168,9 +182,12 @@ pub fn keep_items<M: Message>(
     one: &Record,
 ) -> Result<(), MessageFault>
     requires { IsInside bytes.now one.now.value }
-    ensures ok { OnOk result ((pieces : List Piece) → kept.old ≡ all_items M.of field pieces → kept.new ≡ all_items M.of field (pieces ++ seen bytes.now one.now ∷ [])) }
+    ensures ok { OnOk result
+        ((pieces : List Piece) → kept.old ≡ all_items M.of field pieces → kept.new
+        ≡ all_items M.of field (pieces ++ seen bytes.now one.now ∷ [])) }
     ensures fine { OnOk result (item_fault M.fault field (seen bytes.now one.now) ≡ None) }
-    ensures err { IfErr result (λ e. (e ≡ MessageFault.OutOfMemory) ⊎ (item_fault M.fault field (seen bytes.now one.now) ≡ Some e)) }
+    ensures err { IfErr result
+        (λ e. (e ≡ MessageFault.OutOfMemory) ⊎ (item_fault M.fault field (seen bytes.now one.now) ≡ Some e)) }
 {
     if let Some(found) = chunk(field, bytes, one) {
         let item = decode::<M>(alloc, found)?;
@@ -188,9 +205,12 @@ pub fn keep_message<M: Message>(
     one: &Record,
 ) -> Result<(), MessageFault>
     requires { IsInside bytes.now one.now.value }
-    ensures ok { OnOk result ((pieces : List Piece) → kept.old ≡ M.of (embedded field pieces) → kept.new ≡ M.of (embedded field (pieces ++ seen bytes.now one.now ∷ []))) }
+    ensures ok { OnOk result
+        ((pieces : List Piece) → kept.old ≡ M.of (embedded field pieces) → kept.new
+        ≡ M.of (embedded field (pieces ++ seen bytes.now one.now ∷ []))) }
     ensures fine { OnOk result (item_fault M.fault field (seen bytes.now one.now) ≡ None) }
-    ensures err { IfErr result (λ e. (e ≡ MessageFault.OutOfMemory) ⊎ (item_fault M.fault field (seen bytes.now one.now) ≡ Some e)) }
+    ensures err { IfErr result
+        (λ e. (e ≡ MessageFault.OutOfMemory) ⊎ (item_fault M.fault field (seen bytes.now one.now) ≡ Some e)) }
 {
     if let Some(found) = chunk(field, bytes, one) {
         merge(kept, alloc, found)?;

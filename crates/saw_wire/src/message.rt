@@ -30,7 +30,8 @@ pub trait Message: Sized + Drop {
         ensures ok { OnOk result ((pieces : List Piece) → self.old ≡ of pieces
             → self.new ≡ of (pieces ++ seen bytes.now one.now ∷ [])) }
         ensures fine { OnOk result (fault (seen bytes.now one.now) ≡ None) }
-        ensures err { IfErr result (λ e. (e ≡ MessageFault.OutOfMemory) ⊎ (fault (seen bytes.now one.now) ≡ Some e)) };
+        ensures err { IfErr result
+            (λ e. (e ≡ MessageFault.OutOfMemory) ⊎ (fault (seen bytes.now one.now) ≡ Some e)) };
 
     /// The one written form.
     fn encode(&self, alloc: Global) -> Result<Vec<u8>, AllocError>

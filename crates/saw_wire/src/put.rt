@@ -69,7 +69,8 @@ pub(crate) fn put_message<M: Message>(
     item: &M,
 ) -> Result<(), AllocError>
     requires { IsFieldNumber field }
-    ensures { OnOk result (out.new.items ≡ out.old.items ++ spelled (message_pieces M.pieces field item.now)) }
+    ensures { OnOk result
+        (out.new.items ≡ out.old.items ++ spelled (message_pieces M.pieces field item.now)) }
 {
     let inner = item.encode(alloc)?;
     put_bytes(out, field, &inner)
@@ -79,7 +80,9 @@ pub(crate) fn put_message<M: Message>(
 #[tactic(auto, using(crate::proofs::Written::spelled_append))]
 pub fn write_number(out: &mut Vec<u8>, field: u32, n: u64) -> Result<(), AllocError>
     requires { IsFieldNumber field }
-    ensures { OnOk result ((so_far : List Piece) → out.old.items ≡ spelled so_far → out.new.items ≡ spelled (so_far ++ number_pieces field n)) }
+    ensures { OnOk result
+        ((so_far : List Piece) → out.old.items ≡ spelled so_far → out.new.items
+        ≡ spelled (so_far ++ number_pieces field n)) }
 {
     put_number(out, field, n)
 }
@@ -88,7 +91,9 @@ pub fn write_number(out: &mut Vec<u8>, field: u32, n: u64) -> Result<(), AllocEr
 #[tactic(auto, using(crate::proofs::Written::spelled_append))]
 pub fn write_flag(out: &mut Vec<u8>, field: u32, flag: bool) -> Result<(), AllocError>
     requires { IsFieldNumber field }
-    ensures { OnOk result ((so_far : List Piece) → out.old.items ≡ spelled so_far → out.new.items ≡ spelled (so_far ++ flag_pieces field flag)) }
+    ensures { OnOk result
+        ((so_far : List Piece) → out.old.items ≡ spelled so_far → out.new.items
+        ≡ spelled (so_far ++ flag_pieces field flag)) }
 {
     put_flag(out, field, flag)
 }
@@ -97,7 +102,9 @@ pub fn write_flag(out: &mut Vec<u8>, field: u32, flag: bool) -> Result<(), Alloc
 #[tactic(auto, using(crate::proofs::Written::spelled_append))]
 pub fn write_bytes(out: &mut Vec<u8>, field: u32, bytes: &Bytes) -> Result<(), AllocError>
     requires { IsFieldNumber field }
-    ensures { OnOk result ((so_far : List Piece) → out.old.items ≡ spelled so_far → out.new.items ≡ spelled (so_far ++ bytes_pieces field bytes.now)) }
+    ensures { OnOk result
+        ((so_far : List Piece) → out.old.items ≡ spelled so_far → out.new.items
+        ≡ spelled (so_far ++ bytes_pieces field bytes.now)) }
 {
     put_bytes(out, field, bytes.as_slice())
 }
@@ -106,7 +113,9 @@ pub fn write_bytes(out: &mut Vec<u8>, field: u32, bytes: &Bytes) -> Result<(), A
 #[tactic(auto, using(crate::proofs::Written::spelled_append))]
 pub fn write_text(out: &mut Vec<u8>, field: u32, text: &Text) -> Result<(), AllocError>
     requires { IsFieldNumber field }
-    ensures { OnOk result ((so_far : List Piece) → out.old.items ≡ spelled so_far → out.new.items ≡ spelled (so_far ++ bytes_pieces field text.now)) }
+    ensures { OnOk result
+        ((so_far : List Piece) → out.old.items ≡ spelled so_far → out.new.items
+        ≡ spelled (so_far ++ bytes_pieces field text.now)) }
 {
     put_bytes(out, field, text.as_str().as_bytes())
 }
@@ -115,7 +124,9 @@ pub fn write_text(out: &mut Vec<u8>, field: u32, text: &Text) -> Result<(), Allo
 #[tactic(auto, using(crate::proofs::Written::spelled_append))]
 pub fn write_texts(out: &mut Vec<u8>, field: u32, texts: &Items<Text>) -> Result<(), AllocError>
     requires { IsFieldNumber field }
-    ensures { OnOk result ((so_far : List Piece) → out.old.items ≡ spelled so_far → out.new.items ≡ spelled (so_far ++ texts_pieces field texts.now)) }
+    ensures { OnOk result
+        ((so_far : List Piece) → out.old.items ≡ spelled so_far → out.new.items
+        ≡ spelled (so_far ++ texts_pieces field texts.now)) }
 {
     put_texts(out, field, texts.as_slice())
 }
@@ -129,7 +140,9 @@ pub fn write_items<M: Message>(
     items: &Items<M>,
 ) -> Result<(), AllocError>
     requires { IsFieldNumber field }
-    ensures { OnOk result ((so_far : List Piece) → out.old.items ≡ spelled so_far → out.new.items ≡ spelled (so_far ++ items_pieces M.pieces field items.now)) }
+    ensures { OnOk result
+        ((so_far : List Piece) → out.old.items ≡ spelled so_far → out.new.items
+        ≡ spelled (so_far ++ items_pieces M.pieces field items.now)) }
 {
     put_items(out, field, alloc, items.as_slice())
 }
@@ -143,7 +156,9 @@ pub fn write_message<M: Message>(
     item: &M,
 ) -> Result<(), AllocError>
     requires { IsFieldNumber field }
-    ensures { OnOk result ((so_far : List Piece) → out.old.items ≡ spelled so_far → out.new.items ≡ spelled (so_far ++ message_pieces M.pieces field item.now)) }
+    ensures { OnOk result
+        ((so_far : List Piece) → out.old.items ≡ spelled so_far → out.new.items
+        ≡ spelled (so_far ++ message_pieces M.pieces field item.now)) }
 {
     put_message(out, field, alloc, item)
 }
@@ -152,7 +167,9 @@ pub fn write_message<M: Message>(
 #[tactic(auto, using(crate::proofs::Written::spelled_append))]
 pub fn write_small(out: &mut Vec<u8>, field: u32, n: u32) -> Result<(), AllocError>
     requires { IsFieldNumber field }
-    ensures { OnOk result ((so_far : List Piece) → out.old.items ≡ spelled so_far → out.new.items ≡ spelled (so_far ++ number_pieces field n)) }
+    ensures { OnOk result
+        ((so_far : List Piece) → out.old.items ≡ spelled so_far → out.new.items
+        ≡ spelled (so_far ++ number_pieces field n)) }
 {
     put_number(out, field, n as u64)
 }
@@ -165,7 +182,9 @@ pub fn write_all_bytes(
     items: &Items<Bytes>,
 ) -> Result<(), AllocError>
     requires { IsFieldNumber field }
-    ensures { OnOk result ((so_far : List Piece) → out.old.items ≡ spelled so_far → out.new.items ≡ spelled (so_far ++ texts_pieces field items.now)) }
+    ensures { OnOk result
+        ((so_far : List Piece) → out.old.items ≡ spelled so_far → out.new.items
+        ≡ spelled (so_far ++ texts_pieces field items.now)) }
 {
     put_all_bytes(out, field, items.as_slice())
 }

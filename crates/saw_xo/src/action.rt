@@ -43,7 +43,8 @@ pub fn address_of(name: &str) -> Address
 
 /// The next action, by the signer, the payload and the replies so far.
 pub fn step(alloc: Global, tx: &Tx, talk: &Transcript) -> Result<Action, AllocError>
-    ensures { IfOk result (λ action. action ≡ next tx.now.header.signer_public_key tx.now.payload talk.now.turns) }
+    ensures { IfOk result
+        (λ action. action ≡ next tx.now.header.signer_public_key tx.now.payload talk.now.turns) }
 {
     let signer = tx.header.signer_public_key.as_str();
     let payload = tx.payload.as_slice();

@@ -71,7 +71,9 @@ fn game_by(
     first_key: &str,
     second_key: &str,
 ) -> Result<Option<Game>, AllocError>
-    ensures { IfOk result (λ read. read ≡ game_by (board_in board.now) (standing_in standing.now) first_key.now second_key.now) }
+    ensures { IfOk result
+        (λ read. read ≡ game_by (board_in board.now)
+        (standing_in standing.now) first_key.now second_key.now) }
 {
     let Some(board) = board_in(board) else {
         return Ok(None);
@@ -134,7 +136,8 @@ fn put_next(out: &mut Vec<u8>, name: &Text, game: &Game) -> Result<(), AllocErro
 }
 
 fn put_bar(out: &mut Vec<u8>) -> Result<(), AllocError>
-    ensures { OnOk result (out.new.items ≡ (if length out.old.items == 0 then [] else out.old.items ++ 124 ∷ [])) }
+    ensures { OnOk result
+        (out.new.items ≡ (if length out.old.items == 0 then [] else out.old.items ++ 124 ∷ [])) }
 {
     if !out.as_slice().is_empty() {
         out.push(b'|')?;

@@ -164,7 +164,9 @@ fn first_key_after<'a>(signer: &'a str, game: &'a Game) -> &'a str
 }
 
 fn second_key_after<'a>(signer: &'a str, game: &'a Game) -> &'a str
-    ensures { result.now ≡ (if is_free game.now.first_key then game.now.second_key else if is_free game.now.second_key then signer.now else game.now.second_key) }
+    ensures { result.now ≡
+        (if is_free game.now.first_key then game.now.second_key else if is_free game.now.second_key then
+        signer.now else game.now.second_key) }
 {
     if is_free(game.first_key.as_str()) {
         return game.second_key.as_str();

@@ -8,5 +8,5 @@ use Rattle.saw_crew.proofs.batch.names_one.Goals as goal
 
 pub returns : goal.returns
 returns c = λ others holds.
-    c.holds_one.ensures ∙ ap (λ ids. list_any (λ id. contains (slice_cmp nat_cmp) c.args.failed.now id) ids) c.as_slice.ensures
-    ∙ held-names c.args.failed.now others holds c.args.tx.now.header.dependencies
+    rw (← c.tx.view_is) (c.holds_one.ensures ∙ ap (λ ids. list_any (λ id. contains (slice_cmp nat_cmp) c.args.failed.now id) ids) c.as_slice.ensures
+    ∙ held-names c.args.failed.now others holds c.tx.inside.header.dependencies)

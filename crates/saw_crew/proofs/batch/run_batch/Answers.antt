@@ -6,7 +6,7 @@ use Rattle.saw_context.specs.Outcome.{Processors, map_after}
 use Rattle.saw_context.specs.Possible.{MayCome, MayComeOfBatch}
 use Rattle.saw_context.specs.Serial.{names_one}
 use Rattle.saw_context.specs.declared.batch_result.BatchResult.TheVariants.{Failed}
-use Rattle.saw_messages.specs.TxShapes.{TxShape, shape_of}
+use Rattle.saw_messages.specs.TxShapes.{TxShape}
 use Rattle.saw_messages.specs.declared.outcome.Outcome.{Outcome}
 use Rattle.saw_messages.specs.declared.outcome.Outcome.TheVariants as outcomes
 use Rattle.saw_plan.specs.BatchShapes.{shapes_of}
@@ -24,7 +24,7 @@ returns-in-Invalid-clause-result g c = λ others holds.
     let processors : Processors = at c.args.desk.now.offers in
     let start : StateMap = g.B.Base.entry c.args.base.now in
     let all : List TxShape = shapes_of c.args.txs.now in
-    let tx : TxShape = shape_of (arc_value c.tx-item.result) in
+    let tx : TxShape = arc_value c.tx-item.result in
     let cut = shapes-drop c.args.txs.now l.tx-index c.tx-item.result c.loop-tx-test.true c.tx-item.is in
     let run = subst (HasRun processors others start all l.outcomes l.state) cut (l.invariant.run others holds) in
     let outcome = subst (λ (offers : List Offer). IsOutcome (at offers) c.args.failed.now l.state tx c.in_ok-outcome.outcome) l.invariant.desk.offers
@@ -40,7 +40,7 @@ loop-tx-preserved g c =
     let processors : Processors = at c.args.desk.now.offers in
     let start : StateMap = g.B.Base.entry c.args.base.now in
     let all : List TxShape = shapes_of c.args.txs.now in
-    let tx : TxShape = shape_of (arc_value c.tx-item.result) in
+    let tx : TxShape = arc_value c.tx-item.result in
     let one : Outcome = outcomes.Ok c.in-Ok.changes c.in-Ok.events in
     let cut = shapes-drop c.args.txs.now l.tx-index c.tx-item.result c.loop-tx-test.true c.tx-item.is in
     let outcome = subst (λ (offers : List Offer). IsOutcome (at offers) c.args.failed.now l.state tx c.in_ok-outcome.outcome) l.invariant.desk.offers

@@ -1,7 +1,6 @@
 use Rattle.std.proofs.Common.{ap, ◌∙◌}
 use Rattle.std.specs.Arc.{arc_value}
 use Rattle.saw_context.specs.Serial.{names_one}
-use Rattle.saw_messages.specs.TxShapes.{shape_of}
 use Rattle.saw_messages.specs.declared.tx.Tx.{Tx}
 use Rattle.saw_station.specs.Serving.{processors_at}
 use Rattle.saw_crew.proofs.Plain.{outcome_plain}
@@ -11,7 +10,7 @@ pub returns-clause-outcome : goal.returns-clause-outcome
 returns-clause-outcome g c = λ failed holds.
     outcome_plain (processors_at g.R.Station.next g.R.Station.tells c.args.desk.now.offers) (g.B.Base.entry c.args.base.now)
     (arc_value c.in_ok-clone.field-0) (arc_value c.args.tx.now)
-    (arc_value c.in_ok-new.field-0) (record { entries = c.new.result }) c.names_one.result (names_one (shape_of (arc_value c.args.tx.now)) failed) _
+    (arc_value c.in_ok-new.field-0) (record { entries = c.new.result }) c.names_one.result (names_one (arc_value c.args.tx.now) failed) _
     c.in_ok-clone.ensures.cases c.in_ok-new.ensures.ok c.new.ensures.empty
-    (c.names_one.ensures failed holds ∙ ap (λ (t : Tx). names_one (shape_of t) failed) c.deref.ensures)
+    (c.names_one.ensures failed holds ∙ ap (λ (t : Tx). names_one t failed) c.deref.ensures)
     c.in_ok-run_one.ensures.outcome

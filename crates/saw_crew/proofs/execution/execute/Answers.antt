@@ -1,8 +1,7 @@
 use Rattle.std.proofs.Common.{List, IfOk, ap, subst, ◌∙◌}
-use Rattle.std.specs.Prelude.{map}
 use Rattle.std.specs.Arc.{arc_value}
 use Rattle.saw_context.specs.Possible.{MayComeOfAll}
-use Rattle.saw_plan.specs.BatchShapes.{batch_shape, txs_of}
+use Rattle.saw_plan.specs.BatchShapes.{txs_of}
 use Rattle.saw_plan.specs.declared.plan.Plan.{Plan}
 use Rattle.saw_station.specs.Serving.{processors_at}
 use Rattle.saw_station.specs.declared.offer.Offer.{Offer}
@@ -16,7 +15,7 @@ returns-clause-results g c =
     subst
     (λ (offers : List Offer). IfOk c.run_plan.result (λ results.
     MayComeOfAll (processors_at g.R.Station.next g.R.Station.tells offers) (g.B.Base.entry c.args.base.now)
-    (txs_of (map batch_shape (arc_value c.args.plan).batches))
+    (txs_of (arc_value c.args.plan).batches)
     results.batches))
     offers
     (rw batches at c.run_plan.ensures.results)

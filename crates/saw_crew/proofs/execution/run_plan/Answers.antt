@@ -1,22 +1,23 @@
-use Rattle.std.proofs.Common.{◌+◌, ◌^◌, List, drop, sym, ap, subst, arith}
+use Rattle.std.proofs.Common.{◌≡◌, ◌+◌, ◌^◌, List, drop, sym, ap, subst, ◌∙◌, arith}
 use Rattle.std.proofs.lemmas.List.{drop_all}
 use Rattle.saw_address.specs.Maps.{StateMap}
 use Rattle.saw_context.specs.Outcome.{Processors}
 use Rattle.saw_context.specs.Serial.{failed_with}
 use Rattle.saw_context.specs.declared.batch_result.BatchResult.{BatchResult}
-use Rattle.saw_messages.specs.TxShapes.{TxShape}
-use Rattle.saw_plan.specs.BatchShapes.{shapes_of}
+use Rattle.saw_messages.specs.TxShapes.{BatchShape, TxShape}
+use Rattle.saw_plan.specs.BatchShapes.{shapes_of, txs_of}
 use Rattle.saw_station.specs.Serving.{processors_at}
 use Rattle.saw_station.specs.declared.offer.Offer.{Offer}
 use Rattle.saw_crew.specs.Running.{IsBatchResult}
 use Rattle.saw_crew.proofs.Leaving.{keeps_trans}
-use Rattle.saw_crew.proofs.Batches.{AreSoFar, HasGone, batch_within, gone_all, gone_more, so_far-end, so_far-push, txs_in, txs_in-drop}
+use Rattle.saw_crew.proofs.Batches.{AreSoFar, HasGone, batch_within, gone_all, gone_more, so_far-end, so_far-push, txs_of-drop}
 use Rattle.saw_crew.proofs.execution.run_plan.Goals as goal
 
 pub run_batch-requires-clause-counted : goal.run_batch-requires-clause-counted
 run_batch-requires-clause-counted g c = λ _ _.
-    rw c.as_slice-txs.ensures (batch_within c.args.batches.now c.loop-batch.batch-index c.batch-item.result c.loop-batch-test.true c.batch-item.is
-    (2 ^ 32) c.requires.counted)
+    let told = ap shapes_of c.as_slice-txs.ensures ∙ ap (λ (b : BatchShape). b.txs) c.batch.view_is in
+    batch_within c.args.batches.now c.loop-batch.batch-index c.batch-item.result c.as_slice-txs.result.now c.loop-batch-test.true c.batch-item.is
+    told (2 ^ 32) c.requires.counted
 
 pub loop-batch-preserved : goal.loop-batch-preserved
 loop-batch-preserved g c =
@@ -24,19 +25,20 @@ loop-batch-preserved g c =
     let at : List Offer → Processors = processors_at g.R.Station.next g.R.Station.tells in
     let processors : Processors = at c.args.desk.now.offers in
     let start : StateMap = g.B.Base.entry c.args.base.now in
-    let all : List (List TxShape) = txs_in c.args.batches.now in
-    let txs : List TxShape = shapes_of c.batch-item.result.txs in
-    let rest : List (List TxShape) = txs_in (drop (l.batch-index + 1) c.args.batches.now) in
+    let all : List (List TxShape) = txs_of c.args.batches.now in
+    let txs : List TxShape = c.batch-item.result.txs in
+    let told : shapes_of c.as_slice-txs.result.now ≡ txs = ap shapes_of c.as_slice-txs.ensures ∙ ap (λ (b : BatchShape). b.txs) c.batch.view_is in
+    let rest : List (List TxShape) = txs_of (drop (l.batch-index + 1) c.args.batches.now) in
     let came : BatchResult = c.in_ok-came.came in
-    let cut = txs_in-drop c.args.batches.now l.batch-index c.batch-item.result c.loop-batch-test.true c.batch-item.is in
+    let cut = txs_of-drop c.args.batches.now l.batch-index c.batch-item.result c.loop-batch-test.true c.batch-item.is in
     let pushed = c.in_ok-push.ensures.ok in
     let is = subst (λ (offers : List Offer). IsBatchResult (at offers) l.failed l.state txs came) l.invariant.desk.offers
-    (rw c.as_slice-txs.ensures at c.in_ok-came.ensures.result) in
-    let may = rw c.as_slice-txs.ensures at c.in_ok-came.ensures.whole in
+    (rw told at c.in_ok-came.ensures.result) in
+    let may = rw told at c.in_ok-came.ensures.whole in
     record {
       desk = keeps_trans g.R.Station.faults g.R.Station.offered c.args.desk.now l.desk c.run_batch.new.desk l.invariant.desk c.in_ok-came.ensures.desk.keeps;
       others = failed_with l.invariant.others txs came;
-      failed = (rw c.as_slice-txs.ensures at c.in_ok-settle.ensures.failed) l.invariant.others l.invariant.failed;
+      failed = (rw told at c.in_ok-settle.ensures.failed) l.invariant.others l.invariant.failed;
       whole = subst (λ (results : List BatchResult). AreSoFar all results rest) (sym pushed)
           (so_far-push all l.results txs rest came (subst (AreSoFar all l.results) cut l.invariant.whole) may);
       gone =
@@ -50,13 +52,13 @@ loop-batch-preserved g c =
 pub returns-clause-results : goal.returns-clause-results
 returns-clause-results g c =
     let l = c.loop-batch in
-    let none = ap txs_in (drop_all l.batch-index c.args.batches.now (omega arith)) in
-    gone_all (processors_at g.R.Station.next g.R.Station.tells c.args.desk.now.offers) (g.B.Base.entry c.args.base.now) (txs_in c.args.batches.now)
+    let none = ap txs_of (drop_all l.batch-index c.args.batches.now (omega arith)) in
+    gone_all (processors_at g.R.Station.next g.R.Station.tells c.args.desk.now.offers) (g.B.Base.entry c.args.base.now) (txs_of c.args.batches.now)
     l.results l.invariant.others l.state
-    (txs_in (drop l.batch-index c.args.batches.now)) none l.invariant.gone
+    (txs_of (drop l.batch-index c.args.batches.now)) none l.invariant.gone
 
 pub returns-clause-whole : goal.returns-clause-whole
 returns-clause-whole g c =
     let l = c.loop-batch in
-    let none = ap txs_in (drop_all l.batch-index c.args.batches.now (omega arith)) in
-    so_far-end (txs_in c.args.batches.now) l.results (txs_in (drop l.batch-index c.args.batches.now)) none l.invariant.whole
+    let none = ap txs_of (drop_all l.batch-index c.args.batches.now (omega arith)) in
+    so_far-end (txs_of c.args.batches.now) l.results (txs_of (drop l.batch-index c.args.batches.now)) none l.invariant.whole

@@ -4,8 +4,8 @@ use Rattle.std.specs.Prelude.{option_copied, string_bytes}
 use Rattle.indexmap.specs.IndexMap.{keys, values}
 use Rattle.saw_crew.proofs.Leaving.{keep_all}
 use Rattle.saw_crew.specs.Desks.{offers_at}
-use Rattle.saw_messages.specs.declared.tx.TxBatch.{TxBatch}
-use Rattle.saw_plan.specs.BatchShapes.{BatchShape, batch_shape, transactions_in}
+use Rattle.saw_messages.specs.TxShapes.{BatchShape}
+use Rattle.saw_plan.specs.BatchShapes.{transactions_in}
 use Rattle.saw_station.proofs.Finished.{processors_own}
 use Rattle.saw_station.specs.Serving.{processors_at}
 use Rattle.saw_journal.specs.BlockFaults.{ids_before, static_fault}
@@ -90,7 +90,7 @@ returns-in_err-plan-clause-judged g c =
     let laws = g.met.R.Station g.world.𝓛 g.world.𝓜 g.world.𝓡 ((λ s x. x), (λ x. x), (λ x. x), λ x. x) in
     let own = processors_own g.R.Station.next laws.own_reasons g.R.Station.tells (offers_at c.args.desks.now) in
     let processors = processors_at g.R.Station.next g.R.Station.tells (offers_at c.args.desks.now) in
-    let dropped = subst (λ (batches : List TxBatch). IsStop (static_fault there (map batch_shape batches)) c.in_err-plan.field-0.0) c.as_slice.ensures
+    let dropped = subst (λ (batches : List BatchShape). IsStop (static_fault there batches) c.in_err-plan.field-0.0) c.as_slice.ensures
     (c.in_err-plan.ensures there knows) in
     rw (p.1, p.2) (by_rules processors own hash accepts blocks states content checked sound.0 sound.1 placed.0 c.in_err-plan.field-0.0 dropped)
 
@@ -126,7 +126,7 @@ run-requires-clause-plan g c = λ κs alive.
     let parent = option_copied c.in_ok-parent.parent in
     let there = ids_before blocks checked.header in
     let knows = knows_before blocks checked.id checked.header (sym placed.0) parent placed.1 c.in_ok-known.known c.in_ok-known.ensures in
-    (c.in_ok-plan.ensures there knows).1 ∙ ap (map batch_shape) c.as_slice.ensures
+    (c.in_ok-plan.ensures there knows).1 ∙ c.as_slice.ensures
 
 pub run-requires-clause-counted : goal.run-requires-clause-counted
 run-requires-clause-counted g c = λ κs alive.
@@ -142,7 +142,7 @@ run-requires-clause-counted g c = λ κs alive.
     let there = ids_before blocks checked.header in
     let knows = knows_before blocks checked.id checked.header (sym placed.0) parent placed.1 c.in_ok-known.known c.in_ok-known.ensures in
     subst (λ (shapes : List BatchShape). transactions_in shapes < 2 ^ 32)
-    (sym ((c.in_ok-plan.ensures there knows).1 ∙ ap (map batch_shape) c.as_slice.ensures)) (few_transactions accepts content checked sound.0 sound.1)
+    (sym ((c.in_ok-plan.ensures there knows).1 ∙ c.as_slice.ensures)) (few_transactions accepts content checked sound.0 sound.1)
 
 pub run-requires-clause-few : goal.run-requires-clause-few
 run-requires-clause-few g c = λ κs alive.
@@ -174,7 +174,7 @@ returns-clause-judged g c =
     let own = processors_own g.R.Station.next laws.own_reasons g.R.Station.tells (offers_at c.args.desks.now) in
     let processors = processors_at g.R.Station.next g.R.Station.tells (offers_at c.args.desks.now) in
     let whole = (c.in_ok-plan.ensures there knows).0 in
-    let all = ap (λ (batches : List TxBatch). static_fault there (map batch_shape batches)) (sym c.as_slice.ensures) ∙ whole in
+    let all = ap (λ (batches : List BatchShape). static_fault there batches) (sym c.as_slice.ensures) ∙ whole in
     by_results processors own hash accepts blocks states content checked sound.0 sound.1 placed.0 all c.in_ok-before.before root.0
     c.run.result c.run.ensures.ran
 
@@ -188,7 +188,7 @@ returns-in_err-plan-clause-room g c =
     let knows = knows_before blocks checked.id checked.header (sym placed.0) (option_copied c.in_ok-parent.parent) placed.1 c.in_ok-known.known
     c.in_ok-known.ensures in
     rw (p.1, p.2) (λ is.
-    let same : Full ≡ OutOfMemory = of_memory (static_fault there (map batch_shape c.as_slice.result.now)) c.in_err-plan.field-0.0 Full
+    let same : Full ≡ OutOfMemory = of_memory (static_fault there c.as_slice.result.now) c.in_err-plan.field-0.0 Full
     (c.in_err-plan.ensures there knows) is in
     absurd cc)
 
@@ -202,6 +202,6 @@ returns-in_err-plan-clause-cause g c =
     let knows = knows_before blocks checked.id checked.header (sym placed.0) (option_copied c.in_ok-parent.parent) placed.1 c.in_ok-known.known
     c.in_ok-known.ensures in
     rw (p.1, p.2) (λ is.
-    let same : PeerFailed ≡ OutOfMemory = of_memory (static_fault there (map batch_shape c.as_slice.result.now)) c.in_err-plan.field-0.0 PeerFailed
+    let same : PeerFailed ≡ OutOfMemory = of_memory (static_fault there c.as_slice.result.now) c.in_err-plan.field-0.0 PeerFailed
     (c.in_err-plan.ensures there knows) is in
     absurd cc)

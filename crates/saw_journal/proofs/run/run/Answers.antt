@@ -6,7 +6,8 @@ use Rattle.saw_context.specs.Possible.{MayComeOfAll}
 use Rattle.saw_crew.specs.Desks.{offers_at}
 use Rattle.saw_messages.specs.declared.outcome.Change.{Change}
 use Rattle.saw_node.specs.Trees.{root_of_map}
-use Rattle.saw_plan.specs.BatchShapes.{BatchShape, txs_of}
+use Rattle.saw_messages.specs.TxShapes.{BatchShape}
+use Rattle.saw_plan.specs.BatchShapes.{txs_of}
 use Rattle.saw_receipts.specs.States.{state_at}
 use Rattle.saw_station.specs.Serving.{processors_at}
 use Rattle.saw_journal.specs.Ledger.{map_at}

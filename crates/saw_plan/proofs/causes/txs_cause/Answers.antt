@@ -12,7 +12,7 @@ loop-t-preserved c =
     let tx = c.index-txs-t.result in
     let ids = ids_of (shapes_of (take at txs)) in
     record {
-      holds = rw (← ids_more txs at tx c.loop-t-test.true c.index-txs-t.is c.deref-in-loop-t.result.now c.deref-in-loop-t.ensures)
+      holds = rw (← ids_more txs at tx c.loop-t-test.true c.index-txs-t.is _ (c.behind-tx.view_is ∙ c.deref-in-loop-t.ensures))
           (c.in_ok-add_id.ensures ids i.holds).1;
       so_far = λ there more known kept.
           cause_later txs at tx c.loop-t-test.true c.index-txs-t.is c.deref.result.now c.deref.ensures (both there more).transactions

@@ -1,5 +1,4 @@
-use Rattle.std.proofs.Common.{[], map, arith}
-use Rattle.saw_plan.specs.BatchShapes.{batch_shape}
+use Rattle.std.proofs.Common.{[], arith}
 use Rattle.saw_plan.specs.StaticRules.{batch_cause, after_batch}
 use Rattle.saw_plan.specs.SortingSteps.{both, sorting_of}
 use Rattle.saw_plan.proofs.Rest.{begins, goes_on, ends, few}
@@ -9,7 +8,7 @@ pub loop-place-init : goal.loop-place-init
 loop-place-init c = λ there known. (
   record { batches = []; transactions = [] },
   c.new-kept.ensures,
-  begins there (map batch_shape c.args.batches.now)
+  begins there c.args.batches.now
       (sorting_of c.new-sorted.result) c.new-sorted.ensures,
 )
 
@@ -28,7 +27,7 @@ loop-place-preserved c = λ there known.
     let so_far = l.invariant there known in
     let more = so_far.0 in
     let done = c.in_ok-sort_next.ensures in (
-      after_batch (batch_cause (both there more) (batch_shape batch)) more (batch_shape batch),
+      after_batch (batch_cause (both there more) batch) more batch,
       done.ids there more known so_far.1,
       goes_on there more c.args.batches.now l.place batch c.loop-place-test.true c.index-batches-place.is (sorting_of l.sorted)
           (sorting_of c.sort_next.new.sorted) (done.sorting there more known so_far.1) so_far.2,

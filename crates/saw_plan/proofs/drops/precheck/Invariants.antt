@@ -1,5 +1,4 @@
-use Rattle.std.proofs.Common.{map, drop}
-use Rattle.saw_plan.specs.BatchShapes.{batch_shape}
+use Rattle.std.proofs.Common.{drop}
 use Rattle.saw_plan.specs.StaticRules.{Ids, Knows}
 use Rattle.saw_plan.specs.SortingSteps.{both, sorting_of}
 use Rattle.saw_plan.proofs.Rest.{GoesOn}
@@ -7,4 +6,4 @@ use Rattle.saw_plan.proofs.drops.precheck.Given as goal
 
 abbrev pub invariant-loop-place : goal.invariant-loop-place
 invariant-loop-place l = (there : Ids) → Knows l.known there → (more : Ids) × Knows l.kept more
-    × GoesOn there (both there more) l.place (map batch_shape (drop l.place l.batches)) (map batch_shape l.batches) (sorting_of l.sorted)
+    × GoesOn there (both there more) l.place (drop l.place l.batches) l.batches (sorting_of l.sorted)

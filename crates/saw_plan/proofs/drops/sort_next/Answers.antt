@@ -1,6 +1,5 @@
 use Rattle.std.proofs.Common.{Option, sym, subst, ◌∙◌}
 use Rattle.std.proofs.lemmas.Result.{on_ok_weaker}
-use Rattle.saw_plan.specs.BatchShapes.{batch_shape}
 use Rattle.saw_plan.specs.StaticRules.{Knows, after_batch}
 use Rattle.saw_plan.specs.declared.sorted.DropCause.{DropCause}
 use Rattle.saw_plan.proofs.drops.sort_next.Goals as goal
@@ -9,6 +8,6 @@ pub returns-in_ok-copy_batch-in-None-clause-ids : goal.returns-in_ok-copy_batch-
 returns-in_ok-copy_batch-in-None-clause-ids c =
     on_ok_weaker c.keep.result
     (λ _ there more known kept.
-    subst (λ (cause : Option DropCause). Knows c.add_batch.new.kept (after_batch cause more (batch_shape c.args.batch.now)))
+    subst (λ (cause : Option DropCause). Knows c.add_batch.new.kept (after_batch cause more c.args.batch.now))
     (sym c.in-None.is ∙ c.in_ok-batch_cause.ensures there more known kept) (c.in_ok-add_batch-in-None.ensures more kept))
     c.keep.ensures

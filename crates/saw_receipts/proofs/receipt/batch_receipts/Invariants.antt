@@ -7,4 +7,4 @@ use Rattle.saw_receipts.proofs.receipt.batch_receipts.Given as goal
 
 abbrev pub invariant-loop-tx : goal.invariant-loop-tx
 invariant-loop-tx l = l.made.items ++ receipts (ids_of (shapes_of (iter_rest (zip_first l.tx-iterator)))) (iter_rest (zip_second l.tx-iterator))
-    ≡ receipts (ids_of (shapes_of l.batch.txs)) l.outcomes
+    ≡ receipts (ids_of l.batch.txs) l.outcomes

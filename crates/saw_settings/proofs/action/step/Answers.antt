@@ -12,6 +12,6 @@ returns-in_ok-keys-in-Goes c =
     let signer = c.as_str.result.now in
     let payload = c.as_slice-in-Goes-2.result.now in
     let keys = c.as_slice-in-Goes.ensures ∙ c.in_ok-keys-in-Goes.ensures in
-    rw (← c.as_slice.ensures, ← c.as_str.ensures, ← c.as_slice-in-Goes-2.ensures) (goes c.act.result _ c.in-Goes.value
+    rw (← c.as_slice.ensures, ← c.tx.view_is, ← c.as_str.ensures, ← c.as_slice-in-Goes-2.ensures) (goes c.act.result _ c.in-Goes.value
     (replies_from c.in-Goes.at turns) (λ value rest. act (keys_of value) signer payload rest)
     (ap (seen turns) (sym c.in-Goes.is) ∙ c.in_ok-action.ensures) (rw (← keys) c.act.ensures))

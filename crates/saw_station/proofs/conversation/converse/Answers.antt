@@ -1,7 +1,6 @@
 use Rattle.std.proofs.Common.{◌≡◌, ◌-◌, ◌+◌, true, false, inl, inr, sym, ◌∙◌, arith}
 use Rattle.saw_context.specs.Access.{map_of_access}
 use Rattle.saw_context.specs.Outcome.{is_request, max_requests}
-use Rattle.saw_messages.specs.TxShapes.{shape_of}
 use Rattle.saw_station.specs.TalkSteps.{fits}
 use Rattle.saw_station.proofs.Talks.{follows_kept, one_more, reply_fits, spoken_whole}
 use Rattle.saw_station.proofs.conversation.converse.Goals as goal
@@ -13,7 +12,7 @@ returns-then-not-is_request-clause-spoken g c =
     let is : is_request c.in_ok-action.action ≡ false = sym c.is_request.ensures ∙ c.if-not-is_request.true in
     let done = c.in_ok-ended.ensures in
     rw (done.talk.0, done.talk.1)
-    (spoken_whole g.S.Station.tells (g.S.Station.next (shape_of c.args.tx.now)) c.args.tx.now.header c.args.context.base c.args.context.layers
+    (spoken_whole g.S.Station.tells (g.S.Station.next c.args.tx.now) c.args.tx.now.header c.args.context.base c.args.context.layers
     l.talk.turns l.context c.in_ok-action.action e.reason e.told (max_requests - l.counter) _ _ _
     (inl is) l.invariant.so_far done.changes done.events done.reads)
 
@@ -30,9 +29,9 @@ requests-preserved g c =
       offers = e.offers ∙ l.invariant.offers;
       later = omega (arith, l.invariant.later, e.later);
       follows = rw c.in_ok-push.ensures.ok (inr (follows_kept (g.S.Station.last c.step.new.self)
-          (shape_of c.args.tx.now) l.talk.turns c.in_ok-action.action c.in_ok-reply.reply e.keeps fit));
+          c.args.tx.now l.talk.turns c.in_ok-action.action c.in_ok-reply.reply e.keeps fit));
       so_far = rw (c.in_ok-push.ensures.ok, answered.reply, answered.ok)
-          (one_more g.S.Station.tells (g.S.Station.next (shape_of c.args.tx.now)) c.args.tx.now.header c.args.context.base c.args.context.layers
+          (one_more g.S.Station.tells (g.S.Station.next c.args.tx.now) c.args.tx.now.header c.args.context.base c.args.context.layers
           l.talk.turns l.context c.in_ok-action.action e.reason e.told (max_requests - l.counter) (max_requests - (l.counter + 1))
           (omega arith) is l.invariant.so_far);
     }
@@ -43,6 +42,6 @@ returns-clause-spoken g c =
     let e = c.in_ok-action-2.ensures in
     let done = c.in_ok-ended-2.ensures in
     rw (done.talk.0, done.talk.1)
-    (spoken_whole g.S.Station.tells (g.S.Station.next (shape_of c.args.tx.now)) c.args.tx.now.header c.args.context.base c.args.context.layers
+    (spoken_whole g.S.Station.tells (g.S.Station.next c.args.tx.now) c.args.tx.now.header c.args.context.base c.args.context.layers
     l.talk.turns l.context c.in_ok-action-2.action e.reason e.told (max_requests - l.counter) _ _ _
     (inr (omega arith)) l.invariant.so_far done.changes done.events done.reads)

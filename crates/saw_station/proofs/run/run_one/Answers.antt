@@ -1,6 +1,5 @@
 use Rattle.std.specs.Arc.{arc_value}
 use Rattle.saw_context.specs.Outcome.{Processors}
-use Rattle.saw_messages.specs.TxShapes.{shape_of}
 use Rattle.saw_station.proofs.Finished.{if_ok, outcome_in, processors_own, undeclared_comes}
 use Rattle.saw_station.specs.RunResults.{IsResult}
 use Rattle.saw_station.specs.Serving.{processors_at}
@@ -13,7 +12,7 @@ returns-in-Ok-clause-outcome g c =
     let job = c.args.job.now in
     if_ok (IsResult processors c.in-Ok.context.base job) _
     (λ done is. outcome_in processors c.in-Ok.context _ (g.B.Base.entry c.args.base.now) _ job done
-    (processors_own g.R.Station.next laws.own_reasons g.R.Station.tells c.args.desk.now.offers (shape_of (arc_value job.tx))) c.in-Ok.ensures.ok
+    (processors_own g.R.Station.next laws.own_reasons g.R.Station.tells c.args.desk.now.offers (arc_value job.tx)) c.in-Ok.ensures.ok
     is) c.run_in.result c.run_in.ensures.done
 
 pub returns-in_ok-refused-in-Err-BadDeclared-clause-outcome : goal.returns-in_ok-refused-in-Err-BadDeclared-clause-outcome
@@ -22,5 +21,5 @@ returns-in_ok-refused-in-Err-BadDeclared-clause-outcome g c =
     let processors : Processors = processors_at g.R.Station.next g.R.Station.tells c.args.desk.now.offers in
     let job = c.args.job.now in
     undeclared_comes processors job c.in_ok-refused-in-Err-BadDeclared.field-0 _ c.in-Err-BadDeclared.field-0 c.deref.result.now
-    (processors_own g.R.Station.next laws.own_reasons g.R.Station.tells c.args.desk.now.offers (shape_of (arc_value job.tx)))
+    (processors_own g.R.Station.next laws.own_reasons g.R.Station.tells c.args.desk.now.offers (arc_value job.tx))
     c.deref.ensures c.in-Err-BadDeclared.field-0-is c.in-Err-BadDeclared.ensures.fault c.in_ok-refused-in-Err-BadDeclared.ensures
