@@ -2,7 +2,9 @@
 #![tactic(auto)]
 
 mod fault;
+mod new_node;
 mod store;
 
 pub use fault::StoreFault;
-pub use store::NodeStore;
+pub use new_node::NewNode;
+pub use store::{NodeStore, hash_of_node};

@@ -1,13 +1,17 @@
 //! Nodes under their hashes.
 
-ghost use Rattle.std.specs.Prelude.{◌≡◌, ◌↔◌, map, IfOk, IfErr, OnErr, OnOk, IsTrue, option_copied};
+ghost use Rattle.std.specs.Prelude.{◌≡◌, ◌↔◌, ◌+◌, ◌<◌, ◌≤◌, List, ℕ, length, map, IfOk, IfErr, OnErr, OnOk, IsTrue, option_copied};
 ghost use Rattle.std.specs.Option.{option_map};
 ghost use Rattle.std.specs.FinMap as finite;
+ghost use Rattle.std.specs.HashMap.{Updates, spare};
+ghost use Rattle.std.specs.Str.{bytes_eq};
 ghost use Rattle.saw_node.specs.Nodes.{encoding_of, pair_of, shape_of};
-ghost use Rattle.saw_store.specs.Stores.{IsClash, IsFree, kept_at, with_node};
+ghost use Rattle.saw_store.specs.News.{AreClear, AreNamed, AreUnderTheirs, IsClashOf, with_all};
+ghost use Rattle.saw_store.specs.Places.{AreNoted, IsFreeAt, IsToldApart};
+ghost use Rattle.saw_store.specs.Stores.{IsClash, IsFree, kept_at, shown, with_node};
 
-use crate::StoreFault;
-use saw_node::{Child, Node, NodeHash, NodeHasher, encode};
+use crate::{NewNode, StoreFault};
+use saw_node::{Child, Node, NodeHash, NodeHasher, encode, encode_one_child};
 use saw_wire::{Bytes, Items};
 use std::alloc::{AllocError, Global};
 use std::collections::HashMap;
@@ -88,12 +92,98 @@ impl<H: NodeHasher> NodeStore<H> {
             }
         }
     }
+
+    /// Whether these nodes may be kept, each under the hash beside it: no two different nodes of them and of the store have
+    /// one hash. `Collision`: two that do.
+    pub fn test_all(&self, news: &[NewNode]) -> Result<(), StoreFault>
+        requires named { AreNamed H.hash_of news.now }
+        requires theirs { AreUnderTheirs H.hash_of self.now }
+        ensures clear { OnOk result (AreClear H.hash_of self.now news.now) }
+        ensures clash { IfErr result (IsClashOf H.hash_of self.now news.now) }
+    {
+        let mut places = HashMap::with_capacity(self.alloc, news.len())?;
+        for at in 0..news.len() {
+            self.test_kept(news, at)?;
+            self.test_earlier(news, at, &mut places)?;
+        }
+        Ok(())
+    }
+
+    // Whether no different node is kept under the hash of the new one at this place.
+    fn test_kept(&self, news: &[NewNode], at: usize) -> Result<(), StoreFault>
+        requires place { at < length news.now }
+        requires named { AreNamed H.hash_of news.now }
+        requires theirs { AreUnderTheirs H.hash_of self.now }
+        ensures free { OnOk result (IsFreeAt H.hash_of self.now news.now at) }
+        ensures clash { IfErr result (IsClashOf H.hash_of self.now news.now) }
+    {
+        let new = &news[at];
+        match self.nodes.get(&new.hash) {
+            None => Ok(()),
+            Some(kept) => test_same(self.alloc, kept, &new.node),
+        }
+    }
+
+    // Whether no earlier new node of the same hash as the one at this place is different, and notes the place under the hash.
+    fn test_earlier(
+        &self,
+        news: &[NewNode],
+        at: usize,
+        places: &mut HashMap<NodeHash, usize>,
+    ) -> Result<(), StoreFault>
+        requires place { at < length news.now }
+        requires named { AreNamed H.hash_of news.now }
+        requires noted { AreNoted news.now at places.old.entries }
+        ensures noted { OnOk result (AreNoted news.now (at + 1) places.new.entries) }
+        ensures clash { IfErr result (IsClashOf H.hash_of self.now news.now) }
+    {
+        let new = &news[at];
+        match places.insert(new.hash, at)? {
+            None => Ok(()),
+            Some(earlier) => test_same(self.alloc, &news[earlier].node, &new.node),
+        }
+    }
+
+    /// Keeps all of these nodes, each under the hash beside it. After a fault the store is as before.
+    pub fn put_all(&mut self, news: Vec<NewNode>) -> Result<(), AllocError>
+        requires named { AreNamed H.hash_of news.items }
+        ensures ok { OnOk result (self.new ≡ with_all H.hash_of self.old news.items) }
+        ensures err { OnErr result (self.new ≡ self.old) }
+    {
+        self.nodes.reserve(news.len())?;
+        put_each(&mut self.nodes, news);
+        Ok(())
+    }
 }
 
-// The hash of a node.
-fn hash_of_node<H: NodeHasher>(alloc: Global, node: &Node) -> Result<NodeHash, AllocError>
+// Puts each node under the hash beside it; there is room for all.
+fn put_each(nodes: &mut HashMap<NodeHash, Node>, news: Vec<NewNode>)
+    requires { length news.items ≤ spare nodes.old }
+    ensures { (hash : List ℕ → List ℕ) → AreNamed hash news.items
+        → shown nodes.new.entries ≡ with_all hash (shown nodes.old.entries) news.items }
+{
+    for new in news {
+        put_new(nodes, new);
+    }
+}
+
+// Puts a node under the hash beside it; there is room for it.
+fn put_new(nodes: &mut HashMap<NodeHash, Node>, new: NewNode)
+    requires { 0 < spare nodes.old }
+    ensures updates { Updates bytes_eq nodes.old nodes.new new.hash (Some new.node) }
+    ensures room { spare nodes.old ≤ spare nodes.new + 1 }
+{
+    let _ = nodes.insert(new.hash, new.node);
+}
+
+/// The hash of a node.
+pub fn hash_of_node<H: NodeHasher>(alloc: Global, node: &Node) -> Result<NodeHash, AllocError>
     ensures { IfOk result (λ hash. hash ≡ H.hash_of (encoding_of (shape_of node.now))) }
 {
+    // Nearly all nodes have one child and no value; their encoding takes no memory.
+    if let (None, [child]) = (&node.value, node.children.as_slice()) {
+        return Ok(H::hash(&encode_one_child(child)));
+    }
     let encoding = encode(alloc, node)?;
     Ok(H::hash(&encoding))
 }
@@ -104,6 +194,19 @@ fn is_same(first: &Node, second: &Node) -> bool
 {
     is_same_value(&first.value, &second.value)
         && first.children.as_slice() == second.children.as_slice()
+}
+
+// Whether two nodes of one hash are the same. `Collision`: they differ.
+fn test_same(alloc: Global, kept: &Node, given: &Node) -> Result<(), StoreFault>
+    ensures same { OnOk result (shape_of kept.now ≡ shape_of given.now) }
+    ensures apart { IfErr result (IsToldApart (shape_of kept.now) (shape_of given.now)) }
+{
+    if is_same(kept, given) {
+        return Ok(());
+    }
+    let kept = copied(alloc, kept)?;
+    let given = copied(alloc, given)?;
+    Err(StoreFault::Collision { kept, given })
 }
 
 fn is_same_value(first: &Option<Bytes>, second: &Option<Bytes>) -> bool

@@ -1,0 +1,8 @@
+use Rattle.saw_merkle.proofs.Merging.{none_rising}
+use Rattle.saw_merkle.proofs.children.old_children.Goals as goal
+
+pub returns-in-None-clause-rising : goal.returns-in-None-clause-rising
+returns-in-None-clause-rising g c = none_rising
+
+pub returns-in-None-get-clause-rising : goal.returns-in-None-get-clause-rising
+returns-in-None-get-clause-rising g c = none_rising

@@ -1,0 +1,17 @@
+use Rattle.std.proofs.Common.{subst}
+use Rattle.saw_merkle.specs.Clashes.{AreTold}
+use Rattle.saw_merkle.specs.States.{AreRooted}
+use Rattle.saw_merkle.proofs.Sound.{are_rooted, are_told}
+use Rattle.saw_merkle.proofs.state.State.sound.Goals as goal
+
+pub returns-clause-rooted : goal.returns-clause-rooted
+returns-clause-rooted g c =
+    let hash = g.H.NodeHasher.hash_of in
+    subst (AreRooted hash) c.self.view_is
+    (are_rooted hash c.self.inside.store c.self.inside.roots.keys c.self.inside.empty c.self.inside.flat c.self.invariant)
+
+pub returns-clause-told : goal.returns-clause-told
+returns-clause-told g c =
+    let hash = g.H.NodeHasher.hash_of in
+    subst (AreTold hash) c.self.view_is
+    (are_told hash c.self.inside.store c.self.inside.roots.keys c.self.inside.empty c.self.inside.flat c.self.invariant)

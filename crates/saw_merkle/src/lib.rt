@@ -1,0 +1,17 @@
+//! The state's tree over shared nodes: a map for each known root.
+#![tactic(auto)]
+
+mod changing;
+mod children;
+mod flat;
+mod gathering;
+mod prepared;
+mod reading;
+mod rooting;
+mod sharing;
+mod state;
+mod tree;
+
+pub use prepared::Prepared;
+pub use state::State;
+pub use tree::{Listed, Tree};
