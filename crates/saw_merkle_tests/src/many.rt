@@ -9,12 +9,19 @@ use saw_messages::Change;
 use saw_wire::{Bytes, Items};
 use std::alloc::{AllocError, Global};
 
-/// An address that a number gives: that of the digits of a hash, below one family.
+/// An address that a number gives: four digits of its hash behind a family's bytes, and the number at the end.
 pub(crate) fn address_of(number: u32) -> Address {
-    let digits = sha512_hex(&number.to_be_bytes());
-    let mut bytes = [0; 35];
-    bytes[..3].copy_from_slice(&[0x1c, 0xf1, 0x26]);
-    bytes[3..].copy_from_slice(&digits[..32]);
+    let number = number.to_be_bytes();
+    let digits = sha512_hex(&number);
+    let mut bytes = [0x1c; 35];
+    bytes[3] = digits[0];
+    bytes[4] = digits[1];
+    bytes[5] = digits[2];
+    bytes[6] = digits[3];
+    bytes[31] = number[0];
+    bytes[32] = number[1];
+    bytes[33] = number[2];
+    bytes[34] = number[3];
     Address::new(bytes)
 }
 
