@@ -70,7 +70,12 @@ def state(values):
     }
 
 
-def node(entries, depth):
+def half(encoding):
+    """The hash of a node."""
+    return sha512(encoding)[:64]
+
+
+def node(entries, depth, hash_of=half):
     """The encoding of the node above entries that agree in so many bytes of their addresses."""
     if depth == 35:
         (value,) = entries.values()
@@ -80,12 +85,12 @@ def node(entries, depth):
         children.setdefault(at[depth], {})[at] = value
     out = b"\xa2\x61c" + head(5, len(children))
     for byte in sorted(children):
-        out += text("%02x" % byte) + text(sha512(node(children[byte], depth + 1))[:64])
+        out += text("%02x" % byte) + text(hash_of(node(children[byte], depth + 1, hash_of)))
     return out + b"\x61v\xf6"
 
 
 def root(values):
-    return sha512(node(state(values), 0))[:64]
+    return half(node(state(values), 0))
 
 
 # Blocks. An operation is a verb, a name and a value.
@@ -106,9 +111,10 @@ def batch(operations):
     return mark(header), record(1, header) + record(2, mark(header)) + body
 
 
-def block(batches, root_hash):
+def block(batches, root_hash, number=0, previous="0" * 16):
     made = [batch(operations) for operations in batches]
-    header = record(2, "0" * 16) + record(3, KEY)
+    header = b"\x08" + varint(number) if number else b""
+    header += record(2, previous) + record(3, KEY)
     header += b"".join(record(4, name) for name, _ in made)
     header += record(5, "Devmode") + record(6, root_hash)
     content = record(1, header) + record(2, mark(header))

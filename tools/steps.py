@@ -319,11 +319,16 @@ def root(entries):
 EMPTY = sha512(b"\xa2\x61c\xa0\x61v\xf6")[:64]
 
 
+def left_by(counters):
+    """The entries of counters."""
+    return {address(name): kept(name, value) for name, value in counters.items()}
+
+
 def counters_root(counters):
-    return root({address(name): kept(name, value) for name, value in counters.items()})
+    return root(left_by(counters))
 
 
-def states():
+def told_and_kept():
     at = {name: address(name) for name in "abc"}
     put("states", "told-is-not-known", [
         ("list +", "listed"),
@@ -345,21 +350,106 @@ def states():
         calls.append((f"told {word}", f"root {counters_root(left)} {known}"))
         calls.append((f"update {word}", f"root {counters_root(left)}"))
     put("states", "roots-of-counters", calls)
-    low = "00" * 35
+
+
+def listed(prefix, entries):
+    """A read of what stands under a prefix, in address order."""
+    lines = [f"{at} {value.hex()}" for at, value in sorted(entries.items()) if at.startswith(prefix)]
+    return f"list +{prefix}", "\n".join(["listed"] + lines)
+
+
+def prefixes():
     entries, calls = {}, []
-    for where, value in [(low, b""), (at["b"], kept("b", 1)), (at["a"], kept("a", 1))]:
+    for where, value in [("00" * 35, b""), (address("b"), kept("b", 1)), (address("a"), kept("a", 1))]:
         entries[where] = value
         calls.append((f"update {where}={hexed(value)}", f"root {root(entries)}"))
-    lines = {where: f"{where} {value.hex()}" for where, value in entries.items()}
-    for prefix, found in [
-        ("", [low, at["a"], at["b"]]),
-        ("00", [low]),
-        ("1cf126", [at["a"], at["b"]]),
-        ("1cf126b5", [at["b"]]),
-        ("1d", []),
-    ]:
-        calls.append((f"list +{prefix}", "\n".join(["listed"] + [lines[where] for where in found])))
+    assert sorted(entries) == ["00" * 35, address("a"), address("b")] and address("b").startswith("1cf126b5")
+    calls += [listed(prefix, entries) for prefix in ["", "00", "1cf126", "1cf126b5", "1d"]]
     put("states", "entries-under-a-prefix", calls)
+
+
+def numbered(count, at):
+    """The entries that `many` sets."""
+    return {address(str(number)): number.to_bytes(4, "big") for number in range(at, at + count)}
+
+
+def several_workers():
+    first, both = numbered(300, 0), {**numbered(300, 0), **numbered(300, 150)}
+    assert len(first) == 300 and len(both) == 450
+    calls = []
+    for workers in (1, 2, 8):
+        calls += [
+            (f"workers {workers}", ""),
+            (f"from {EMPTY}", ""),
+            ("list +", "listed"),
+            ("many 300 0", f"root {root(first)}"),
+            ("many 300 150", f"root {root(both)}"),
+        ]
+    put("states", "several-workers", calls + [listed("1cf126a5", both), listed("", both)])
+
+
+def set_to(name, value):
+    return f"{address(name)}={kept(name, value).hex()}"
+
+
+def fork():
+    one, left, right = {"a": 1, "b": 1}, {"a": 2, "b": 1, "c": 3}, {"a": 1}
+    roots = [counters_root(counters) for counters in (one, left, right)]
+    calls = [
+        (f"update {set_to('a', 1)} {set_to('b', 1)}", f"root {roots[0]}"),
+        (f"update {set_to('a', 2)} {set_to('c', 3)}", f"root {roots[1]}"),
+        (f"from {roots[0]}", ""),
+        (f"update {address('b')}", f"root {roots[2]}"),
+        listed("", left_by(right)),
+    ]
+    for at, counters in [(roots[0], one), (roots[1], left), (EMPTY, {}), (roots[2], right)]:
+        calls += [(f"from {at}", ""), listed("", left_by(counters)), listed(address("b"), left_by(counters))]
+    calls += [
+        (f"from {roots[1]}", ""),
+        (f"told {address('a')} {address('b')}", f"root {counters_root({'c': 3})} not known"),
+        (f"told {set_to('a', 1)} {address('c')}", f"root {roots[0]} known"),
+    ]
+    put("states", "fork", calls)
+
+
+def same_value():
+    counters = {"a": 1, "b": 2}
+    same = f"root {counters_root(counters)}"
+    put("states", "same-value", [
+        (f"update {address('a')}", f"root {EMPTY}"),
+        (f"update {set_to('a', 1)} {set_to('b', 2)}", same),
+        (f"told {set_to('a', 1)}", f"{same} known"),
+        (f"update {set_to('a', 1)}", same),
+        (f"update {set_to('b', 2)} {set_to('a', 1)}", same),
+        (f"update {address('c')}", same),
+        (f"update {address('c')} {set_to('b', 2)}", same),
+        ("update", same),
+        listed("", left_by(counters)),
+    ])
+
+
+def several_changes():
+    assert address("a") < address("c") < address("b")
+    put("states", "several-changes", [
+        (f"told {set_to('b', 1)} {set_to('a', 1)}", f"root {counters_root({'a': 1, 'b': 1})} not known"),
+        (f"update {set_to('b', 1)} {set_to('c', 1)} {set_to('a', 1)}", f"root {counters_root({'a': 1, 'b': 1, 'c': 1})}"),
+        # Of two changes of one address the last counts.
+        (f"update {set_to('a', 2)} {address('b')} {address('a')}", f"root {counters_root({'c': 1})}"),
+        listed("", left_by({"c": 1})),
+        (f"update {address('b')} {set_to('a', 2)} {address('c')} {set_to('b', 3)}", f"root {counters_root({'a': 2, 'b': 3})}"),
+        listed("", left_by({"a": 2, "b": 3})),
+        (f"update {set_to('a', 5)} {set_to('b', 6)} {set_to('a', 2)} {set_to('b', 3)}", f"root {counters_root({'a': 2, 'b': 3})}"),
+        (f"told {set_to('c', 1)} {address('c')} {address('b')} {address('a')}", f"root {EMPTY} known"),
+    ])
+
+
+def states():
+    told_and_kept()
+    prefixes()
+    several_workers()
+    fork()
+    same_value()
+    several_changes()
 
 
 # Blocks.
@@ -381,6 +471,10 @@ def batch(payloads):
     return mark(KEY, header), record(1, header) + record(2, mark(KEY, header)) + b"".join(record(3, t) for _, t in made)
 
 
+# What an answer is besides a refusal.
+WORDS = ("committed", "stored", "full", "collision")
+
+
 class Block:
     def __init__(self, name, previous, number, counters, batches, signer=KEY, consensus=b"Devmode"):
         made = [batch(payloads) for payloads in batches]
@@ -391,7 +485,7 @@ class Block:
             file.write(record(1, header) + record(2, self.id) + b"".join(record(3, b) for _, b in made))
 
     def accept(self, line):
-        return f"accept {self.name}.block", line if line in ("committed", "stored", "full") else f"block 0 refused {line}"
+        return f"accept {self.name}.block", line if line in WORDS else f"block 0 refused {line}"
 
     def head(self):
         return "head", f"head {self.number} {self.id} {self.root}"
@@ -522,6 +616,36 @@ def branches():
     ])
 
 
+# Clashes: journals whose hash of a node is the first byte of SHA-512, and zeros.
+
+
+def have_clash(entries):
+    """Whether two different nodes of a map have one such hash."""
+    met = set()
+
+    def one_byte(encoding):
+        met.add(encoding)
+        return sha512(encoding)[:2] + "0" * 62
+
+    one_byte(node(entries, 0, one_byte))
+    return len({sha512(encoding)[:2] for encoding in met}) < len(met)
+
+
+def clashes():
+    counters = {f"n{number}": 1 for number in range(30)}
+    assert have_clash({bytes.fromhex(at): value for at, value in left_by(counters).items()})
+    block = first("thirty-names", counters=counters, batches=[[operation("set", name, 1) for name in counters]])
+    put("clashes", "thirty-names", [
+        ("limit 10", ""),
+        block.accept("collision"),
+        ("blocks", "blocks 0"),
+        ("head", "head none"),
+        ("parent", "parent none"),
+    ])
+    # The block has no fault.
+    put("journal", "thirty-names-without-clash", [("limit 10", ""), block.accept("committed"), block.head()])
+
+
 def main():
     os.makedirs(f"{FOLDER}/blocks", exist_ok=True)
     access()
@@ -534,6 +658,7 @@ def main():
     states()
     verdicts()
     branches()
+    clashes()
 
 
 main()

@@ -7,6 +7,7 @@ mod said;
 use crate::given::{given_of, words_in};
 use crate::said::{Said, said_to, said_to_words};
 use std::process::ExitCode;
+use std::thread::Threads;
 use std::{fs, io};
 
 /// The stored output, notes and status of a case.
@@ -20,9 +21,9 @@ fn stored(rt: &HostRuntime, case: &str) -> io::Result<Said> {
 }
 
 /// Whether the case of this name has its stored output, notes and status.
-fn passes(rt: &HostRuntime, case: &str) -> io::Result<bool> {
-    let wanted = stored(rt, case)?;
-    let said = said_to(rt.alloc(), given_of(rt, case)?)?;
+fn passes<T: Threads + Sync>(rt: &T, host: &HostRuntime, case: &str) -> io::Result<bool> {
+    let wanted = stored(host, case)?;
+    let said = said_to(rt, host.alloc(), given_of(host, case)?)?;
     Ok(said.is(&wanted))
 }
 
@@ -47,40 +48,41 @@ impl Count {
 }
 
 /// Runs the case of each folder in `cases`.
-fn run_cases(rt: &HostRuntime, count: &mut Count) -> io::Result<()> {
-    for entry in fs::read_dir(rt, "cases")? {
+fn run_cases<T: Threads + Sync>(rt: &T, host: &HostRuntime, count: &mut Count) -> io::Result<()> {
+    for entry in fs::read_dir(host, "cases")? {
         let entry = entry?;
-        let passes = passes(rt, entry.file_name())?;
-        count.add(rt, entry.file_name(), passes)?;
+        let passes = passes(rt, host, entry.file_name())?;
+        count.add(host, entry.file_name(), passes)?;
     }
     Ok(())
 }
 
 /// Runs each line of `words.txt`: words that are of no form.
-fn run_words(rt: &HostRuntime, count: &mut Count) -> io::Result<()> {
-    let lines = fs::read_to_string(rt, "words.txt")?;
+fn run_words<T: Threads + Sync>(rt: &T, host: &HostRuntime, count: &mut Count) -> io::Result<()> {
+    let alloc = host.alloc();
+    let lines = fs::read_to_string(host, "words.txt")?;
     for line in lines.lines() {
-        let said = said_to_words(rt.alloc(), words_in(rt.alloc(), line)?)?;
-        count.add(rt, line, said.is_refused())?;
+        let said = said_to_words(rt, alloc, words_in(alloc, line)?)?;
+        count.add(host, line, said.is_refused())?;
     }
     Ok(())
 }
 
 /// Runs all cases; gives whether all passed.
-fn run_all(rt: &HostRuntime) -> io::Result<bool> {
+fn run_all<T: Threads + Sync>(rt: &T, host: &HostRuntime) -> io::Result<bool> {
     let mut count = Count {
         passed: 0,
         failed: 0,
     };
-    run_cases(rt, &mut count)?;
-    run_words(rt, &mut count)?;
+    run_cases(rt, host, &mut count)?;
+    run_words(rt, host, &mut count)?;
     let Count { passed, failed } = count;
-    println!(rt; "{passed} passed, {failed} failed")?;
+    println!(host; "{passed} passed, {failed} failed")?;
     Ok(failed == 0)
 }
 
 fn main(rt: HostRuntime) -> ExitCode {
-    match run_all(&rt) {
+    match run_all(&rt, &rt) {
         Ok(true) => ExitCode::from(0),
         Ok(false) => ExitCode::from(1),
         Err(e) => {

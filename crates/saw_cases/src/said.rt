@@ -6,6 +6,7 @@ use saw_top::run;
 use saw_verify::DevVerifier;
 use std::alloc::{AllocError, Global};
 use std::collections::BTreeMap;
+use std::thread::Threads;
 
 /// Output, notes and status of a run.
 #[derive(Drop)]
@@ -32,7 +33,11 @@ impl Said {
 }
 
 /// What a run says to what is given.
-pub(crate) fn said_to(alloc: Global, given: Given) -> Result<Said, AllocError> {
+pub(crate) fn said_to<T: Threads + Sync>(
+    rt: &T,
+    alloc: Global,
+    given: Given,
+) -> Result<Said, AllocError> {
     let Given {
         words,
         input,
@@ -47,6 +52,7 @@ pub(crate) fn said_to(alloc: Global, given: Given) -> Result<Said, AllocError> {
     let mut notes = MemorySink::new(alloc, notes);
     let mut shelf = MemoryShelf::new(files, fetches);
     let status = run(
+        rt,
         alloc,
         &words,
         &mut source,
@@ -63,8 +69,13 @@ pub(crate) fn said_to(alloc: Global, given: Given) -> Result<Said, AllocError> {
 }
 
 /// What a run says to words, where the first call of each side but the notes would fail.
-pub(crate) fn said_to_words(alloc: Global, words: Vec<String>) -> Result<Said, AllocError> {
+pub(crate) fn said_to_words<T: Threads + Sync>(
+    rt: &T,
+    alloc: Global,
+    words: Vec<String>,
+) -> Result<Said, AllocError> {
     said_to(
+        rt,
         alloc,
         Given {
             words,

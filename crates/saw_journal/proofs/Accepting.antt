@@ -1,26 +1,31 @@
 -- A judged block that joins, and what is said of it.
-use Rattle.std.proofs.Common.{◌≡◌, ℕ, Bool, true, false, List, [], ◌∷◌, ◌++◌, length, None, sym, ap, ◌∙◌}
-use Rattle.std.specs.Prelude.{Ok}
+use Rattle.std.proofs.Common.{◌≡◌, ℕ, Bool, true, false, List, [], ◌∷◌, ◌++◌, length, None, sym, ap, subst, ◌∙◌}
+use Rattle.std.specs.Prelude.{Err, Ok}
 use Rattle.saw_address.specs.Maps.{StateMap}
 use Rattle.saw_checks.specs.Tests.{first_of}
-use Rattle.saw_context.specs.Outcome.{map_after}
+use Rattle.saw_context.specs.Outcome.{Processors, map_after}
+use Rattle.saw_merkle.specs.Clashes.{IsPreparedFor}
+use Rattle.saw_merkle.specs.States.{knows, map_at}
 use Rattle.saw_node.specs.Trees.{root_of_map}
-use Rattle.saw_receipts.specs.States.{knows}
 use Rattle.saw_receipts.specs.declared.block.BlockRecord.{BlockRecord}
 use Rattle.saw_receipts.specs.declared.verdict.Verdict.{Verdict}
 use Rattle.saw_receipts.specs.declared.verdict.Verdict.TheVariants.{Committed, Stored, Refused}
 use Rattle.saw_journal.specs.BlockFaults.{place_tests}
+use Rattle.saw_journal.specs.Clashing.{ClashesAs, TellsNoNodes}
 use Rattle.saw_journal.specs.Heads.{head_of, is_new_head}
 use Rattle.saw_journal.specs.Judgement.{Kept, Rules}
-use Rattle.saw_journal.specs.Ledger.{IsAccepted, IsFull, Ledger, Says, judged_in, map_at, map_under}
-use Rattle.saw_journal.specs.Parted.{IsNew, Joins, JoinsAs, MayJoin}
+use Rattle.saw_journal.specs.Ledger.{IsAccepted, IsFull, Ledger, Says, judged_in, map_under}
+use Rattle.saw_journal.specs.Parted.{IsNew, Joins, JoinsAs, JudgedAs, MayJoin}
+use Rattle.saw_journal.specs.declared.fault.JournalFault.{JournalFault}
+use Rattle.saw_journal.specs.declared.fault.JournalFault.TheVariants as faults
 use Rattle.saw_journal.specs.declared.judge.New.{New}
+use Rattle.saw_journal.specs.declared.stop.Stop.TheVariants.{Failed}
 use Rattle.saw_journal.proofs.FromBytes.{IsFine, is_fine}
 use Rattle.saw_journal.proofs.Judging.{stands}
 use Rattle.saw_journal.proofs.SameParts.{neither}
 
 module _ (rules : Rules) (old : Ledger) (content : List ℕ) (kept : Kept) (fine : judged_in rules old content ≡ Ok kept) (new : New)
-    (is : IsNew old.states kept new) where
+    (is : IsNew rules.hash old.states kept new) where
   made_of : IsFine rules content (map_under old.states) old.blocks kept
   made_of = is_fine rules content (map_under old.states) old.blocks kept fine
 
@@ -39,6 +44,7 @@ module _ (rules : Rules) (old : Ledger) (content : List ℕ) (kept : Kept) (fine
         rising = is.rising;
         root = ap (λ (block : BlockRecord). block.root) record_is ∙ ap (λ (kept : Kept). root_of_map rules.hash kept.left) made_of.made
             ∙ ap (root_of_map rules.hash) is.left;
+        prepared = subst (λ (m : StateMap). IsPreparedFor rules.hash old.states m new.prepared) is.left is.prepared;
       }
 
   joined_as : (is_head : Bool) (after : Ledger) → Joins rules.hash old new is_head after → IsAccepted rules old content is_head after
@@ -66,3 +72,23 @@ module _ (rules : Rules) (old : Ledger) (content : List ℕ) (kept : Kept) (fine
 
   pub says_full : length old.blocks ≡ old.limit → IsFull rules old content
   says_full full = record { kept = kept; fine = fine; full = full }
+
+-- ---- clashes
+
+module _ (processors : Processors) (hash : List ℕ → List ℕ) (accepts : List ℕ → List ℕ → List ℕ → Bool) (old : Ledger) (content : List ℕ) where
+  abbrev AsClashes : JournalFault → Type 0
+  AsClashes = ClashesAs processors hash accepts old content
+
+  -- the clash that ended the judgement
+  pub clashes_judged : (fault : JournalFault) → JudgedAs processors hash accepts old.blocks old.states content (Err (Failed fault)) → AsClashes fault
+  clashes_judged (faults.Collision kept given) met = met
+  clashes_judged faults.Full met = tt
+  clashes_judged faults.PeerFailed met = tt
+  clashes_judged faults.OutOfMemory met = tt
+
+  -- a fault that tells no nodes
+  pub no_clash : (fault : JournalFault) → TellsNoNodes fault → AsClashes fault
+  no_clash (faults.Collision kept given) never = absurd never
+  no_clash faults.Full other = tt
+  no_clash faults.PeerFailed other = tt
+  no_clash faults.OutOfMemory other = tt

@@ -14,8 +14,8 @@ use Rattle.std.proofs.lemmas.List.{map_push, length_push}
 use Rattle.std.proofs.lemmas.List.Folds.{list_any-append}
 use Rattle.indexmap.specs.IndexMap.{insert_entry}
 use Rattle.saw_address.specs.Maps.{StateMap}
+use Rattle.saw_merkle.specs.States.{States, knows, state_at}
 use Rattle.saw_node.specs.Trees.{root_of_map}
-use Rattle.saw_receipts.specs.States.{States, knows, state_at}
 use Rattle.saw_receipts.specs.declared.block.BlockRecord.{BlockRecord}
 use Rattle.saw_journal.specs.Branches.{has_block, has_first, no_block}
 use Rattle.saw_journal.specs.Heads.{head_after, head_of, is_new_head}

@@ -4,34 +4,36 @@ use Rattle.std.specs.Prelude.{IsErrOf}
 use Rattle.saw_address.specs.Maps.{StateMap}
 use Rattle.saw_checks.specs.Readings.{BlockGives, IsBlockOf}
 use Rattle.saw_checks.specs.StructureFaults.{structure_fault}
-use Rattle.saw_checks.specs.Tests.{first_of}
+use Rattle.saw_checks.specs.Tests.{first_of, ◌<|>◌}
 use Rattle.saw_checks.specs.declared.checked.CheckedBlock.{CheckedBlock}
 use Rattle.saw_checks.specs.declared.fault.StructureFault.{StructureFault}
 use Rattle.saw_checks.specs.declared.fault.StructureFault.TheVariants as structures
 use Rattle.saw_context.specs.Outcome.{Processors}
 use Rattle.saw_context.specs.Possible.{MayComeOfAll}
+use Rattle.saw_context.specs.Serial.{left_after}
 use Rattle.saw_context.specs.declared.batch_result.BatchResult.{BatchResult}
+use Rattle.saw_merkle.specs.States.{States, map_at}
 use Rattle.saw_messages.specs.Reasons.{has_own_reason}
 use Rattle.saw_messages.specs.TxShapes.{TxShape}
 use Rattle.saw_messages.specs.declared.talk.Turn.{Turn}
 use Rattle.saw_plan.specs.BatchShapes.{txs_of}
-use Rattle.saw_receipts.specs.States.{States}
 use Rattle.saw_receipts.specs.declared.block.BlockRecord.{BlockRecord}
 use Rattle.saw_receipts.specs.declared.verdict.BlockFault.{BlockFault}
 use Rattle.saw_receipts.specs.declared.verdict.BlockFault.TheVariants.{Structure}
-use Rattle.saw_journal.specs.BlockFaults.{ids_before, parent_of, place_tests, static_fault}
-use Rattle.saw_journal.specs.BlockShapes.{Parts, parts_in}
-use Rattle.saw_journal.specs.Judgement.{Kept, Runs, judged, judged_parts, kept_of, rules_with, unless}
-use Rattle.saw_journal.specs.Ledger.{map_at, map_under}
+use Rattle.saw_journal.specs.BlockFaults.{early_fault, ids_before, parent_of, place_tests, static_fault}
+use Rattle.saw_journal.specs.BlockShapes.{parts_in}
+use Rattle.saw_journal.specs.Judgement.{Kept, Runs, judged, judged_parts, kept_of, rules_with, unless, unless_early, would_leave}
+use Rattle.saw_journal.specs.Ledger.{RunsBy, map_under}
 use Rattle.saw_journal.specs.Parted.{ComesTo, HasRun, JudgedAs, RunsAs}
 use Rattle.saw_journal.specs.Stops.{IsStop, stop_of_structure}
 use Rattle.saw_journal.specs.declared.fault.JournalFault.{JournalFault}
+use Rattle.saw_journal.specs.declared.fault.JournalFault.TheVariants as faults
 use Rattle.saw_journal.specs.declared.fault.JournalFault.TheVariants.{OutOfMemory}
 use Rattle.saw_journal.specs.declared.judge.New.{New}
 use Rattle.saw_journal.specs.declared.stop.Stop.{Stop}
 use Rattle.saw_journal.specs.declared.stop.Stop.TheVariants.{Refused, Failed}
 use Rattle.saw_journal.proofs.Judging.{by_run, dropped, misplaced}
-use Rattle.saw_journal.proofs.SameParts.{judged_bad, judged_is}
+use Rattle.saw_journal.proofs.SameParts.{judged_bad, judged_is, left_is}
 use Rattle.saw_journal.proofs.Ways.{by_serial, here_are, is_by_serial, is_or_here, or_here}
 
 -- a part that stops for the call stops for memory
@@ -74,14 +76,14 @@ module _ (processors : Processors) (own : (tx : TxShape) (turns : List Turn) →
     -- its place has a fault
     pub by_place : (stop : Stop) → IsStop (first_of (place_tests blocks checked.id checked.header)) stop → Answers (Err stop)
     by_place (Refused fault) is = refused fault (λ runs. by_parts runs ∙ misplaced hash runs blocks states (parts_in checked) fault (sym is))
-    by_place (Failed fault) is = tt
+    by_place (Failed fault) is = subst (λ fault. Answers (Err (Failed fault))) (sym is) tt
 
     module _ (placed : first_of (place_tests blocks checked.id checked.header) ≡ None) where
       -- a batch is dropped
       pub by_rules : (stop : Stop) → IsStop (static_fault (ids_before blocks checked.header) checked.batches) stop
           → Answers (Err stop)
       by_rules (Refused fault) is = refused fault (λ runs. by_parts runs ∙ dropped hash runs blocks states (parts_in checked) (sym placed) fault is)
-      by_rules (Failed fault) is = tt
+      by_rules (Failed fault) is = subst (λ fault. Answers (Err (Failed fault))) (sym is) tt
 
       module _ (whole : static_fault (ids_before blocks checked.header) checked.batches ≡ None) (at : List ℕ)
           (same : map_under states (parent_of blocks checked.header) ≡ map_at states at) where
@@ -91,13 +93,30 @@ module _ (processors : Processors) (own : (tx : TxShape) (turns : List Turn) →
         abbrev txs : List (List TxShape)
         txs = txs_of checked.batches
 
+        may_here : (results : List BatchResult) → MayComeOfAll processors (map_at states at) txs results
+            → RunsBy processors (or_here processors before txs results)
+        may_here results may = is_or_here processors own before txs results
+            (subst (λ (m : StateMap). MayComeOfAll processors m txs results) (sym same) may)
+
+        -- the map that the block would leave with these results
+        leaves : (results : List BatchResult)
+            → would_leave (rules_with hash accepts (or_here processors before txs results)) (map_under states) blocks content
+            ≡ Some (left_after (map_at states at) results)
+        leaves results =
+            let runs = or_here processors before txs results in
+            let early : early_fault blocks (parts_in checked) ≡ None = ap (λ first. first <|> static_fault (ids_before blocks checked.header) checked.batches)
+            placed ∙ whole in
+            left_is accepts hash runs (map_under states) blocks content checked sound of
+            ∙ ap (λ found. unless_early found (left_after before (runs before txs))) early
+            ∙ ap (λ results. Some (left_after before results)) (here_are processors before txs results)
+            ∙ ap (λ m. Some (left_after m results)) same
+
         came : (results : List BatchResult) (found : Option BlockFault) → HasRun processors hash states at (parts_in checked) results found
             → (result : Result Kept BlockFault) → unless found (kept_of hash (parts_in checked) (map_at states at) results) ≡ result
             → ComesTo processors hash accepts blocks states content result
         came results found run result is = record {
           runs = or_here processors before txs results;
-          by = is_or_here processors own before txs results
-              (subst (λ (m : StateMap). MayComeOfAll processors m txs results) (sym same) run.may);
+          by = may_here results run.may;
           judged_as = by_parts (or_here processors before txs results)
               ∙ by_run hash (or_here processors before txs results) blocks states (parts_in checked) (sym placed) whole results at same
               (here_are processors before txs results)
@@ -112,4 +131,11 @@ module _ (processors : Processors) (own : (tx : TxShape) (turns : List Turn) →
           is.2,
         )
         by_results (Err (Refused fault)) is = came is.0 (Some fault) is.1 (Err fault) refl
-        by_results (Err (Failed fault)) is = tt
+        by_results (Err (Failed (faults.Collision kept given))) is = (
+          or_here processors before txs is.0,
+          may_here is.0 is.1,
+          record { left = left_after (map_at states at) is.0; left_is = leaves is.0; clash = is.3 },
+        )
+        by_results (Err (Failed faults.Full)) is = tt
+        by_results (Err (Failed faults.PeerFailed)) is = tt
+        by_results (Err (Failed faults.OutOfMemory)) is = tt

@@ -1,5 +1,5 @@
 -- The tests of a block, one after another.
-use Rattle.std.proofs.Common.{◌≡◌, ℕ, Bool, true, false, List, [], ◌∷◌, map, Option, Some, None, refl, sym, ap, subst, ◌∙◌, arith, cond}
+use Rattle.std.proofs.Common.{◌≡◌, ℕ, Bool, true, false, List, [], ◌∷◌, Option, Some, None, refl, sym, ap, subst, ◌∙◌, arith, cond}
 use Rattle.std.specs.Prelude.{◌&&◌, ◌||◌, ◌==◌, not, Err, Ok, IsSome, if◌then◌else◌, unwrap_or}
 use Rattle.std.specs.FinMap as finite
 use Rattle.std.specs.Str.{bytes_eq}
@@ -10,19 +10,19 @@ use Rattle.saw_address.specs.Maps.{StateMap, no_entries}
 use Rattle.saw_checks.specs.Tests.{first_of, ◌<|>◌}
 use Rattle.saw_context.specs.Serial.{left_after}
 use Rattle.saw_context.specs.declared.batch_result.BatchResult.{BatchResult}
+use Rattle.saw_merkle.specs.States.{States, knows, map_at, state_at}
 use Rattle.saw_messages.specs.declared.block.BlockHeader.{BlockHeader}
 use Rattle.saw_node.specs.Trees.{root_of_map}
 use Rattle.saw_plan.specs.BatchShapes.{txs_of}
 use Rattle.saw_plan.specs.StaticRules.{Knows}
 use Rattle.saw_plan.specs.declared.known.Known.{Known}
-use Rattle.saw_receipts.specs.States.{States, knows, state_at}
 use Rattle.saw_receipts.specs.declared.block.BlockRecord.{BlockRecord}
 use Rattle.saw_receipts.specs.declared.verdict.BlockFault.{BlockFault}
 use Rattle.saw_journal.specs.BlockFaults.{due_behind, failure_fault, ids_before, is_first, parent_of, place_tests, root_fault, static_fault}
 use Rattle.saw_journal.specs.Branches.{block_at, branch_of, has_block, has_first, ids_in, no_block}
 use Rattle.saw_journal.specs.Heads.{branch_to}
 use Rattle.saw_journal.specs.Judgement.{Kept, Runs, judged_parts, kept_of, unless}
-use Rattle.saw_journal.specs.Ledger.{map_at, map_under}
+use Rattle.saw_journal.specs.Ledger.{map_under}
 use Rattle.saw_journal.specs.Linked.{StandsBehind, parent_in}
 use Rattle.saw_journal.specs.Parted.{root_before, run_fault}
 use Rattle.saw_journal.specs.BlockShapes.{Parts}

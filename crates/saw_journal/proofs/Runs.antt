@@ -1,42 +1,39 @@
 -- A block's batches over the map before it.
-use Rattle.std.proofs.Common.{◌≡◌, ◌<◌, ◌^◌, ℕ, List, [], ◌∷◌, length, map, Option, Some, None, Result, Ok, Err, refl, sym, ap, ◌∙◌, arith}
-use Rattle.std.specs.Prelude.{IfSome, IsSome, unwrap_or}
+use Rattle.std.proofs.Common.{◌≡◌, ◌<◌, ◌^◌, ℕ, List, [], ◌∷◌, length, Option, Some, None, Result, Ok, Err, refl, sym, ap, subst, ◌∙◌, arith}
+use Rattle.std.specs.Prelude.{IsSome}
 use Rattle.std.proofs.lemmas.List.{length-map}
-use Rattle.saw_address.specs.Maps.{StateMap, no_entries}
+use Rattle.saw_address.specs.Maps.{StateMap}
 use Rattle.saw_checks.specs.Tests.{◌<|>◌}
 use Rattle.saw_context.specs.Changed.{AreRising}
 use Rattle.saw_context.specs.Outcome.{Processors, map_after}
 use Rattle.saw_context.specs.Possible.{MayComeOfAll}
 use Rattle.saw_context.specs.Serial.{left_after}
 use Rattle.saw_context.specs.declared.batch_result.BatchResult.{BatchResult}
+use Rattle.saw_merkle.specs.Clashes.{IsClashFor, IsPreparedFor}
+use Rattle.saw_merkle.specs.States.{States, map_at, state_at}
+use Rattle.saw_merkle.specs.declared.prepared.Prepared.{Prepared}
 use Rattle.saw_messages.specs.TxShapes.{BatchShape, TxShape}
 use Rattle.saw_messages.specs.declared.outcome.Change.{Change}
 use Rattle.saw_node.specs.Trees.{root_of_map}
 use Rattle.saw_plan.specs.BatchShapes.{txs_of}
-use Rattle.saw_receipts.specs.States.{States, state_at}
 use Rattle.saw_receipts.specs.declared.block.BlockRecord.{BlockRecord}
 use Rattle.saw_receipts.specs.declared.verdict.BlockFault.{BlockFault}
 use Rattle.saw_schedule.specs.BatchResults.{AreResultsFor}
+use Rattle.saw_store.specs.declared.fault.StoreFault.{StoreFault}
+use Rattle.saw_store.specs.declared.fault.StoreFault.TheVariants.{Collision, OutOfMemory}
 use Rattle.saw_journal.specs.BlockFaults.{failure_fault, root_fault}
+use Rattle.saw_journal.specs.Clashing.{TellsNoNodes}
 use Rattle.saw_journal.specs.Judgement.{batch_records}
-use Rattle.saw_journal.specs.Ledger.{map_at}
+use Rattle.saw_journal.specs.LowerFaults.{fault_of_store}
 use Rattle.saw_journal.specs.Parted.{RunsAs, run_fault}
 use Rattle.saw_journal.specs.Stops.{IsStop}
+use Rattle.saw_journal.specs.declared.fault.JournalFault.{JournalFault}
+use Rattle.saw_journal.specs.declared.fault.JournalFault.TheVariants as faults
 use Rattle.saw_journal.specs.declared.judge.New.{New}
 use Rattle.saw_journal.specs.declared.stop.Stop.{Stop}
 use Rattle.saw_journal.specs.declared.stop.Stop.TheVariants.{Refused, Failed}
-use Rattle.saw_journal.specs.BlockShapes.{parts_in}
+use Rattle.saw_journal.specs.BlockShapes.{Parts, parts_in}
 use Rattle.saw_checks.specs.declared.checked.CheckedBlock.{CheckedBlock}
-
--- ---- the map of a known root
-
-pub at_known : (found : Option StateMap) (P : StateMap → Type 0) → IsSome found → IfSome found P → P (unwrap_or found no_entries)
-at_known None P known all = absurd cc
-at_known (Some m) P known all = all
-
-pub is_at : (found : Option StateMap) (m : StateMap) → Some m ≡ found → m ≡ unwrap_or found no_entries
-is_at None m is = absurd (grind (arith, is))
-is_at (Some n) m is = grind (arith, is)
 
 -- ---- results
 
@@ -59,6 +56,14 @@ few_results planned batches results same are few =
 
 -- ---- the tests behind the run
 
+-- a fault that tells no nodes says nothing
+pub ran_other : (processors : Processors) (hash : List ℕ → List ℕ) (states : States) (before : List ℕ) (parts : Parts) (fault : JournalFault)
+    → TellsNoNodes fault → RunsAs processors hash states before parts (Err (Failed fault))
+ran_other processors hash states before parts (faults.Collision kept given) never = absurd never
+ran_other processors hash states before parts faults.Full other = tt
+ran_other processors hash states before parts faults.PeerFailed other = tt
+ran_other processors hash states before parts faults.OutOfMemory other = tt
+
 module _ (processors : Processors) (hash : List ℕ → List ℕ) (states : States) (before : List ℕ) (checked : CheckedBlock) (results : List BatchResult)
     (may : MayComeOfAll processors (map_at states before) (txs_of checked.batches) results) where
   abbrev Answers : Result New Stop → Type 0
@@ -74,49 +79,58 @@ module _ (processors : Processors) (hash : List ℕ → List ℕ) (states : Stat
     },
   )
 
-  module _ (none : failure_fault results ≡ None) (root : List ℕ) (changes : List Change)
-      (left : map_after (map_at states before) changes ≡ left_after (map_at states before) results)
-      (is : root ≡ root_of_map hash (map_after (map_at states before) changes)) where
-    root_is : root ≡ root_of_map hash (left_after (map_at states before) results)
-    root_is = is ∙ ap (root_of_map hash) left
+  module _ (none : failure_fault results ≡ None) (changes : List Change)
+      (left : map_after (map_at states before) changes ≡ left_after (map_at states before) results) where
+    -- the state prepared nothing: two nodes clash, unless memory ran out
+    pub not_prepared : (fault : StoreFault) → IsClashFor hash states (map_after (map_at states before) changes) fault
+        → Answers (Err (Failed (fault_of_store fault)))
+    not_prepared (Collision kept given) clash =
+        (results, may, none, subst (λ (m : StateMap). IsClashFor hash states m (Collision kept given)) left clash)
+    not_prepared OutOfMemory clash = tt
 
-    then_root : (found : Option BlockFault) → root_fault checked.header root ≡ found → run_fault hash states before (parts_in checked) results ≡ found
-    then_root found told =
-        ap (λ first. first <|> root_fault checked.header (root_of_map hash (left_after (map_at states before) results))) none
-        ∙ ap (root_fault checked.header) (sym root_is) ∙ told
+    module _ (root : List ℕ) (is : root ≡ root_of_map hash (map_after (map_at states before) changes)) where
+      root_is : root ≡ root_of_map hash (left_after (map_at states before) results)
+      root_is = is ∙ ap (root_of_map hash) left
 
-    -- it states another root
-    pub other_root : (stop : Stop) → IsStop (root_fault checked.header root) stop → Answers (Err stop)
-    other_root (Refused fault) told = (results, record { may = may; tested = then_root (Some fault) told })
-    other_root (Failed fault) told = tt
+      then_root : (found : Option BlockFault) → root_fault checked.header root ≡ found → run_fault hash states before (parts_in checked) results ≡ found
+      then_root found told =
+          ap (λ first. first <|> root_fault checked.header (root_of_map hash (left_after (map_at states before) results))) none
+          ∙ ap (root_fault checked.header) (sym root_is) ∙ told
 
-    -- or there is a record of it
-    pub is_new : (block : BlockRecord) → root_fault checked.header root ≡ None → IsSome (state_at states before) → AreRising changes
-        → block ≡ record {
-          id = checked.id;
-          number = checked.header.block_num;
-          previous = checked.header.previous_block_id;
-          signer =
-              checked.header.signer_public_key;
-          root = root;
-          batches = batch_records checked.batches results;
-        }
-        → Answers (Ok (record { block = block; before = before; changes = changes }))
-    is_new block told known rising made = (
-      results,
-      record { may = may; tested = then_root None told },
-      record {
-        block = made ∙ ap (λ root. record {
-          id = checked.id;
-          number = checked.header.block_num;
-          previous = checked.header.previous_block_id;
-          signer =
-              checked.header.signer_public_key;
-          root = root;
-          batches = batch_records checked.batches results;
-        }) root_is;
-        rising = rising;
-        known = known;
-        left = sym left;
-      },
-    )
+      -- it states another root
+      pub other_root : (stop : Stop) → IsStop (root_fault checked.header root) stop → Answers (Err stop)
+      other_root (Refused fault) told = (results, record { may = may; tested = then_root (Some fault) told })
+      other_root (Failed fault) told = subst (λ fault. Answers (Err (Failed fault))) (sym told) tt
+
+      -- or there is a record of it
+      pub is_new : (block : BlockRecord) (prepared : Prepared) → root_fault checked.header root ≡ None → IsSome (state_at states before) → AreRising changes
+          → IsPreparedFor hash states (map_after (map_at states before) changes) prepared
+          → block ≡ record {
+            id = checked.id;
+            number = checked.header.block_num;
+            previous = checked.header.previous_block_id;
+            signer =
+                checked.header.signer_public_key;
+            root = root;
+            batches = batch_records checked.batches results;
+          }
+          → Answers (Ok (record { block = block; before = before; changes = changes; prepared = prepared }))
+      is_new block prepared told known rising ready made = (
+        results,
+        record { may = may; tested = then_root None told },
+        record {
+          block = made ∙ ap (λ root. record {
+            id = checked.id;
+            number = checked.header.block_num;
+            previous = checked.header.previous_block_id;
+            signer =
+                checked.header.signer_public_key;
+            root = root;
+            batches = batch_records checked.batches results;
+          }) root_is;
+          rising = rising;
+          known = known;
+          left = sym left;
+          prepared = subst (λ (m : StateMap). IsPreparedFor hash states m prepared) left ready;
+        },
+      )

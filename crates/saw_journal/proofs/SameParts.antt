@@ -24,7 +24,7 @@ use Rattle.saw_receipts.specs.declared.block.BlockRecord.{BlockRecord}
 use Rattle.saw_receipts.specs.declared.verdict.BlockFault.TheVariants.{Structure}
 use Rattle.saw_wire.specs.declared.fault.MessageFault.{MessageFault}
 use Rattle.saw_address.specs.Maps.{StateMap}
-use Rattle.saw_journal.specs.Judgement.{Runs, judged, judged_header, judged_parts, rules_with}
+use Rattle.saw_journal.specs.Judgement.{Runs, judged, judged_header, judged_parts, left_header, left_parts, rules_with, would_leave}
 use Rattle.saw_journal.specs.BlockShapes.{batch_in, parts_in, parts_of, signer_by}
 
 same_shape : (id id' bytes bytes' payload payload' : List ℕ) (header header' : TransactionHeader) → id ≡ id' → header ≡ header' → bytes ≡ bytes'
@@ -106,6 +106,15 @@ module _ (accepts : List ℕ → List ℕ → List ℕ → Bool) where
         let read : judged (rules_with hash accepts runs) map_behind blocks content ≡ judged_header hash runs map_behind blocks is.read
         (Ok checked.header) = rw (fine, is.decoded, is.header) refl in
         read ∙ ap (judged_parts hash runs map_behind blocks) (sym (same_parts content checked is fine))
+
+    -- and so is what they would leave
+    pub left_is : (checked : CheckedBlock) → structure_fault accepts content ≡ None → IsBlockOf content checked
+        → would_leave (rules_with hash accepts runs) map_behind blocks content ≡ left_parts runs map_behind blocks (parts_in checked)
+    unfolding would_leave
+    left_is checked fine is =
+        let read : would_leave (rules_with hash accepts runs) map_behind blocks content ≡ left_header runs map_behind blocks is.read
+        (Ok checked.header) = rw (fine, is.decoded, is.header) refl in
+        read ∙ ap (left_parts runs map_behind blocks) (sym (same_parts content checked is fine))
 
     -- and a structure fault is its fault
     pub judged_bad : (fault : StructureFault) → structure_fault accepts content ≡ Some fault

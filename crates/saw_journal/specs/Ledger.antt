@@ -1,10 +1,10 @@
 -- What a journal holds, and what a call leaves of it.
-use Rattle.std.specs.Prelude.{◌≡◌, ◌<◌, ℕ, Bool, true, false, List, [], ◌∷◌, ◌++◌, length, Option, Some, None, Result, Ok, Err, unwrap_or}
+use Rattle.std.specs.Prelude.{◌≡◌, ◌<◌, ℕ, Bool, true, false, List, [], ◌∷◌, ◌++◌, length, Option, Some, None, Result, Ok, Err}
 use Rattle.saw_address.specs.Maps.{StateMap, no_entries}
 use Rattle.saw_context.specs.Outcome.{Processors}
 use Rattle.saw_context.specs.Possible.{MayComeOfAll}
+use Rattle.saw_merkle.specs.States.{States, knows, map_at}
 use Rattle.saw_messages.specs.TxShapes.{TxShape}
-use Rattle.saw_receipts.specs.States.{States, knows, state_at}
 use Rattle.saw_receipts.specs.declared.block.BlockRecord.{BlockRecord}
 use Rattle.saw_receipts.specs.declared.verdict.BlockFault.{BlockFault}
 use Rattle.saw_receipts.specs.declared.verdict.Verdict.{Verdict}
@@ -17,10 +17,6 @@ pub record Ledger : Type 0 where
   pub blocks : List BlockRecord
   pub states : States
   pub limit : ℕ
-
--- the map of a known root; of another there is nothing
-abbrev pub map_at : States → List ℕ → StateMap
-map_at states root = unwrap_or (state_at states root) no_entries
 
 -- the map behind a block: that under its root; before a first block there is nothing
 abbrev pub map_under : States → Option BlockRecord → StateMap

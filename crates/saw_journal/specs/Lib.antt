@@ -1,4 +1,4 @@
-pub mod CrewFaults
+pub mod LowerFaults
 pub mod Stops
 pub mod Branches
 pub mod Heads
@@ -8,5 +8,6 @@ pub mod Judgement
 pub mod Linked
 pub mod Left
 pub mod Ledger
+pub mod Clashing
 pub mod Standing
 pub mod Parted

@@ -1,5 +1,5 @@
 -- What the parts of a judgement answer.
-use Rattle.std.specs.Prelude.{◌≡◌, ◌<◌, ℕ, Bool, true, false, List, [], ◌∷◌, ◌++◌, length, map, Option, Some, None, option_copied, IsSome}
+use Rattle.std.specs.Prelude.{◌≡◌, ◌<◌, ℕ, Bool, true, false, List, [], ◌∷◌, ◌++◌, length, Option, Some, None, option_copied, IsSome}
 use Rattle.std.specs.Prelude.{Result, Ok, Err}
 use denote.Ref.{Bor}
 use Rattle.saw_address.specs.Maps.{no_entries}
@@ -9,24 +9,28 @@ use Rattle.saw_context.specs.Outcome.{Processors, map_after}
 use Rattle.saw_context.specs.Possible.{MayComeOfAll}
 use Rattle.saw_context.specs.Serial.{left_after}
 use Rattle.saw_context.specs.declared.batch_result.BatchResult.{BatchResult}
+use Rattle.saw_merkle.specs.Clashes.{IsClashFor, IsPreparedFor}
+use Rattle.saw_merkle.specs.States.{States, knows, map_at, state_at}
 use Rattle.saw_messages.specs.declared.block.BlockHeader.{BlockHeader}
-use Rattle.saw_node.specs.Trees.{root_of_map}
 use Rattle.saw_messages.specs.TxShapes.{BatchShape}
+use Rattle.saw_node.specs.Trees.{root_of_map}
 use Rattle.saw_plan.specs.BatchShapes.{txs_of}
 use Rattle.saw_plan.specs.StaticRules.{Ids}
 use Rattle.saw_plan.specs.declared.plan.Plan.{Plan}
-use Rattle.saw_receipts.specs.States.{States, knows, state_at}
 use Rattle.saw_receipts.specs.declared.block.BlockRecord.{BlockRecord}
 use Rattle.saw_receipts.specs.declared.verdict.BlockFault.{BlockFault}
 use Rattle.saw_receipts.specs.declared.verdict.Verdict.{Verdict}
 use Rattle.saw_receipts.specs.declared.verdict.Verdict.TheVariants as verdicts
+use Rattle.saw_store.specs.declared.fault.StoreFault.TheVariants.{Collision}
 use Rattle.saw_journal.specs.BlockFaults.{failure_fault, parent_of, place_tests, root_fault, static_fault}
 use Rattle.saw_journal.specs.BlockShapes.{Parts}
+use Rattle.saw_journal.specs.Clashing.{Clashes}
 use Rattle.saw_journal.specs.Heads.{head_of, is_new_head}
 use Rattle.saw_journal.specs.Judgement.{Kept, Runs, judged, kept_of, rules_with}
-use Rattle.saw_journal.specs.Ledger.{Ledger, RunsBy, map_at, map_under}
+use Rattle.saw_journal.specs.Ledger.{Ledger, RunsBy, map_under}
 use Rattle.saw_journal.specs.Linked.{StandsBehind}
 use Rattle.saw_journal.specs.Stops.{IsStop}
+use Rattle.saw_journal.specs.declared.fault.JournalFault.TheVariants as faults
 use Rattle.saw_journal.specs.declared.judge.New.{New}
 use Rattle.saw_journal.specs.declared.stop.Stop.{Stop}
 use Rattle.saw_journal.specs.declared.stop.Stop.TheVariants.{Refused, Failed}
@@ -46,12 +50,14 @@ abbrev pub root_before : (List ℕ → List ℕ) → Option BlockRecord → List
 root_before hash None = root_of_map hash no_entries
 root_before hash (Some parent) = parent.root
 
--- a record and changes that say what is kept of a block: the changes lead from a known map to the one that it leaves
-pub record IsNew (states : States) (kept : Kept) (new : New) : Type 0 where
+-- a record and changes that say what is kept of a block: the changes lead from a known map to the one that it leaves,
+-- which has what it needs to become known
+pub record IsNew (hash : List ℕ → List ℕ) (states : States) (kept : Kept) (new : New) : Type 0 where
   pub block : new.block ≡ kept.block
   pub rising : AreRising new.changes
   pub known : IsSome (state_at states new.before)
   pub left : kept.left ≡ map_after (map_at states new.before) new.changes
+  pub prepared : IsPreparedFor hash states kept.left new.prepared
 
 -- the tests of a block that need the results of its batches
 abbrev pub run_fault : (List ℕ → List ℕ) → States → List ℕ → Parts → List BatchResult → Option BlockFault
@@ -66,9 +72,13 @@ module _ (processors : Processors) (hash : List ℕ → List ℕ) (states : Stat
 
   -- what the run of a block's batches answers
   abbrev pub RunsAs : Result New Stop → Type 0
-  RunsAs (Ok new) = (results : List BatchResult) × HasRun results None × IsNew states (kept_of hash parts (map_at states before) results) new
+  RunsAs (Ok new) =
+      (results : List BatchResult) × HasRun results None × IsNew hash states (kept_of hash parts (map_at states before) results) new
   RunsAs (Err (Refused fault)) = (results : List BatchResult) × HasRun results (Some fault)
-  RunsAs (Err (Failed fault)) = Unit {0}
+  RunsAs (Err (Failed (faults.Collision kept given))) =
+      (results : List BatchResult) × MayComeOfAll processors (map_at states before) (txs_of parts.batches) results
+      × (failure_fault results ≡ None) × IsClashFor hash states (left_after (map_at states before) results) (Collision kept given)
+  RunsAs (Err (Failed _)) = Unit {0}
 
 module _ (processors : Processors) (hash : List ℕ → List ℕ) (accepts : List ℕ → List ℕ → List ℕ → Bool) (blocks : List BlockRecord) (states : States)
     (content : List ℕ) where
@@ -80,17 +90,20 @@ module _ (processors : Processors) (hash : List ℕ → List ℕ) (accepts : Lis
 
   -- what a judgement of the bytes answers
   abbrev pub JudgedAs : Result New Stop → Type 0
-  JudgedAs (Ok new) = (kept : Kept) × ComesTo (Ok kept) × IsNew states kept new
+  JudgedAs (Ok new) = (kept : Kept) × ComesTo (Ok kept) × IsNew hash states kept new
   JudgedAs (Err (Refused fault)) = ComesTo (Err fault)
-  JudgedAs (Err (Failed fault)) = Unit {0}
+  JudgedAs (Err (Failed (faults.Collision kept given))) =
+      (runs : Runs) × RunsBy processors runs × Clashes (rules_with hash accepts runs) states blocks content kept given
+  JudgedAs (Err (Failed _)) = Unit {0}
 
 -- what a new block has, so that it may join: it stands behind the accepted ones, and has the root of the map that
--- it leaves
+-- it leaves and what that needs to become known
 pub record MayJoin (hash : List ℕ → List ℕ) (old : Ledger) (new : New) : Type 0 where
   pub behind : StandsBehind old.blocks new.block
   pub known : IsSome (state_at old.states new.before)
   pub rising : AreRising new.changes
   pub root : new.block.root ≡ root_of_map hash (map_after (map_at old.states new.before) new.changes)
+  pub prepared : IsPreparedFor hash old.states (map_after (map_at old.states new.before) new.changes) new.prepared
 
 -- the ledger with the block, whose map is known
 abbrev pub joined : (List ℕ → List ℕ) → Ledger → New → Ledger

@@ -3,7 +3,7 @@ use Rattle.std.specs.Prelude.{◌≡◌, ◌≤◌, ℕ, Bool, true, false, List
 use Rattle.std.specs.FinMap as finite
 use Rattle.std.specs.List.{AllByRecursion}
 use Rattle.saw_address.specs.Maps.{no_entries}
-use Rattle.saw_receipts.specs.States.{States, knows, state_at}
+use Rattle.saw_merkle.specs.States.{States, knows, state_at}
 use Rattle.saw_receipts.specs.declared.block.BlockRecord.{BlockRecord}
 use Rattle.saw_journal.specs.Branches.{has_first}
 use Rattle.saw_journal.specs.Heads.{head_of}

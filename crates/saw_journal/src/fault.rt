@@ -4,12 +4,13 @@ ghost use Rattle.std.specs.Prelude.{◌≡◌};
 ghost use Rattle.saw_journal.specs.declared.fault.JournalFault.TheVariants.{OutOfMemory};
 
 use saw_crew::CrewFault;
-use saw_receipts::StoreFault;
+use saw_node::Node;
+use saw_store::StoreFault;
 use std::alloc::{AllocError, AllocFailed};
 use thiserror::Error;
 
 /// Why nothing is said of a block. The accepted blocks and the head are as before.
-#[derive(Clone, Copy, Debug, PartialEq, Eq, Error)]
+#[derive(Debug, Drop, Error)]
 pub enum JournalFault {
     /// As many blocks are accepted as may be, and this one has no fault.
     #[error("no more blocks can be accepted")]
@@ -17,12 +18,16 @@ pub enum JournalFault {
     /// A processor failed. Its station has counted it.
     #[error("a processor failed")]
     PeerFailed,
+    /// Two different nodes of one hash were met: one of the map that the block would leave, and one of that map or of an
+    /// accepted block's.
+    #[error("two different nodes have one hash")]
+    Collision { kept: Node, given: Node },
     #[error("out of memory")]
     OutOfMemory,
 }
 
 impl From<CrewFault> for JournalFault {
-    ghost use Rattle.saw_journal.specs.CrewFaults.{fault_of_crew};
+    ghost use Rattle.saw_journal.specs.LowerFaults.{fault_of_crew};
 
     ghost from_gives = { λ fault e. e ≡ fault_of_crew fault };
 
@@ -35,10 +40,15 @@ impl From<CrewFault> for JournalFault {
 }
 
 impl From<StoreFault> for JournalFault {
-    ghost from_gives = { λ _ e. e ≡ OutOfMemory };
+    ghost use Rattle.saw_journal.specs.LowerFaults.{fault_of_store};
 
-    fn from(_: StoreFault) -> Self {
-        JournalFault::OutOfMemory
+    ghost from_gives = { λ fault e. e ≡ fault_of_store fault };
+
+    fn from(fault: StoreFault) -> Self {
+        match fault {
+            StoreFault::Collision { kept, given } => JournalFault::Collision { kept, given },
+            StoreFault::OutOfMemory => JournalFault::OutOfMemory,
+        }
     }
 }
 

@@ -9,13 +9,15 @@ ghost use Rattle.saw_context.specs.Changed.{AreRising};
 ghost use Rattle.saw_context.specs.Outcome.{map_after};
 ghost use Rattle.saw_crew.specs.Desks.{Failed, HaveSameOffers, KeepsDesks, offers_at};
 ghost use Rattle.saw_journal.specs.Branches.{block_at, has_block, ids_in};
+ghost use Rattle.saw_journal.specs.Clashing.{ClashesAs, TellsNoNodes};
 ghost use Rattle.saw_journal.specs.Heads.{as_parent, head_branch, head_of, is_new_head};
 ghost use Rattle.saw_journal.specs.Judgement.{Runs, rules_with};
-ghost use Rattle.saw_journal.specs.Ledger.{IsFull, RunsBy, Says, map_at};
+ghost use Rattle.saw_journal.specs.Ledger.{IsFull, RunsBy, Says};
 ghost use Rattle.saw_journal.specs.Linked.{AreLinked};
 ghost use Rattle.saw_journal.specs.Parted.{JoinsAs, MayJoin};
+ghost use Rattle.saw_merkle.specs.Clashes.{AreTold, IsPreparedFor};
+ghost use Rattle.saw_merkle.specs.States.{AreRooted, Stays, knows, map_at, state_at};
 ghost use Rattle.saw_plan.specs.StaticRules.{Knows};
-ghost use Rattle.saw_receipts.specs.States.{AreRooted, knows, state_at};
 ghost use Rattle.saw_station.specs.Serving.{processors_at};
 
 use crate::branch::known_behind;
@@ -24,13 +26,15 @@ use crate::head::choose;
 use crate::judge::{New, judge};
 use crate::stop::Stop;
 use indexmap::IndexMap;
+use saw_merkle::State;
 use saw_node::NodeHasher;
 use saw_plan::Known;
-use saw_receipts::{BlockMap, BlockRecord, Parent, State, Verdict};
+use saw_receipts::{BlockMap, BlockRecord, Parent, Verdict};
 use saw_station::{Desk, Station};
 use saw_verify::Verifier;
 use std::alloc::{AllocError, Global};
 use std::marker::Model;
+use std::thread::Threads;
 
 /// The accepted blocks, the maps that they leave, and the head.
 #[derive(Drop)]
@@ -84,11 +88,14 @@ fn put<H: NodeHasher>(
     requires ids { map string_bytes (keys blocks.old) ≡ map (λ block. block.id) (values blocks.old) }
     requires known { IsSome (state_at state.old new.before) }
     requires rising { AreRising new.changes }
+    requires prepared { IsPreparedFor H.hash_of state.old
+        (map_after (map_at state.old new.before) new.changes) new.prepared }
     ensures joined { OnOk result (values blocks.new ≡ values blocks.old ++ new.block ∷ []) }
     ensures ids { OnOk result (
         map string_bytes (keys blocks.new) ≡ map (λ block. block.id) (values blocks.new)) }
     ensures state { OnOk result (state.new ≡ knows H.hash_of state.old
         (map_after (map_at state.old new.before) new.changes)) }
+    ensures stays { OnOk result (Stays state.old state.new) }
     ensures err_blocks { OnErr result ((values blocks.new ≡ values blocks.old)
         × (map string_bytes (keys blocks.new) ≡ map string_bytes (keys blocks.old))) }
     ensures err_state { OnErr result (state.new ≡ state.old) }
@@ -98,10 +105,11 @@ fn put<H: NodeHasher>(
         block,
         before,
         changes,
+        prepared,
     } = new;
     let key = String::from_str(alloc, block.id.as_str())?;
     blocks.reserve(1)?;
-    state.update(&before, changes.as_slice(), 1)?;
+    state.keep(&before, changes.as_slice(), prepared)?;
     put_last(blocks, key, block);
     Ok(())
 }
@@ -155,8 +163,9 @@ impl<H: NodeHasher> Journal<H> {
         ensures state { result.now ≡ self.now.states }
         ensures known { AllByRecursion (λ block. IsSome (state_at result.now block.root)) self.now.blocks }
         ensures rooted { AreRooted H.hash_of result.now }
+        ensures told { AreTold H.hash_of result.now }
     {
-        self.state.rooted();
+        self.state.sound();
         &self.state
     }
 
@@ -200,6 +209,8 @@ impl<H: NodeHasher> Journal<H> {
         ensures ok { IfOk result (λ verdict. JoinsAs H.hash_of self.old new verdict self.new) }
         ensures full { IsErrOf result JournalFault.Full → length self.old.blocks ≡ self.old.limit }
         ensures peer { IsErrOf result JournalFault.PeerFailed → ⊥ }
+        ensures clear { IfErr result TellsNoNodes }
+        ensures stays { OnOk result (Stays self.old.states self.new.states) }
         ensures err { OnErr result (self.new ≡ self.old) }
     {
         if self.blocks.len() >= self.limit as usize {
@@ -216,9 +227,11 @@ impl<H: NodeHasher> Journal<H> {
     }
 
     /// Judges the bytes of a block. It is accepted exactly where it has no fault. After a fault of this call the journal is
-    /// as before. The desks keep their offers and their remotes.
-    pub fn accept<V: Verifier, R: Station>(
+    /// as before. `Collision` may come in place of a fault of the root, of `Full` and of a verdict. The desks keep their
+    /// offers and their remotes.
+    pub fn accept<T: Threads + Sync, V: Verifier, R: Station>(
         &mut self,
+        rt: &T,
         bytes: &[u8],
         verifier: &V,
         desks: &mut [Desk<R>],
@@ -232,11 +245,15 @@ impl<H: NodeHasher> Journal<H> {
         ensures full { IsErrOf result JournalFault.Full → (runs : Runs)
             × RunsBy (processors_at R.next R.tells (offers_at desks.old)) runs
             × IsFull (rules_with H.hash_of (V.accepts verifier.now) runs) self.old bytes.now }
+        ensures clash { IfErr result (ClashesAs (processors_at R.next R.tells (offers_at desks.old))
+            H.hash_of (V.accepts verifier.now) self.old bytes.now) }
+        ensures stays { OnOk result (Stays self.old.states self.new.states) }
         ensures err { OnErr result (self.new ≡ self.old) }
         ensures desks { KeepsDesks R.faults R.offered desks.old desks.new }
         ensures cause { IsErrOf result JournalFault.PeerFailed → Failed R.faults desks.old desks.new }
     {
         match judge(
+            rt,
             self.alloc,
             &self.blocks,
             &self.state,

@@ -14,22 +14,25 @@ use crate::planned::plan_all;
 use crate::run::run;
 use crate::stop::Stop;
 use saw_checks::check_block;
+use saw_merkle::{Prepared, State};
 use saw_messages::Change;
 use saw_node::{NodeHash, NodeHasher, root_by};
-use saw_receipts::{BlockMap, BlockRecord, State};
+use saw_receipts::{BlockMap, BlockRecord};
 use saw_station::{Desk, Station};
 use saw_verify::Verifier;
 use saw_wire::Items;
 use std::alloc::{AllocError, Global};
 use std::collections::BTreeMap;
+use std::thread::Threads;
 
-/// What is kept of a block without fault: its record, and the changes that lead from the map under the root `before` to the
-/// one that it leaves.
+/// What is kept of a block without fault: its record, the changes that lead from the map under the root `before` to the
+/// one that it leaves, and what that one needs to become known.
 #[derive(Drop)]
 pub(crate) struct New {
     pub(crate) block: BlockRecord,
     pub(crate) before: NodeHash,
     pub(crate) changes: Items<Change>,
+    pub(crate) prepared: Prepared,
 }
 
 fn root_before<H: NodeHasher>(
@@ -48,7 +51,8 @@ fn root_before<H: NodeHasher>(
 }
 
 /// Judges the bytes of a block. It stops at the first fault.
-pub(crate) fn judge<H: NodeHasher, V: Verifier, R: Station>(
+pub(crate) fn judge<H: NodeHasher, T: Threads + Sync, V: Verifier, R: Station>(
+    rt: &T,
     alloc: Global,
     blocks: &BlockMap,
     state: &State<H>,
@@ -74,5 +78,5 @@ pub(crate) fn judge<H: NodeHasher, V: Verifier, R: Station>(
     let known = known_behind(alloc, blocks, parent)?;
     let plan = plan_all(alloc, &known, checked.batches.as_slice())?;
     let before = root_before::<H>(alloc, parent)?;
-    run(alloc, state, before, checked, plan, desks)
+    run(rt, alloc, state, before, checked, plan, desks)
 }

@@ -1,16 +1,16 @@
 //! A block's batches over the map before it.
 
-ghost use Rattle.std.specs.Prelude.{◌≡◌, ◌<◌, ◌^◌, map, length, IfOk, IsErrOf, IsSome};
+ghost use Rattle.std.specs.Prelude.{◌≡◌, ◌<◌, ◌^◌, map, length, IfErr, IfOk, IsErrOf, IsSome};
 ghost use Rattle.saw_context.specs.Possible.{MayComeOfAll};
 ghost use Rattle.saw_crew.specs.Desks.{Failed, HaveSameOffers, KeepsDesks, offers_at};
 ghost use Rattle.saw_journal.specs.BlockFaults.{root_fault};
+ghost use Rattle.saw_journal.specs.Clashing.{TellsNoNodes};
 ghost use Rattle.saw_journal.specs.Judgement.{batch_records};
-ghost use Rattle.saw_journal.specs.Ledger.{map_at};
 ghost use Rattle.saw_journal.specs.Parted.{RunsAs};
 ghost use Rattle.saw_journal.specs.Stops.{TestsAs};
 ghost use Rattle.saw_journal.specs.BlockShapes.{parts_in};
+ghost use Rattle.saw_merkle.specs.States.{map_at, state_at};
 ghost use Rattle.saw_plan.specs.BatchShapes.{transactions_in, txs_of};
-ghost use Rattle.saw_receipts.specs.States.{state_at};
 ghost use Rattle.saw_schedule.specs.BatchResults.{AreResultsFor};
 ghost use Rattle.saw_station.specs.Serving.{processors_at};
 
@@ -20,14 +20,16 @@ use crate::results::{batch_records, test_results};
 use crate::stop::Stop;
 use saw_checks::CheckedBlock;
 use saw_crew::execute;
+use saw_merkle::State;
 use saw_messages::BlockHeader;
 use saw_node::{NodeHash, NodeHasher};
 use saw_plan::Plan;
-use saw_receipts::{BlockFault, BlockRecord, State};
+use saw_receipts::{BlockFault, BlockRecord};
 use saw_schedule::Results;
 use saw_station::{Desk, Station};
 use std::alloc::{AllocError, Global};
 use std::sync::Arc;
+use std::thread::Threads;
 
 fn execute_over<H: NodeHasher, R: Station>(
     alloc: Global,
@@ -47,6 +49,7 @@ fn execute_over<H: NodeHasher, R: Station>(
     ensures whole { IfOk result (λ results. AreResultsFor (txs_of plan.batches)
         results.batches) }
     ensures room { IsErrOf result JournalFault.Full → ⊥ }
+    ensures clear { IfErr result TellsNoNodes }
     ensures desks { KeepsDesks R.faults R.offered desks.old desks.new }
     ensures cause { IsErrOf result JournalFault.PeerFailed → Failed R.faults desks.old desks.new }
 {
@@ -103,7 +106,8 @@ fn record_of(
 }
 
 /// Runs the planned batches of a block over the map under the root `before`. It stops at the tests that need their results.
-pub(crate) fn run<H: NodeHasher, R: Station>(
+pub(crate) fn run<H: NodeHasher, T: Threads + Sync, R: Station>(
+    rt: &T,
     alloc: Global,
     state: &State<H>,
     before: NodeHash,
@@ -127,12 +131,14 @@ pub(crate) fn run<H: NodeHasher, R: Station>(
     let results = execute_over(alloc, state, before, plan, desks)?;
     test_results(&results)?;
     let changes = results.changes(alloc)?;
-    let root = state.root_after(&before, changes.as_slice(), 1)?;
+    let prepared = state.prepare(rt, &before, changes.as_slice(), 1)?;
+    let root = prepared.root();
     test_root(alloc, &checked.header, root)?;
     let block = record_of(alloc, checked, root, &results)?;
     Ok(New {
         block,
         before,
         changes,
+        prepared,
     })
 }

@@ -1,13 +1,15 @@
 //! Why a judgement ends before there is a record of the block.
 
 ghost use Rattle.std.specs.Prelude.{◌≡◌};
+ghost use Rattle.saw_journal.specs.LowerFaults.{fault_of_store};
 ghost use Rattle.saw_journal.specs.Stops.{stop_of_structure};
 ghost use Rattle.saw_journal.specs.declared.fault.JournalFault.TheVariants.{OutOfMemory};
 ghost use Rattle.saw_journal.specs.declared.stop.Stop.TheVariants.{Refused, Failed};
 
 use crate::fault::JournalFault;
 use saw_checks::StructureFault;
-use saw_receipts::{BlockFault, StoreFault};
+use saw_receipts::BlockFault;
+use saw_store::StoreFault;
 use std::alloc::AllocError;
 
 /// What ends a judgement: a fault of the block, or one of the call, which says nothing of it.
@@ -45,10 +47,10 @@ impl From<JournalFault> for Stop {
 }
 
 impl From<StoreFault> for Stop {
-    ghost from_gives = { λ _ e. e ≡ Failed OutOfMemory };
+    ghost from_gives = { λ fault e. e ≡ Failed (fault_of_store fault) };
 
-    fn from(_: StoreFault) -> Self {
-        Stop::Failed(JournalFault::OutOfMemory)
+    fn from(fault: StoreFault) -> Self {
+        Stop::Failed(JournalFault::from(fault))
     }
 }
 

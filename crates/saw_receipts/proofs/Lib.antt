@@ -1,3 +1,0 @@
-pub mod Copies
-pub mod Shown
-pub mod Rooted

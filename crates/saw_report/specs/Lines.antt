@@ -6,12 +6,12 @@ use Rattle.saw_checks.specs.declared.fault.BatchFault.{BatchFault}
 use Rattle.saw_checks.specs.declared.fault.BatchFault.TheVariants as batches
 use Rattle.saw_checks.specs.declared.fault.StructureFault.{StructureFault}
 use Rattle.saw_checks.specs.declared.fault.StructureFault.TheVariants as blocks
+use Rattle.saw_merkle.specs.declared.tree.Listed.{Listed}
 use Rattle.saw_messages.specs.declared.outcome.Reason.{Reason}
 use Rattle.saw_messages.specs.declared.outcome.Reason.TheVariants as reasons
 use Rattle.saw_plan.specs.declared.sorted.DropCause.{DropCause}
 use Rattle.saw_plan.specs.declared.sorted.DropCause.TheVariants as causes
 use Rattle.saw_receipts.specs.declared.block.BlockRecord.{BlockRecord}
-use Rattle.saw_receipts.specs.declared.plain_state.Listed.{Listed}
 use Rattle.saw_receipts.specs.declared.verdict.BlockFault.{BlockFault}
 use Rattle.saw_receipts.specs.declared.verdict.BlockFault.TheVariants as faults
 use Rattle.saw_receipts.specs.declared.verdict.Verdict.{Verdict}

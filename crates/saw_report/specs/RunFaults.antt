@@ -1,11 +1,14 @@
 -- What ends a run before its answer is whole: the status of each fault, and its line on the notes.
-use Rattle.std.specs.Prelude.{ℕ, List, [], ◌∷◌, ◌++◌, codes}
+use Rattle.std.specs.Prelude.{ℕ, Bool, true, false, List, [], ◌∷◌, ◌++◌, codes}
+use Rattle.hex.specs.Hex.{encode_lower}
 use Rattle.saw_io.specs.declared.fault.FrameFault.{FrameFault}
 use Rattle.saw_io.specs.declared.fault.FrameFault.TheVariants as frames
 use Rattle.saw_io.specs.declared.fault.ShelfFault.{ShelfFault}
 use Rattle.saw_io.specs.declared.fault.ShelfFault.TheVariants as shelves
 use Rattle.saw_io.specs.declared.fault.SinkFault.{SinkFault}
 use Rattle.saw_io.specs.declared.fault.SinkFault.TheVariants as sinks
+use Rattle.saw_node.specs.Nodes.{encoding_of, shape_of}
+use Rattle.saw_node.specs.declared.node.Node.{Node}
 use Rattle.saw_verify.specs.declared.attest.AttestFault.{AttestFault}
 use Rattle.saw_verify.specs.declared.attest.AttestFault.TheVariants as lists
 use Rattle.saw_report.specs.Lines.{spaced}
@@ -46,13 +49,18 @@ status_of runs.Blocks = 10
 status_of runs.Read = 4
 status_of runs.Write = 5
 status_of runs.Peer = 6
+status_of (runs.Collision kept given) = 9
 status_of runs.Memory = 7
 status_of runs.FileMissing = 11
 status_of runs.FileTooLong = 11
 status_of runs.FileFailed = 11
 status_of (runs.BadLine line) = 11
 
--- the name of a fault, and its numbers
+-- a node as it is told: the lower-case digits of its encoding
+abbrev pub node_digits : Node → List ℕ
+node_digits node = encode_lower (encoding_of (shape_of node))
+
+-- the name of a fault, and its numbers or nodes
 abbrev pub fault_words : RunFault → List ℕ
 fault_words runs.Words = codes " words"
 fault_words (runs.Truncated have want) = codes " truncated" ++ spaced have ++ spaced want
@@ -62,6 +70,7 @@ fault_words runs.Blocks = codes " blocks"
 fault_words runs.Read = codes " read"
 fault_words runs.Write = codes " write"
 fault_words runs.Peer = codes " peer"
+fault_words (runs.Collision kept given) = codes " collision " ++ node_digits kept ++ codes " " ++ node_digits given
 fault_words runs.Memory = codes " memory"
 fault_words runs.FileMissing = codes " missing"
 fault_words runs.FileTooLong = codes " toolong"
@@ -71,3 +80,8 @@ fault_words (runs.BadLine line) = codes " badline" ++ spaced line
 -- what tells why a run ended: its status and the fault
 abbrev pub fault_line : RunFault → List ℕ
 fault_line fault = codes "fault" ++ spaced (status_of fault) ++ fault_words fault ++ 10 ∷ []
+
+-- whether a fault's line may be long: it tells nodes
+abbrev pub is_long : RunFault → Bool
+is_long (runs.Collision kept given) = true
+is_long _ = false

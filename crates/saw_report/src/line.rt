@@ -6,7 +6,8 @@ ghost use Rattle.saw_report.specs.Lines.{record_text, accepted_text, verdict_tex
 
 use crate::fault::put_fault;
 use crate::word::{put_number, put_spaced};
-use saw_receipts::{BatchRecord, BlockRecord, Listed, Verdict};
+use saw_merkle::Listed;
+use saw_receipts::{BatchRecord, BlockRecord, Verdict};
 use std::alloc::{AllocError, Global};
 
 /// The line of the block at this place of the stream, counted from 0. The block is given where it is accepted.

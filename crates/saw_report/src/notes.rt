@@ -1,17 +1,22 @@
 //! The line of a fault that ended a run.
 
-ghost use Rattle.std.specs.Prelude.{◌≡◌, ◌≤◌, ◌+◌, ◌++◌, length, IfOk};
+ghost use Rattle.std.specs.Prelude.{◌≡◌, ◌≤◌, ◌+◌, ◌++◌, true, false, length, IfOk, MatchOption, OnOk};
 ghost use Rattle.arrayvec.specs.ArrayVec.{array_vec_len};
 ghost use Rattle.saw_report.specs.Lines.{spaced};
-ghost use Rattle.saw_report.specs.RunFaults.{fault_line, fault_words, status_of};
+ghost use Rattle.saw_report.specs.RunFaults.{fault_line, fault_words, is_long, node_digits, status_of};
 
 use crate::run_fault::RunFault;
+use crate::word::put_counted;
 use arrayvec::ArrayVec;
 use itoa::Buffer;
+use saw_node::{Node, encode};
 use std::alloc::{AllocError, Global};
 
 /// A line that is made without memory, since it may tell that there is none.
 pub type ShortLine = ArrayVec<u8, 64>;
+
+/// The status of two different nodes of one hash.
+const COLLISION: u8 = 9;
 
 fn put(line: &mut ShortLine, part: &[u8])
     requires { array_vec_len line.old + length part.now ≤ 64 }
@@ -33,7 +38,8 @@ fn put_spaced(line: &mut ShortLine, n: u32)
 }
 
 fn put_words(line: &mut ShortLine, fault: &RunFault)
-    requires { array_vec_len line.old + 34 ≤ 64 }
+    requires room { array_vec_len line.old + 34 ≤ 64 }
+    requires short { is_long fault.now ≡ false }
     ensures items { line.new.items ≡ line.old.items ++ fault_words fault.now }
     ensures len { array_vec_len line.new ≤ array_vec_len line.old + 34 }
 {
@@ -53,6 +59,7 @@ fn put_words(line: &mut ShortLine, fault: &RunFault)
         RunFault::Read => put(line, b" read"),
         RunFault::Write => put(line, b" write"),
         RunFault::Peer => put(line, b" peer"),
+        RunFault::Collision { kept: _, given: _ } => unreachable!(),
         RunFault::Memory => put(line, b" memory"),
         RunFault::FileMissing => put(line, b" missing"),
         RunFault::FileTooLong => put(line, b" toolong"),
@@ -79,6 +86,7 @@ impl RunFault {
             RunFault::Read => 4,
             RunFault::Write => 5,
             RunFault::Peer => 6,
+            RunFault::Collision { kept: _, given: _ } => COLLISION,
             RunFault::Memory => 7,
             RunFault::FileMissing => 11,
             RunFault::FileTooLong => 11,
@@ -88,8 +96,8 @@ impl RunFault {
     }
 }
 
-/// The line of a fault, made without memory.
-pub fn short_fault_line(fault: &RunFault) -> ShortLine
+fn short_line(fault: &RunFault) -> ShortLine
+    requires { is_long fault.now ≡ false }
     ensures { result.items ≡ fault_line fault.now }
 {
     let mut line = ArrayVec::new();
@@ -100,9 +108,43 @@ pub fn short_fault_line(fault: &RunFault) -> ShortLine
     line
 }
 
-/// The line of a fault: its status, its name and its numbers.
+/// The line of a fault, made without memory. `None`: it tells two nodes, which may be long.
+pub fn short_fault_line(fault: &RunFault) -> Option<ShortLine>
+    ensures { MatchOption result (is_long fault.now ≡ true) (λ line. line.items ≡ fault_line fault.now) }
+{
+    match fault {
+        RunFault::Collision { kept: _, given: _ } => None,
+        fault => Some(short_line(fault)),
+    }
+}
+
+fn put_node(alloc: Global, out: &mut Vec<u8>, node: &Node) -> Result<(), AllocError>
+    ensures { OnOk result (out.new.items ≡ out.old.items ++ node_digits node.now) }
+{
+    let encoding = encode(alloc, node)?;
+    let digits = hex::encode(alloc, &encoding)?;
+    out.extend_from_slice(digits.as_bytes())
+}
+
+fn collision_line(alloc: Global, kept: &Node, given: &Node) -> Result<Vec<u8>, AllocError>
+    ensures { IfOk result (λ line. line.items ≡ fault_line (RunFault.Collision kept.now given.now)) }
+{
+    let mut out = Vec::new(alloc);
+    put_counted(alloc, &mut out, b"fault", COLLISION as u64)?;
+    out.extend_from_slice(b" collision ")?;
+    put_node(alloc, &mut out, kept)?;
+    out.push(b' ')?;
+    put_node(alloc, &mut out, given)?;
+    out.push(b'\n')?;
+    Ok(out)
+}
+
+/// The line of a fault: its status, its name and its numbers or nodes.
 pub fn fault_line(alloc: Global, fault: &RunFault) -> Result<Vec<u8>, AllocError>
     ensures { IfOk result (λ line. line.items ≡ fault_line fault.now) }
 {
-    short_fault_line(fault).as_slice().to_vec(alloc)
+    match fault {
+        RunFault::Collision { kept, given } => collision_line(alloc, kept, given),
+        fault => short_line(fault).as_slice().to_vec(alloc),
+    }
 }

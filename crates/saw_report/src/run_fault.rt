@@ -4,11 +4,12 @@ ghost use Rattle.std.specs.Prelude.{◌≡◌};
 ghost use Rattle.saw_report.specs.declared.run_fault.RunFault.TheVariants.{Memory};
 
 use saw_io::{FrameFault, ShelfFault, SinkFault};
+use saw_node::Node;
 use saw_verify::AttestFault;
 use std::alloc::AllocError;
 
 /// What ends a run before its answer is whole. Each has its line on the notes.
-#[derive(Debug, Drop, PartialEq, Eq)]
+#[derive(Debug, Drop)]
 pub enum RunFault {
     /// The words are of no form.
     Words,
@@ -24,6 +25,8 @@ pub enum RunFault {
     Write,
     /// A processor elsewhere failed.
     Peer,
+    /// Two different nodes of one hash were met.
+    Collision { kept: Node, given: Node },
     Memory,
     /// There is no file of the attestation list.
     FileMissing,

@@ -1,10 +1,11 @@
-//! A journal, call by call: `limit N`, and then calls. Blocks lie in the folder `blocks`.
+//! A journal, call by call: `limit N`, and then calls. Blocks lie in the folder `blocks`. Nodes are hashed as in a state, or
+//! so that different ones meet.
 
 use crate::states::put_listed;
 use crate::words::{NoForm, put_hex, put_number, put_word, words_of};
 use saw_journal::{Journal, JournalFault};
 use saw_messages::encode_receipt;
-use saw_node::Sha512Half;
+use saw_node::{Node, NodeHasher, encode};
 use saw_receipts::{BatchRecord, Parent, Verdict};
 use saw_report::{head_line, verdict_line};
 use saw_station::{Desk, NoStation};
@@ -13,15 +14,20 @@ use saw_wire::Text;
 use std::alloc::{AllocError, Global};
 use std::fs;
 use std::sync::Arc;
+use std::thread::Threads;
 
-pub(crate) fn lines(rt: &HostRuntime, script: &str) -> anyhow::Result<Vec<u8>> {
-    let alloc = rt.alloc();
+pub(crate) fn lines<T: Threads + Sync, H: NodeHasher>(
+    rt: &T,
+    host: &HostRuntime,
+    script: &str,
+) -> anyhow::Result<Vec<u8>> {
+    let alloc = host.alloc();
     let mut lines = script.lines();
     let limit = limit_of(lines.next().ok_or(NoForm)?)?;
-    let mut journal = Journal::new(alloc, limit)?;
+    let mut journal = Journal::<H>::new(alloc, limit)?;
     let mut out = Vec::new(alloc);
     for line in lines {
-        call(rt, &mut journal, line, &mut out)?;
+        call(rt, host, &mut journal, line, &mut out)?;
     }
     Ok(out)
 }
@@ -31,15 +37,16 @@ fn limit_of(line: &str) -> anyhow::Result<u32> {
     Ok(word.parse::<u32>()?)
 }
 
-fn call(
-    rt: &HostRuntime,
-    journal: &mut Journal<Sha512Half>,
+fn call<T: Threads + Sync, H: NodeHasher>(
+    rt: &T,
+    host: &HostRuntime,
+    journal: &mut Journal<H>,
     line: &str,
     out: &mut Vec<u8>,
 ) -> anyhow::Result<()> {
-    let alloc = rt.alloc();
+    let alloc = host.alloc();
     match words_of(alloc, line)?.as_slice() {
-        ["accept", name] => accept(alloc, journal, &block_in(rt, name)?, out),
+        ["accept", name] => accept(rt, alloc, journal, &block_in(host, name)?, out),
         ["blocks"] => put_count(alloc, journal.blocks().len(), out),
         ["head"] => Ok(out.extend_from_slice(&head_line(alloc, journal.head())?)?),
         ["parent"] => put_parent(alloc, journal.parent()?, out),
@@ -50,15 +57,16 @@ fn call(
     }
 }
 
-fn block_in(rt: &HostRuntime, name: &str) -> anyhow::Result<Vec<u8>> {
-    let path = format!(in rt.alloc(); "blocks/{name}")?;
-    Ok(fs::read(rt, path.as_str())?)
+fn block_in(host: &HostRuntime, name: &str) -> anyhow::Result<Vec<u8>> {
+    let path = format!(in host.alloc(); "blocks/{name}")?;
+    Ok(fs::read(host, path.as_str())?)
 }
 
 /// What the journal answers to the bytes of a block.
-fn answer(
+fn answer<T: Threads + Sync, H: NodeHasher>(
+    rt: &T,
     alloc: Global,
-    journal: &mut Journal<Sha512Half>,
+    journal: &mut Journal<H>,
     bytes: &[u8],
 ) -> anyhow::Result<Result<Verdict, JournalFault>> {
     if bytes.len() > 0xffff_ffff {
@@ -67,21 +75,54 @@ fn answer(
     let offers = Arc::new(alloc, Vec::new(alloc))?;
     let desk: Desk<NoStation> = Desk::new(None, offers);
     let mut desks = [desk];
-    Ok(journal.accept(bytes, &DevVerifier, &mut desks))
+    Ok(journal.accept(rt, bytes, &DevVerifier, &mut desks))
 }
 
-fn accept(
+fn accept<T: Threads + Sync, H: NodeHasher>(
+    rt: &T,
     alloc: Global,
-    journal: &mut Journal<Sha512Half>,
+    journal: &mut Journal<H>,
     bytes: &[u8],
     out: &mut Vec<u8>,
 ) -> anyhow::Result<()> {
-    match answer(alloc, journal, bytes)? {
-        Ok(verdict) => put_verdict(alloc, out, verdict)?,
-        Err(JournalFault::Full) => out.extend_from_slice(b"full\n")?,
-        Err(fault) => return Err(fault.into()),
+    match answer(rt, alloc, journal, bytes)? {
+        Ok(verdict) => Ok(put_verdict(alloc, out, verdict)?),
+        Err(fault) => put_fault::<H>(alloc, out, fault),
     }
+}
+
+/// A word for a full journal or two nodes that clash; other faults end the script.
+fn put_fault<H: NodeHasher>(
+    alloc: Global,
+    out: &mut Vec<u8>,
+    fault: JournalFault,
+) -> anyhow::Result<()> {
+    match fault {
+        JournalFault::Full => Ok(out.extend_from_slice(b"full\n")?),
+        JournalFault::Collision { kept, given } => put_collision::<H>(alloc, out, &kept, &given),
+        JournalFault::PeerFailed => Err(JournalFault::PeerFailed.into()),
+        JournalFault::OutOfMemory => Err(JournalFault::OutOfMemory.into()),
+    }
+}
+
+fn put_collision<H: NodeHasher>(
+    alloc: Global,
+    out: &mut Vec<u8>,
+    kept: &Node,
+    given: &Node,
+) -> anyhow::Result<()> {
+    if !clash::<H>(alloc, kept, given)? {
+        return Err(NoForm.into());
+    }
+    out.extend_from_slice(b"collision\n")?;
     Ok(())
+}
+
+/// Whether two nodes differ and have one hash.
+fn clash<H: NodeHasher>(alloc: Global, kept: &Node, given: &Node) -> Result<bool, AllocError> {
+    let kept = encode(alloc, kept)?;
+    let given = encode(alloc, given)?;
+    Ok(kept.as_slice() != given.as_slice() && H::hash(&kept) == H::hash(&given))
 }
 
 /// A word for an accepted block, and the line of a refused one.
@@ -118,9 +159,9 @@ fn put_parent(alloc: Global, parent: Option<Parent>, out: &mut Vec<u8>) -> anyho
 }
 
 /// Which of these ids are known, as one of a batch and as one of a transaction.
-fn put_known(
+fn put_known<H: NodeHasher>(
     alloc: Global,
-    journal: &Journal<Sha512Half>,
+    journal: &Journal<H>,
     ids: &[&str],
     out: &mut Vec<u8>,
 ) -> anyhow::Result<()> {
@@ -136,9 +177,9 @@ fn put_known(
 }
 
 /// The entries of the head's state that a prefix covers.
-fn put_head_listed(
+fn put_head_listed<H: NodeHasher>(
     alloc: Global,
-    journal: &Journal<Sha512Half>,
+    journal: &Journal<H>,
     prefix: &str,
     out: &mut Vec<u8>,
 ) -> anyhow::Result<()> {
@@ -147,9 +188,9 @@ fn put_head_listed(
 }
 
 /// A line for each batch of the head: its id and its receipts.
-fn put_receipts(
+fn put_receipts<H: NodeHasher>(
     alloc: Global,
-    journal: &Journal<Sha512Half>,
+    journal: &Journal<H>,
     out: &mut Vec<u8>,
 ) -> anyhow::Result<()> {
     let head = journal.head().ok_or(NoForm)?;

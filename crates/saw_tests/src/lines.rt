@@ -1,7 +1,15 @@
 //! The line of each fault of a run.
 
+use saw_node::Node;
 use saw_report::{RunFault, fault_line, short_fault_line};
+use std::alloc::Global;
 use std::test::Fail;
+
+/// The node of an encoding.
+fn node_of(alloc: Global, encoding: &[u8]) -> Result<Node, Fail> {
+    let node = saw_node::decode(alloc, encoding)?.ok_or("a node")?;
+    Ok(node)
+}
 
 #[test]
 fn each_fault_of_a_run_has_its_line(rt: HostRuntime) -> Result<(), Fail> {
@@ -27,8 +35,21 @@ fn each_fault_of_a_run_has_its_line(rt: HostRuntime) -> Result<(), Fail> {
         (RunFault::BadLine { line: 2 }, "fault 11 badline 2\n"),
     ];
     for (fault, line) in &lines {
+        let short = short_fault_line(fault).ok_or("a short line")?;
         assert_eq!(rt; fault_line(rt.alloc(), fault)?.as_slice(), line.as_bytes());
-        assert_eq!(rt; short_fault_line(fault).as_slice(), line.as_bytes());
+        assert_eq!(rt; short.as_slice(), line.as_bytes());
     }
+    Ok(())
+}
+
+#[test]
+fn two_nodes_of_one_hash_have_their_line(rt: HostRuntime) -> Result<(), Fail> {
+    let alloc = rt.alloc();
+    let kept = node_of(alloc, b"\xa2\x61c\xa0\x61v\xf6")?;
+    let given = node_of(alloc, b"\xa2\x61c\xa0\x61v\x41a")?;
+    let fault = RunFault::Collision { kept, given };
+    let line = "fault 9 collision a26163a06176f6 a26163a061764161\n";
+    assert_eq!(rt; fault_line(alloc, &fault)?.as_slice(), line.as_bytes());
+    assert!(rt; short_fault_line(&fault).is_none());
     Ok(())
 }

@@ -10,12 +10,12 @@ use Rattle.saw_report.specs.declared.run_fault.RunFault.TheVariants as runs
 use Rattle.saw_station.specs.declared.offer.Offer.{Offer}
 use Rattle.saw_top.specs.Answers.{Prepared, answer_for, prepared_with, vouched}
 use Rattle.saw_top.specs.Command.{Wish}
-use Rattle.saw_top.specs.Headline.{CarriesOut, Does, EndsBy, GoesOn, HasCause, HasFault, RestsOn, Shows}
+use Rattle.saw_top.specs.Headline.{CarriesOut, Does, EndsBy, GoesOn, HasCause, HasFault, Shows}
 use Rattle.saw_top.specs.History.{ended, history}
 use Rattle.saw_top.specs.Outside.{End, Outside, sides, sides_of}
 use Rattle.saw_top.specs.Run.{faulty, noted_by, written_by}
 use Rattle.saw_top.specs.Vouching.{Prepares, PreparesBy}
-use Rattle.saw_top.specs.World.{Accepts, world_with}
+use Rattle.saw_top.specs.World.{Accepts, TellsAll, world_with}
 use Rattle.saw_top.specs.declared.task.Lines.TheVariants.{All, Refused}
 use Rattle.saw_top.specs.declared.task.Task.{Task}
 use Rattle.saw_top.proofs.Prepares.{files_in}
@@ -70,7 +70,7 @@ module _ (processors : Processors) (before : Outside) (held : End Files) where
   }
     where
       here : (first : Option (List ℕ))
-          → IfSome first (λ bytes. RestsOn processors (answer_for processors task ready bytes)
+          → IfSome first (λ bytes. TellsAll processors
           → Shows (answer_for processors task ready bytes) bytes first (sides_of before still) came)
       here None = tt
       here (Some bytes) = λ rests. record {

@@ -9,12 +9,14 @@ use Rattle.saw_context.specs.Possible.{all_told, are_told}
 use Rattle.saw_context.specs.Serial.{serial}
 use Rattle.saw_crew.specs.Desks.{Failed, KeepsDesks}
 use Rattle.saw_faults.specs.Counts.{Rose}
+use Rattle.saw_journal.specs.Clashing.{Clashes}
 use Rattle.saw_journal.specs.Judgement.{Rules, Runs, rules_with}
 use Rattle.saw_journal.specs.Ledger.{IsFull, Ledger, RunsBy, Says}
 use Rattle.saw_messages.specs.TxShapes.{TxShape}
 use Rattle.saw_messages.specs.declared.talk.Action.{Action}
 use Rattle.saw_messages.specs.declared.talk.Turn.{Turn}
 use Rattle.saw_node.specs.Hashes.{first_half}
+use Rattle.saw_node.specs.declared.node.Node.{Node}
 use Rattle.saw_receipts.specs.declared.block.BlockRecord.{BlockRecord}
 use Rattle.saw_receipts.specs.declared.verdict.Verdict.{Verdict}
 use Rattle.saw_receipts.specs.declared.verdict.Verdict.TheVariants.{Committed, Stored, Refused}
@@ -113,6 +115,11 @@ module _ (processors : Processors) (told : TellsAll processors) (accepts : Accep
   pub says_told : (verdict : Verdict) (new : Ledger) → Says (rules_with first_half accepts runs) old content verdict new
       → Says (rules_by accepts processors) old content verdict new
   says_told verdict new says = subst (λ (runs : Runs). Says (rules_with first_half accepts runs) old content verdict new) one_way says
+
+  pub clash_told : (kept given : Node) → Clashes (rules_with first_half accepts runs) old.states old.blocks content kept given
+      → Clashes (rules_by accepts processors) old.states old.blocks content kept given
+  clash_told kept given clash =
+      subst (λ (runs : Runs). Clashes (rules_with first_half accepts runs) old.states old.blocks content kept given) one_way clash
 
   pub full_told : IsFull (rules_with first_half accepts runs) old content → IsFull (rules_by accepts processors) old content
   full_told full = subst (λ (runs : Runs). IsFull (rules_with first_half accepts runs) old content) one_way full

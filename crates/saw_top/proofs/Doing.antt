@@ -13,18 +13,23 @@ use Rattle.saw_io.specs.Shelf.{Files}
 use Rattle.saw_journal.specs.Heads.{head_of}
 use Rattle.saw_journal.specs.Judgement.{Kept, Rules}
 use Rattle.saw_journal.specs.Ledger.{Ledger, map_under}
-use Rattle.saw_receipts.specs.States.{States}
+use Rattle.saw_merkle.specs.States.{States}
+use Rattle.saw_node.specs.Hashes.{first_half}
+use Rattle.saw_node.specs.Nodes.{shape_of}
+use Rattle.saw_node.specs.Trees.{IsNodeOf}
+use Rattle.saw_node.specs.declared.node.Node.{Node}
 use Rattle.saw_receipts.specs.declared.block.BlockRecord.{BlockRecord}
 use Rattle.saw_report.specs.Lines.{head_line}
 use Rattle.saw_report.specs.declared.run_fault.RunFault.TheVariants as runs
 use Rattle.saw_report.specs.declared.run_fault.RunFault.{RunFault}
 use Rattle.saw_top.specs.Answers.{vouched}
+use Rattle.saw_top.specs.Clashing.{TellsAlike}
 use Rattle.saw_top.specs.Ends.{code_at, text_at}
 use Rattle.saw_top.specs.EndingFaults.{IsOfStream}
-use Rattle.saw_top.specs.Headline.{Does, EndsBy, GoesOn, HasCause, HasFault, IsDone, KeepsUp, RestsOn, Shows}
+use Rattle.saw_top.specs.Headline.{Does, EndsBy, GoesOn, HasCause, HasFault, IsDone, KeepsUp, MeetsClash, Shows}
 use Rattle.saw_top.specs.History.{History, map_behind, records_of}
 use Rattle.saw_top.specs.StreamJudging.{JudgesFor}
-use Rattle.saw_top.specs.StreamJudging.{IsPrompt, IsUpToDate, Judges, JudgesAll, JudgesBy, JudgesTo, WhereRootsTell}
+use Rattle.saw_top.specs.StreamJudging.{IsPrompt, IsUpToDate, Judges, JudgesAll, JudgesBy, JudgesTo, StopsAtClash}
 use Rattle.saw_top.specs.Listing.{entries_under, listing, listing_status}
 use Rattle.saw_top.specs.Outside.{End, Outside, Sides, SomeRose, WritesFront, lines_side, other_side, sides_of}
 use Rattle.saw_top.specs.Reports.{report}
@@ -148,15 +153,40 @@ module _ (rules : Rules) (task : Task) (bytes : List ℕ) (left : Option (List �
         judged.0,
       )
 
-  shows_by : (ledger : Ledger) (e : RunFault) → JudgesBy rules task.lines bytes left old mid ledger (Err e) → EndsBy answer bytes left at (Err e)
-  shows_by ledger (runs.Truncated have want) judged = (shows_to (runs.Truncated have want) judged.0, judged.1)
-  shows_by ledger (runs.TooLong size) judged = (shows_to (runs.TooLong size) judged.0, judged.1)
-  shows_by ledger runs.Read judged = keeps_up judged
-  shows_by ledger runs.Write judged = tt
-  shows_by ledger runs.Peer judged = tt
-  shows_by ledger runs.Memory judged = tt
-  shows_by ledger runs.FileFailed judged = tt
-  shows_by ledger e judged = shows_to e judged
+  -- two different nodes of one hash were met
+  meets_clash : rules.hash ≡ first_half → (kept given : Node) → StopsAtClash rules task.lines bytes left old mid kept given
+      → MeetsClash answer bytes left at kept given
+  meets_clash same kept given met =
+      let there = placed_all before middle (history_of rules met.frames) task.lines aside met.written in
+      record {
+        frames = met.frames;
+        content = met.content;
+        rest = met.rest;
+        reads = met.reads;
+        left_is = met.left_is;
+        m = met.m;
+        tried = met.would;
+        output = there.0;
+        notes = there.1;
+        given_of = subst (λ (hash : List ℕ → List ℕ). IsNodeOf hash (finite.entries met.m) (shape_of given)) same met.given_of;
+        kept_of = (
+          met.kept_of.0,
+          met.kept_of.1,
+          subst (λ (hash : List ℕ → List ℕ). IsNodeOf hash (finite.entries met.kept_of.0) (shape_of kept)) same met.kept_of.2,
+        );
+        alike = met.alike;
+      }
+
+  shows_by : rules.hash ≡ first_half → (ledger : Ledger) (e : RunFault) → JudgesBy rules task.lines bytes left old mid ledger (Err e) → EndsBy answer bytes left at (Err e)
+  shows_by same ledger (runs.Truncated have want) judged = (shows_to (runs.Truncated have want) judged.0, judged.1)
+  shows_by same ledger (runs.TooLong size) judged = (shows_to (runs.TooLong size) judged.0, judged.1)
+  shows_by same ledger runs.Read judged = keeps_up judged
+  shows_by same ledger runs.Write judged = tt
+  shows_by same ledger runs.Peer judged = tt
+  shows_by same ledger (runs.Collision kept given) judged = meets_clash same kept given judged
+  shows_by same ledger runs.Memory judged = tt
+  shows_by same ledger runs.FileFailed judged = tt
+  shows_by same ledger e judged = shows_to e judged
 
   -- more was written behind what was judged
   module _ (out : End (List ℕ)) (more : List ℕ) (wrote : Appends middle.output.tells out.tells more) where
@@ -180,15 +210,15 @@ module _ (rules : Rules) (task : Task) (bytes : List ℕ) (left : Option (List �
         }
 
   -- nothing was
-  pub shows_fault : (ledger : Ledger) (e : RunFault) → Judges rules task.lines bytes left old mid ledger (Err e) → Shows answer bytes left at (Err e)
-  shows_fault ledger e judged =
+  pub shows_fault : rules.hash ≡ first_half → (ledger : Ledger) (e : RunFault) → Judges rules task.lines bytes left old mid ledger (Err e) → Shows answer bytes left at (Err e)
+  shows_fault same ledger e judged =
       let front = placed_front before middle run task.lines aside judged.front in
       let end = end_by rules task.ending run (fault_of rules bytes) in
       record {
         output = front_more on_output end.output at.old at.new front.0;
         notes = front_more on_notes end.noted at.told_old at.told_new front.1;
         prompt = goes_on middle.output [] (Appends-nil middle.output.tells) judged.prompt;
-        ends = shows_by ledger e judged.ends;
+        ends = shows_by same ledger e judged.ends;
       }
 
   -- all blocks were judged, and then a part of the text at the end was written, or all of it
@@ -297,30 +327,31 @@ module _ (processors : Processors) (task : Task) (accepts : Accepts) (before : O
   abbrev rules : Rules
   rules = rules_by accepts processors
 
-  cause_of : (after : Outside) (e : RunFault) → IsOfStream e → (e ≡ runs.Read → Rose before.input.faults after.input.faults)
+  cause_of : (after : Outside) (e : RunFault) → IsOfStream e → TellsAlike e → (e ≡ runs.Read → Rose before.input.faults after.input.faults)
       → (e ≡ runs.Write → Rose before.output.faults after.output.faults ⊎ Rose before.notes.faults after.notes.faults)
       → (e ≡ runs.Peer → SomeRose before.remotes after.remotes)
       → HasCause processors task (vouched accepts) before after (Err e)
-  cause_of after runs.Words kind read write peer = absurd cc
-  cause_of after runs.FileMissing kind read write peer = absurd cc
-  cause_of after runs.FileTooLong kind read write peer = absurd cc
-  cause_of after runs.FileFailed kind read write peer = absurd cc
-  cause_of after (runs.BadLine line) kind read write peer = absurd cc
-  cause_of after runs.Read kind read write peer = ((record { accepts = accepts }, refl), read refl)
-  cause_of after runs.Write kind read write peer = ((record { accepts = accepts }, refl), write refl)
-  cause_of after runs.Peer kind read write peer = ((record { accepts = accepts }, refl), peer refl)
-  cause_of after runs.Memory kind read write peer = tt
-  cause_of after e kind read write peer = (record { accepts = accepts }, refl)
+  cause_of after runs.Words kind alike read write peer = absurd cc
+  cause_of after runs.FileMissing kind alike read write peer = absurd cc
+  cause_of after runs.FileTooLong kind alike read write peer = absurd cc
+  cause_of after runs.FileFailed kind alike read write peer = absurd cc
+  cause_of after (runs.BadLine line) kind alike read write peer = absurd cc
+  cause_of after runs.Read kind alike read write peer = ((record { accepts = accepts }, refl), read refl)
+  cause_of after runs.Write kind alike read write peer = ((record { accepts = accepts }, refl), write refl)
+  cause_of after runs.Peer kind alike read write peer = ((record { accepts = accepts }, refl), peer refl)
+  cause_of after (runs.Collision kept given) kind alike read write peer = ((record { accepts = accepts }, refl), alike)
+  cause_of after runs.Memory kind alike read write peer = tt
+  cause_of after e kind alike read write peer = (record { accepts = accepts }, refl)
 
   -- what is shown where the premises hold
   abbrev ShownTo : Outside → Result ℕ RunFault → List ℕ → Type 0
-  ShownTo after came bytes = RestsOn processors (task_answer rules task bytes)
+  ShownTo after came bytes = TellsAll processors
       → Shows (task_answer rules task bytes) bytes after.input.tells (sides_of before after) came
 
   module _ (middle : Outside) (ledger : Ledger) where
     abbrev JudgedBy : Result Bool RunFault → List ℕ → Type 0
-    JudgedBy result bytes = WhereRootsTell rules bytes (Judges rules task.lines bytes middle.input.tells (lines_side task.lines before).tells
-        (lines_side task.lines middle).tells ledger result)
+    JudgedBy result bytes = Judges rules task.lines bytes middle.input.tells (lines_side task.lines before).tells
+        (lines_side task.lines middle).tells ledger result
 
     -- what is shown of the bytes, where they are told and the premises hold
     shown_to : (result : Result Bool RunFault) (after : Outside) (came : Result ℕ RunFault) (first : Option (List ℕ))
@@ -329,7 +360,7 @@ module _ (processors : Processors) (task : Task) (accepts : Accepts) (before : O
         (lines_side task.lines middle).tells ledger result
         → Shows (task_answer rules task bytes) bytes after.input.tells (sides_of before after) came) → IfSome first (ShownTo after came)
     shown_to result after came None judged shows = tt
-    shown_to result after came (Some bytes) judged shows = λ rests. shows bytes (judged rests.told rests.roots)
+    shown_to result after came (Some bytes) judged shows = λ rests. shows bytes (judged rests)
 
     -- the judging ended it
     pub does_to : (e : RunFault) → JudgesFor processors accepts task.lines before middle ledger (Err e)
@@ -337,14 +368,14 @@ module _ (processors : Processors) (task : Task) (accepts : Accepts) (before : O
     does_to e judged =
         let noted = noted_by_lines task.lines before middle judged.aside judged.wrote.0 judged.wrote.1 in
         record {
-          cause = cause_of middle e judged.kind (λ is. judged.input (ap Err is))
+          cause = cause_of middle e judged.kind judged.nodes (λ is. judged.input (ap Err is))
               (λ is. either_side task.lines before middle (judged.output (ap Err is))) (λ is. judged.peer (ap Err is));
           lines = noted.0;
           aside = noted.1;
           noted = noted.2;
           later = later_notes task.lines before middle judged.aside judged.later;
           shows = shown_to (Err e) middle (Err e) before.input.tells judged.judges
-              (λ bytes. shows_fault rules task bytes middle.input.tells before middle judged.aside ledger e);
+              (λ bytes. shows_fault rules task bytes middle.input.tells before middle judged.aside refl ledger e);
         }
 
     -- the end was written behind all blocks, or a part of it
@@ -392,6 +423,7 @@ module _ (processors : Processors) (task : Task) (accepts : Accepts) (before : O
         aside = refl;
         wrote = ([], Appends-nil before.output.tells);
         kind = refl;
+        nodes = tt;
         input = λ is. absurd cc;
         output = λ is. absurd cc;
         later = omega arith;
@@ -402,6 +434,7 @@ module _ (processors : Processors) (task : Task) (accepts : Accepts) (before : O
         aside = refl;
         wrote = ([], Appends-nil before.notes.tells);
         kind = refl;
+        nodes = tt;
         input = λ is. absurd cc;
         output = λ is. absurd cc;
         later = omega arith;

@@ -8,16 +8,15 @@ use Rattle.saw_context.specs.Outcome.{Processors}
 use Rattle.saw_io.specs.Shelf.{Files}
 use Rattle.saw_report.specs.RunFaults.{status_of}
 use Rattle.saw_report.specs.declared.run_fault.RunFault.{RunFault}
-use Rattle.saw_report.specs.declared.run_fault.RunFault.TheVariants.{Truncated, TooLong, Read, Write, Peer, Memory, FileFailed}
+use Rattle.saw_report.specs.declared.run_fault.RunFault.TheVariants.{Truncated, TooLong, Read, Write, Peer, Collision, Memory, FileFailed}
 use Rattle.saw_top.specs.Answers.{Prepared, answer_of, prepared, task_by}
 use Rattle.saw_top.specs.Command.{wish_of}
 use Rattle.saw_top.specs.EndingFaults.{is_told}
-use Rattle.saw_top.specs.Headline.{EndsBy, Gives, HasCause, HasEnded, HasFault, IsAnswered, IsWhole, RestsOn, Shows, TellsEnd, TellsFault}
-use Rattle.saw_top.specs.History.{RootsTell}
-use Rattle.saw_node.specs.Hashes.{first_half}
+use Rattle.saw_top.specs.Headline.{EndsBy, Gives, HasCause, HasEnded, HasFault, IsAnswered, IsWhole, Shows, TellsEnd, TellsFault}
+use Rattle.saw_node.specs.declared.node.Node.{Node}
 use Rattle.saw_top.specs.Outside.{End, Outside, SomeFailed, sides_of}
 use Rattle.saw_top.specs.Run.{Answer, line_by}
-use Rattle.saw_top.specs.World.{World}
+use Rattle.saw_top.specs.World.{TellsAll, World}
 use Rattle.saw_top.specs.declared.task.Task.{Task}
 
 -- what follows from what is so of the bytes, where they are told
@@ -31,7 +30,10 @@ module _ (answer : Answer) (bytes : List ℕ) (before after : Outside) (notes : 
   middle = record after { notes = notes }
 
   abbrev Answered : Type 0
-  Answered = (status ≡ 7) ⊎ (SomeFailed before after ⊎ Gives answer (sides_of before after) status)
+  Answered = (status ≡ 7) ⊎ ((status ≡ 9) ⊎ (SomeFailed before after ⊎ Gives answer (sides_of before after) status))
+
+  failed_so : SomeFailed before after → Answered
+  failed_so failed = inr (inr (inl failed))
 
   abbrev Whole : ℕ → Type 0
   Whole = IsWhole answer bytes after.input.tells (sides_of before middle)
@@ -47,9 +49,14 @@ module _ (answer : Answer) (bytes : List ℕ) (before after : Outside) (notes : 
 
   told : (fault : RunFault) → is_told fault ≡ true → HasFault answer bytes after.input.tells (sides_of before middle) fault
       → TellsFault fault notes after.notes status → before.notes.faults ≤ notes.faults → Answered
-  told fault own shown (inl all) later = inr (inr (gives (Some fault) (status_of fault) shown.0 shown.1 all.0 all.1))
-  told fault own shown (inr (n, less, cut, inl failed)) later = inr (inl (inr (inr (inl (omega (arith, later, failed.1))))))
+  told fault own shown (inl all) later = inr (inr (inr (gives (Some fault) (status_of fault) shown.0 shown.1 all.0 all.1)))
+  told fault own shown (inr (n, less, cut, inl failed)) later = failed_so (inr (inr (inl (omega (arith, later, failed.1)))))
   told fault own shown (inr (n, less, cut, inr code)) later = inl (rw own at code)
+
+  nine : (kept given : Node) → TellsFault (Collision kept given) notes after.notes status → Answered
+  nine kept given (inl all) = inr (inl all.0)
+  nine kept given (inr (n, less, cut, inl failed)) = inr (inl failed.0)
+  nine kept given (inr (n, less, cut, inr code)) = inl code
 
   seven : TellsFault Memory notes after.notes status → status ≡ 7
   seven (inl all) = all.0
@@ -57,26 +64,28 @@ module _ (answer : Answer) (bytes : List ℕ) (before after : Outside) (notes : 
   seven (inr (n, less, cut, inr code)) = code
 
   wrote : Rose before.output.faults after.output.faults ⊎ Rose before.notes.faults notes.faults → notes.faults ≤ after.notes.faults → Answered
-  wrote (inl rose) later = inr (inl (inr (inl rose)))
-  wrote (inr rose) later = inr (inl (inr (inr (inl (omega (arith, later, rose))))))
+  wrote (inl rose) later = failed_so (inr (inl rose))
+  wrote (inr rose) later = failed_so (inr (inr (inl (omega (arith, later, rose)))))
 
   by_fault : (processors : Processors) (task : Task) (ready : Result Prepared RunFault) (fault : RunFault)
       → EndsBy answer bytes after.input.tells (sides_of before middle) (Err fault) → HasCause processors task ready before middle (Err fault)
       → TellsFault fault notes after.notes status → before.notes.faults ≤ notes.faults → notes.faults ≤ after.notes.faults → Answered
   by_fault processors task ready (Truncated have want) ends cause tells first later = told (Truncated have want) refl ends.0 tells first
   by_fault processors task ready (TooLong size) ends cause tells first later = told (TooLong size) refl ends.0 tells first
-  by_fault processors task ready Read ends cause tells first later = inr (inl (inl cause.1))
-  by_fault processors task ready Peer ends cause tells first later = inr (inl (inr (inr (inr (inr cause.1)))))
+  by_fault processors task ready Read ends cause tells first later = failed_so (inl cause.1)
+  by_fault processors task ready Peer ends cause tells first later = failed_so (inr (inr (inr (inr cause.1))))
   by_fault processors task ready Write ends cause tells first later = wrote cause.1 later
+  by_fault processors task ready (Collision kept given) ends cause tells first later = nine kept given tells
   by_fault processors task ready Memory ends cause tells first later = inl (seven tells)
-  by_fault processors task ready FileFailed ends cause tells first later = inr (inl (inr (inr (inr (inl cause.0)))))
+  by_fault processors task ready FileFailed ends cause tells first later = failed_so (inr (inr (inr (inl cause.0))))
   by_fault processors task ready fault ends cause tells first later = told fault refl ends tells first
 
   by_end : (processors : Processors) (task : Task) (ready : Result Prepared RunFault) (came : Result ℕ RunFault)
       → EndsBy answer bytes after.input.tells (sides_of before middle) came → HasCause processors task ready before middle came
       → TellsEnd came notes after.notes status → before.notes.faults ≤ notes.faults → Answered
   by_end processors task ready (Ok code) ends cause tells first =
-      inr (inr (gives None code ends.0 ends.1 tells.0 (subst (λ (e : End (List ℕ)). Appends notes.tells e.tells []) (sym tells.1) (Appends-nil notes.tells))))
+      inr (inr (inr (gives None code ends.0 ends.1 tells.0
+      (subst (λ (e : End (List ℕ)). Appends notes.tells e.tells []) (sym tells.1) (Appends-nil notes.tells)))))
   by_end processors task ready (Err fault) ends cause tells first = by_fault processors task ready fault ends cause tells.0 first tells.1
 
 pub answered : (given : Files → World) (words : List (List ℕ)) (before after : Outside) (status : ℕ) → HasEnded given words before after status
@@ -88,11 +97,10 @@ answered given words before after status ended =
       files = ended.done.files;
       held = ended.done.held;
       gives = some_map before.input.tells
-          (λ bytes. RestsOn world.processors (answer_of world words bytes)
-          → Shows (answer_of world words bytes) bytes after.input.tells (sides_of before (record after { notes = ended.notes })) ended.came)
-          (λ bytes. RootsTell first_half (answer_of world words bytes).maps → (status ≡ 7)
-          ⊎ (SomeFailed before after ⊎ Gives (answer_of world words bytes) (sides_of before after) status))
-          (λ bytes shows roots. by_end (answer_of world words bytes) bytes before after ended.notes status world.processors (task_by (wish_of words))
-          (prepared world (wish_of words)) ended.came (shows (record { told = ended.tells; roots = roots })).ends does.cause ended.told does.later)
+          (λ bytes. TellsAll world.processors → Shows (answer_of world words bytes) bytes after.input.tells (sides_of before (record after { notes = ended.notes })) ended.came)
+          (λ bytes. (status ≡ 7)
+          ⊎ ((status ≡ 9) ⊎ (SomeFailed before after ⊎ Gives (answer_of world words bytes) (sides_of before after) status)))
+          (λ bytes shows. by_end (answer_of world words bytes) bytes before after ended.notes status world.processors (task_by (wish_of words))
+          (prepared world (wish_of words)) ended.came (shows ended.tells).ends does.cause ended.told does.later)
           does.shows;
     }

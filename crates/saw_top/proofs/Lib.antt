@@ -11,7 +11,7 @@ pub mod Doing
 pub mod OptionWords
 pub mod OptionOrder
 pub mod Prefixes
-pub mod RunMaps
+pub mod BuiltIn
 pub mod Prepares
 pub mod Carrying
 pub mod Endings

@@ -1,22 +1,31 @@
 -- Where the judging of a stream stands between two frames, and what each of its ends shows.
 use Rattle.std.proofs.Common.{◌≡◌, ◌⊎◌, inl, inr, ℕ, ◌+◌, ◌-◌, ◌<◌, ◌≤◌, ◌==◌, Bool, true, false, List, [], ◌∷◌, ◌++◌, length, take, drop, Option}
 use Rattle.std.proofs.Common.{Some, None, Result, Ok, Err, refl, sym, ap, subst, ◌∙◌, append_assoc, arith}
-use Rattle.std.specs.Prelude.{IfSome, ◌||◌}
+use Rattle.std.specs.Prelude.{IfSome, ◌||◌, slice_get}
+use Rattle.std.specs.FinMap as finite
 use Rattle.std.specs.Global.{Vec}
 use Rattle.std.specs.Io.KnownBytes.{Appends, Consumes}
 use Rattle.std.proofs.KnownBytes.{Appends-trans, Appends-nil, Consumes-nil}
 use Rattle.std.proofs.lemmas.List.{append-nil, length-append, take-append-drop}
 use Rattle.std.proofs.lemmas.List.Folds.{list_any-append}
+use Rattle.saw_address.specs.Maps.{StateMap, no_entries}
 use Rattle.saw_io.specs.Frame.{FrameGives, IsPart, Takes, frame_at}
 use Rattle.saw_io.specs.declared.fault.FrameFault.{FrameFault}
 use Rattle.saw_io.specs.declared.fault.FrameFault.TheVariants as frames
-use Rattle.saw_journal.specs.Judgement.{Rules}
-use Rattle.saw_journal.specs.Ledger.{IsFull, Ledger, Says}
+use Rattle.saw_journal.specs.Clashing.{Clashes}
+use Rattle.saw_journal.specs.Judgement.{Rules, would_leave}
+use Rattle.saw_journal.specs.Ledger.{IsFull, Ledger, Says, map_under}
+use Rattle.saw_merkle.specs.Clashes.{IsNodeOfBoth}
+use Rattle.saw_merkle.specs.States.{Stays}
+use Rattle.saw_node.specs.Nodes.{shape_of}
+use Rattle.saw_node.specs.Trees.{IsNodeOf}
+use Rattle.saw_node.specs.declared.node.Node.{Node}
 use Rattle.saw_receipts.specs.declared.verdict.Verdict.{Verdict}
 use Rattle.saw_report.specs.RunFaults.{fault_of_frame}
-use Rattle.saw_top.specs.History.{History, RootsTell, Said, ended, history, is_refused, maps_of, some_refused}
+use Rattle.saw_top.specs.History.{History, IsAmong, Said, ended, history, is_refused, maps_of, some_refused, tried}
 use Rattle.saw_top.specs.History as histories
-use Rattle.saw_top.specs.StreamJudging.{IsPrompt, IsUpToDate, Judges, JudgesBy, JudgesTo, TakesNext, WhereRootsTell, report_in, report_of}
+use Rattle.saw_top.specs.StreamJudging.{IsPrompt, IsUpToDate, Judges, JudgesBy, JudgesTo, StopsAtClash, TakesNext, report_in, report_of}
+use Rattle.saw_top.specs.Clashing.{AreAlike, ClashesBy, LeavesUnjudged}
 use Rattle.saw_top.specs.Limits.{max_frames, max_length}
 use Rattle.saw_top.specs.Outside.{WritesFront}
 use Rattle.saw_top.specs.Reports.{line_of, report, said_of}
@@ -24,10 +33,11 @@ use Rattle.saw_top.specs.Run.{fault_in, fault_of, run_of}
 use Rattle.saw_top.specs.KeptBlocks.{IsAfter}
 use Rattle.saw_top.specs.Stream.{Reads, Stream, before, no_frames, stream_from, stream_of}
 use Rattle.saw_report.specs.declared.run_fault.RunFault.{RunFault}
-use Rattle.saw_report.specs.declared.run_fault.RunFault.TheVariants.{Truncated, TooLong, Frames, Blocks, Read, Write, Peer, Memory}
+use Rattle.saw_report.specs.declared.run_fault.RunFault.TheVariants.{Truncated, TooLong, Frames, Blocks, Read, Write, Peer, Collision, Memory}
 use Rattle.saw_top.specs.declared.task.Lines.{Lines}
 use Rattle.saw_journal.proofs.OneByOne.{RunsOneByOne}
-use Rattle.saw_top.proofs.Histories.{after, extends, history_behind, length-said, report-behind, tell_fewer}
+use Rattle.saw_top.proofs.Histories.{after, history_behind, length-said, report-behind, tried_at}
+use Rattle.saw_top.proofs.Judgements.{left_same}
 use Rattle.saw_top.proofs.Steps.{Steps, no_room, steps}
 use Rattle.saw_top.proofs.Streams.{Reads-push, all_before, stream_ended, stream_faulty, stream_full, stream_goes_on, stream_some, stream_too_many}
 
@@ -69,17 +79,17 @@ module _ (rules : Rules) (lines : Lines) where
     pub some : refused ≡ some_refused (history rules frames []).said
     pub stands : IsAfter rules (history rules frames []).accepted ledger
 
-  -- the same of an input that may not tell its bytes, where roots tell maps apart
+  -- the same of an input that may not tell its bytes
   pub record SoFar (place : ℕ) (first now old new : Option (List ℕ)) (refused : Bool) (ledger : Ledger) : Type 0 where
-    pub so : IfSome first (λ bytes. WhereRootsTell rules bytes (IsAt place bytes now old new refused ledger))
+    pub so : IfSome first (λ bytes. IsAt place bytes now old new refused ledger)
 
   pub start : (first old : Option (List ℕ)) (ledger : Ledger) → IsAfter rules [] ledger → SoFar 0 first first old old false ledger
   unfolding history
   start first old ledger stands = record { so = begin first }
     where
-      begin : (first : Option (List ℕ)) → IfSome first (λ bytes. WhereRootsTell rules bytes (IsAt 0 bytes first old old false ledger))
+      begin : (first : Option (List ℕ)) → IfSome first (λ bytes. IsAt 0 bytes first old old false ledger)
       begin None = tt
-      begin (Some bytes) = λ tell. record {
+      begin (Some bytes) = record {
         frames = [];
         rest = bytes;
         left = refl;
@@ -93,25 +103,22 @@ module _ (rules : Rules) (lines : Lines) where
       }
 
   -- what comes of it, where the input tells its bytes
-  so_by : (first : Option (List ℕ)) (P Q : List ℕ → Type 0) → ((bytes : List ℕ) → P bytes → WhereRootsTell rules bytes (Q bytes))
-      → IfSome first (λ bytes. WhereRootsTell rules bytes (P bytes))
-      → IfSome first (λ bytes. WhereRootsTell rules bytes (Q bytes))
+  so_by : (first : Option (List ℕ)) (P Q : List ℕ → Type 0) → ((bytes : List ℕ) → P bytes → Q bytes) → IfSome first P → IfSome first Q
   so_by None P Q step so = tt
-  so_by (Some bytes) P Q step so = λ tell. step bytes (so tell) tell
+  so_by (Some bytes) P Q step so = step bytes so
 
   module _ {place : ℕ} {first now old mid : Option (List ℕ)} {refused : Bool} {ledger : Ledger} (at : SoFar place first now old mid refused ledger)
       (next new : Option (List ℕ)) where
     -- the judging ended
     pub so_ends : (after_it : Ledger) (result : Result Bool RunFault)
         → ((bytes : List ℕ) → IsAt place bytes now old mid refused ledger → Judges rules lines bytes next old new after_it result)
-        → IfSome first (λ bytes. WhereRootsTell rules bytes (Judges rules lines bytes next old new after_it result))
+        → IfSome first (λ bytes. Judges rules lines bytes next old new after_it result)
     so_ends after_it result step =
-        so_by first (λ bytes. IsAt place bytes now old mid refused ledger) (λ bytes. Judges rules lines bytes next old new after_it result)
-        (λ bytes here tell. step bytes here) at.so
+        so_by first (λ bytes. IsAt place bytes now old mid refused ledger) (λ bytes. Judges rules lines bytes next old new after_it result) step at.so
 
     -- or it goes on
     pub so_more : (more : Bool) (after_it : Ledger)
-        → ((bytes : List ℕ) → IsAt place bytes now old mid refused ledger → WhereRootsTell rules bytes (IsAt (place + 1) bytes next old new more after_it))
+        → ((bytes : List ℕ) → IsAt place bytes now old mid refused ledger → IsAt (place + 1) bytes next old new more after_it)
         → SoFar (place + 1) first next old new more after_it
     so_more more after_it step = record {
       so = so_by first (λ bytes. IsAt place bytes now old mid refused ledger) (λ bytes. IsAt (place + 1) bytes next old new more after_it) step at.so;
@@ -119,10 +126,10 @@ module _ (rules : Rules) (lines : Lines) where
 
   -- nothing was taken or written
   pub nothing_judged : (first old : Option (List ℕ)) (ledger : Ledger)
-      → IfSome first (λ bytes. WhereRootsTell rules bytes (Judges rules lines bytes first old old ledger (Err Memory)))
+      → IfSome first (λ bytes. Judges rules lines bytes first old old ledger (Err Memory))
   unfolding history
   nothing_judged None old ledger = tt
-  nothing_judged (Some bytes) old ledger = λ tell. record {
+  nothing_judged (Some bytes) old ledger = record {
     front = ([], report_in rules lines bytes, refl, Appends-nil old);
     prompt = record {
       frames = [];
@@ -328,21 +335,57 @@ module _ (rules : Rules) (lines : Lines) where
           ends_here next after_it (Err Blocks) (omega arith) taken
           (fault_at (before content.items others) goes_on ∙ ap (λ (h : History). fault_in h others.fault) none, subst (Appends old mid) (sym text) at.written)
 
-      -- it has no verdict, since it found no room, a processor failed or memory was refused
-      pub not_judged : RunsOneByOne rules.runs → (e : RunFault) (after_it : Ledger) → (e ≡ Blocks) ⊎ ((e ≡ Peer) ⊎ (e ≡ Memory))
-          → (e ≡ Blocks → IsFull rules ledger content.items)
+      -- two different nodes of one hash were met
+      clash_here : (kept given : Node) → AreAlike kept given → Clashes rules ledger.states ledger.blocks content.items kept given
+          → StopsAtClash rules lines bytes next old mid kept given
+      clash_here kept given alike met =
+          let read = rw at.left at told in
+          record {
+            frames = at.frames;
+            content = content.items;
+            rest = read.0;
+            reads = Reads-push at.frames bytes at.rest read.0 content.items at.reads read.2;
+            left_is = read.1;
+            m = met.left;
+            would = would_be met.left met.left_is;
+            written = at.written;
+            given_of = met.clash.0;
+            kept_of = which met.clash.1;
+            alike = alike;
+          }
+        where
+          would_be : (m : StateMap) → would_leave rules (map_under ledger.states) ledger.blocks content.items ≡ Some m
+              → slice_get (tried rules (stream_of bytes).frames []) (length at.frames) ≡ Some (Some m)
+          would_be m is =
+              ap (λ (s : Stream). slice_get (tried rules s.frames []) (length at.frames)) goes_on
+              ∙ tried_at rules at.frames content.items others.frames [] at.room
+              ∙ ap Some (sym (left_same rules seen.accepted ledger at.stands content.items) ∙ is)
+
+          which : IsNodeOfBoth rules.hash ledger.states met.left (shape_of kept)
+              → (of : StateMap) × ((of ≡ met.left) ⊎ ((of ≡ no_entries) ⊎ IsAmong of (maps_of seen.accepted)))
+              × IsNodeOf rules.hash (finite.entries of) (shape_of kept)
+          which (inl known) = (known.m, inr (at.stands.known known.root known.m known.known), known.is)
+          which (inr is) = (met.left, inl refl, is)
+
+      -- it has no verdict, since it found no room, two nodes clashed, a processor failed or memory was refused
+      pub not_judged : RunsOneByOne rules.runs → (e : RunFault) (after_it : Ledger) → LeavesUnjudged e
+          → (e ≡ Blocks → IsFull rules ledger content.items) → ClashesBy rules ledger content.items e
           → Ends next after_it (Err e)
-      not_judged one_by_one e after_it (inl is) full = rw is (full_here one_by_one after_it (full is))
-      not_judged one_by_one e after_it (inr (inl is)) full = rw is (ends_here next after_it (Err Peer) (omega arith) taken tt)
-      not_judged one_by_one e after_it (inr (inr is)) full = rw is (ends_here next after_it (Err Memory) (omega arith) taken tt)
+      not_judged one_by_one Blocks after_it why full clash = full_here one_by_one after_it (full refl)
+      not_judged one_by_one (Collision kept given) after_it why full clash =
+          ends_here next after_it (Err (Collision kept given)) (omega arith) taken (clash_here kept given why clash)
+      not_judged one_by_one Peer after_it why full clash = ends_here next after_it (Err Peer) (omega arith) taken tt
+      not_judged one_by_one Memory after_it why full clash = ends_here next after_it (Err Memory) (omega arith) taken tt
+      not_judged one_by_one e after_it why full clash = absurd why
 
       -- it was judged
-      module _ (one_by_one : RunsOneByOne rules.runs) (verdict : Verdict) (after_it : Ledger) (says : Says rules ledger content.items verdict after_it) where
+      module _ (one_by_one : RunsOneByOne rules.runs) (verdict : Verdict) (after_it : Ledger) (says : Says rules ledger content.items verdict after_it)
+          (stays : Stays ledger.states after_it.states) where
         abbrev said : Said
         said = said_of verdict after_it.blocks
 
         step : Steps rules one_by_one seen.accepted content.items said after_it
-        step = steps rules one_by_one seen.accepted content.items ledger at.stands after_it verdict says
+        step = steps rules one_by_one seen.accepted content.items ledger at.stands after_it stays verdict says
 
         abbrev line : List ℕ
         line = line_of lines (length at.frames) said
@@ -383,16 +426,11 @@ module _ (rules : Rules) (lines : Lines) where
             ap (λ (h : History). some_refused h.said) behind_it ∙ list_any-append is_refused seen.said (said ∷ [])
             ∙ or_false (some_refused seen.said) (is_refused said)
 
-        pub line_written : (new : Option (List ℕ)) (more : Bool) → RootsTell rules.hash (maps_of (run_of rules bytes).accepted)
-            → Appends mid new (line_of lines place said) → more ≡ (refused || is_refused said)
+        pub line_written : (new : Option (List ℕ)) (more : Bool) → Appends mid new (line_of lines place said) → more ≡ (refused || is_refused said)
             → IsAt (place + 1) bytes next old new more after_it
-        line_written new more tell wrote is =
+        line_written new more wrote is =
             let read = rw at.left at told in
             let shown : Appends mid new line = subst (λ (p : ℕ). Appends mid new (line_of lines p said)) (sym at.count) wrote in
-            let run = run_at (before content.items others) goes_on ∙ ap (after seen) (step.goes others.frames) in
-            let ends = extends rules others.frames step.next in
-            let fewer : RootsTell rules.hash (maps_of step.next) =
-            tell_fewer rules.hash (run_of rules bytes).accepted step.next ends.0 (ap (λ (h : History). h.accepted) run ∙ ends.1) tell in
             record {
               frames = at.frames ++ content.items ∷ [];
               rest = read.0;
@@ -402,5 +440,5 @@ module _ (rules : Rules) (lines : Lines) where
               room = ap (λ (h : History). h.is_full) behind_it;
               written = subst (Appends old new) (sym report_is) (Appends-trans old mid new reported line at.written shown);
               some = is ∙ ap (λ (b : Bool). b || is_refused said) at.some ∙ sym some_is;
-              stands = subst (λ (h : History). IsAfter rules h.accepted after_it) (sym behind_it) (step.stands fewer);
+              stands = subst (λ (h : History). IsAfter rules h.accepted after_it) (sym behind_it) step.stands;
             }

@@ -1,18 +1,24 @@
 -- What a run does: it gives the answer, or a front of it and the fault that ended it.
-use Rattle.std.specs.Prelude.{◌≡◌, ◌⊎◌, ◌↔◌, ◌<◌, ◌≤◌, ℕ, true, List, [], ◌++◌, length, take, is_some, Option, Some, None, Result, Ok, Err, IfSome, if◌then◌else◌}
+use Rattle.std.specs.Prelude.{◌≡◌, ◌⊎◌, ◌↔◌, ◌<◌, ◌≤◌, ℕ, true, List, [], ◌∷◌, ◌++◌, length, slice_get, take, is_some, Option, Some, None, Result, Ok, Err, IfSome, if◌then◌else◌}
 use Rattle.std.specs.Io.KnownBytes.{Appends, Consumes, IsAtEnd}
+use Rattle.std.specs.FinMap as finite
+use Rattle.saw_address.specs.Maps.{StateMap, no_entries}
 use Rattle.saw_context.specs.Outcome.{Processors}
 use Rattle.saw_faults.specs.Counts.{Rose}
 use Rattle.saw_io.specs.Frame.{IsPart}
 use Rattle.saw_io.specs.Shelf.{Files}
 use Rattle.saw_node.specs.Hashes.{first_half}
+use Rattle.saw_node.specs.Nodes.{shape_of}
+use Rattle.saw_node.specs.Trees.{IsNodeOf}
+use Rattle.saw_node.specs.declared.node.Node.{Node}
 use Rattle.saw_report.specs.RunFaults.{fault_line, status_of}
 use Rattle.saw_report.specs.declared.run_fault.RunFault.{RunFault}
-use Rattle.saw_report.specs.declared.run_fault.RunFault.TheVariants.{Words, Truncated, TooLong, Read, Write, Peer, Memory, FileMissing, FileTooLong, FileFailed, BadLine}
+use Rattle.saw_report.specs.declared.run_fault.RunFault.TheVariants.{Words, Truncated, TooLong, Read, Write, Peer, Collision, Memory, FileMissing, FileTooLong, FileFailed, BadLine}
 use Rattle.saw_top.specs.Answers.{Prepared, answer_for, answer_of, prepared, task_by}
+use Rattle.saw_top.specs.Clashing.{AreAlike}
 use Rattle.saw_top.specs.Command.{Wish, wish_of}
 use Rattle.saw_top.specs.EndingFaults.{is_told}
-use Rattle.saw_top.specs.History.{RootsTell}
+use Rattle.saw_top.specs.History.{IsAmong}
 use Rattle.saw_top.specs.StreamJudging.{StopsAtLength, TakesNext}
 use Rattle.saw_top.specs.Limits.{max_frames}
 use Rattle.saw_top.specs.Outside.{End, Outside, Sides, SomeFailed, SomeRose, WritesFront, sides_of}
@@ -65,11 +71,30 @@ module _ (answer : Answer) (bytes : List ℕ) (left : Option (List ℕ)) (writte
     pub output : Appends written.old written.new (answer.output_for frames)
     pub notes : Appends written.told_old written.told_new (answer.noted_for frames)
 
+  -- Two different nodes of one hash were met: one of the map that the next block would leave, and one of that map, of the
+  -- empty one, or of one that an earlier accepted block leaves. What was read is the frames that have their lines, and that
+  -- block.
+  pub record MeetsClash (kept given : Node) : Type 0 where
+    pub frames : List (List ℕ)
+    pub content : List ℕ
+    pub rest : List ℕ
+    pub reads : Reads (frames ++ content ∷ []) bytes rest
+    pub left_is : left ≡ Some rest
+    pub m : StateMap
+    pub tried : slice_get answer.tried (length frames) ≡ Some (Some m)
+    pub output : Appends written.old written.new (answer.output_for frames)
+    pub notes : Appends written.told_old written.told_new (answer.noted_for frames)
+    pub given_of : IsNodeOf first_half (finite.entries m) (shape_of given)
+    pub kept_of : (of : StateMap) × ((of ≡ m) ⊎ ((of ≡ no_entries) ⊎ IsAmong of (answer.maps_for frames)))
+        × IsNodeOf first_half (finite.entries of) (shape_of kept)
+    pub alike : AreAlike kept given
+
   -- all of it, and its one fault
   abbrev pub HasFault : RunFault → Type 0
   HasFault fault = IsWhole (status_of fault) × (answer.fault ≡ Some fault)
 
-  -- what more is so, by how it ended: all of it and its fault, but where the outside failed or memory was refused
+  -- what more is so, by how it ended: all of it and its fault, but where the outside failed, memory was refused or two
+  -- different nodes of one hash were met
   abbrev pub EndsBy : Result ℕ RunFault → Type 0
   EndsBy (Ok status) = IsWhole status × (answer.fault ≡ None)
   EndsBy (Err (Truncated have want)) = HasFault (Truncated have want) × IsAtEnd left
@@ -77,6 +102,7 @@ module _ (answer : Answer) (bytes : List ℕ) (left : Option (List ℕ)) (writte
   EndsBy (Err Read) = KeepsUp
   EndsBy (Err Write) = Unit {0}
   EndsBy (Err Peer) = Unit {0}
+  EndsBy (Err (Collision kept given)) = MeetsClash kept given
   EndsBy (Err Memory) = Unit {0}
   EndsBy (Err FileFailed) = Unit {0}
   EndsBy (Err fault) = HasFault fault
@@ -87,13 +113,6 @@ module _ (answer : Answer) (bytes : List ℕ) (left : Option (List ℕ)) (writte
     pub notes : WritesFront answer.noted written.told_old written.told_new
     pub prompt : GoesOn
     pub ends : EndsBy came
-
--- ---- what is said of an answer rests on this
-
--- processors that tell their actions, and maps of blocks that have roots which tell them apart
-pub record RestsOn (processors : Processors) (answer : Answer) : Type 0 where
-  pub told : TellsAll processors
-  pub roots : RootsTell first_half answer.maps
 
 -- ---- what a run comes to: a status, or the fault that ended it
 
@@ -127,6 +146,7 @@ module _ (processors : Processors) (task : Task) (ready : Result Prepared RunFau
   HasCause (Err Write) =
       IsReady × (Rose before.output.faults after.output.faults ⊎ Rose before.notes.faults after.notes.faults)
   HasCause (Err Peer) = IsReady × SomeRose before.remotes after.remotes
+  HasCause (Err (Collision kept given)) = IsReady × AreAlike kept given
   HasCause (Err fault) = IsReady
 
   -- what was done with words and files that prepare this
@@ -137,7 +157,7 @@ module _ (processors : Processors) (task : Task) (ready : Result Prepared RunFau
     pub noted : Appends before.notes.tells after.notes.tells lines
     pub later : before.notes.faults ≤ after.notes.faults
     pub shows : IfSome before.input.tells (λ bytes. let answer = answer_for processors task ready bytes in
-        RestsOn processors answer → Shows answer bytes after.input.tells (sides_of before after) came)
+        TellsAll processors → Shows answer bytes after.input.tells (sides_of before after) came)
 
 abbrev pub list_in : Option Wish → Option (List ℕ)
 list_in None = None
@@ -174,16 +194,16 @@ TellsEnd (Err fault) before after status =
 -- ---- the two promises of a run
 
 module _ (given : Files → World) (words : List (List ℕ)) (before after : Outside) (status : ℕ) where
-  -- Output, notes and status are the answer, where memory was not refused and no call failed. It rests on roots alone.
+  -- Output, notes and status are the answer, where memory was not refused, no two different nodes of one hash were met and
+  -- no call failed.
   pub record IsAnswered : Type 0 where
     pub files : Files
     pub held : IfSome before.shelf.tells (λ told. files ≡ told)
     pub gives : IfSome before.input.tells (λ bytes. let answer = answer_of (given files) words bytes in
-        RootsTell first_half answer.maps
-        → (status ≡ 7) ⊎ (SomeFailed before after ⊎ Gives answer (sides_of before after) status))
+        (status ≡ 7) ⊎ ((status ≡ 9) ⊎ (SomeFailed before after ⊎ Gives answer (sides_of before after) status)))
 
   -- How it ended: what it came to, what was done up to there, and what the notes tell then. Each processor tells its
-  -- actions, so that what is said of the answer rests on roots alone.
+  -- actions, so that what is said of the answer rests on nothing more.
   pub record HasEnded : Type 0 where
     pub came : Result ℕ RunFault
     pub notes : End (List ℕ)

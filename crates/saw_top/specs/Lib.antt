@@ -1,4 +1,5 @@
 pub mod Limits
+pub mod Clashing
 pub mod World
 pub mod History
 pub mod KeptBlocks
@@ -18,4 +19,4 @@ pub mod Vouching
 pub mod Headline
 pub mod Laws
 pub mod OptionLaws
-pub mod RootLaws
+pub mod BuiltInLaws

@@ -18,18 +18,18 @@ use Rattle.saw_top.specs.declared.task.Lines.TheVariants.{All, Refused}
 use Rattle.saw_top.specs.declared.task.Task.{Task}
 
 -- What a run writes, what it tells on the notes, the fault whose line follows there, and its status. Besides, the maps that
--- its accepted blocks leave, and those that all its blocks would; of how many blocks it tells a verdict, and what of output
--- and notes the lines of the first frames are alone.
+-- all its blocks would leave; of how many blocks it tells a verdict, and of the first frames what of output and notes their
+-- lines are alone, and the maps that the accepted ones of them leave.
 pub record Answer : Type 0 where
   pub output : List ℕ
   pub noted : List ℕ
   pub fault : Option RunFault
   pub status : ℕ
-  pub maps : List StateMap
   pub tried : List (Option StateMap)
   pub judged : ℕ
   pub output_for : List (List ℕ) → List ℕ
   pub noted_for : List (List ℕ) → List ℕ
+  pub maps_for : List (List ℕ) → List StateMap
 
 -- nothing but a fault
 abbrev pub faulty : RunFault → Answer
@@ -38,11 +38,11 @@ faulty fault = record {
   noted = [];
   fault = Some fault;
   status = status_of fault;
-  maps = [];
   tried = [];
   judged = 0;
   output_for = λ frames. [];
   noted_for = λ frames. [];
+  maps_for = λ frames. [];
 }
 
 abbrev pub line_by : Option RunFault → List ℕ
@@ -126,9 +126,9 @@ module _ (rules : Rules) where
     noted = noted_by task.lines (run_of bytes) ++ end.noted;
     fault = fault_of bytes;
     status = end.status;
-    maps = maps_of (run_of bytes).accepted;
     tried = tried rules (stream_of bytes).frames [];
     judged = length (run_of bytes).said;
     output_for = λ frames. written_by task.lines (history_of frames);
     noted_for = λ frames. noted_by task.lines (history_of frames);
+    maps_for = λ frames. maps_of (history_of frames).accepted;
   }

@@ -1,21 +1,27 @@
 -- What was written when the judging of a stream ended.
-use Rattle.std.specs.Prelude.{◌≡◌, ◌⊎◌, ◌≤◌, ◌<◌, ℕ, Bool, List, [], ◌++◌, length, Option, Some, None, Result, Ok, Err, IfErr, IfSome, IsErrOf}
+use Rattle.std.specs.Prelude.{◌≡◌, ◌⊎◌, ◌≤◌, ◌<◌, ℕ, Bool, List, [], ◌∷◌, ◌++◌, length, slice_get, Option, Some, None, Result, Ok, Err, IfErr, IfSome, IsErrOf}
+use Rattle.std.specs.FinMap as finite
 use Rattle.std.specs.Io.KnownBytes.{Appends, Consumes, IsAtEnd}
+use Rattle.saw_address.specs.Maps.{StateMap, no_entries}
 use Rattle.saw_io.specs.Frame.{frame_at, IsPart}
 use Rattle.saw_journal.specs.Judgement.{Rules}
 use Rattle.saw_journal.specs.Ledger.{Ledger}
-use Rattle.saw_top.specs.History.{RootsTell, history, maps_of, some_refused}
+use Rattle.saw_node.specs.Nodes.{shape_of}
+use Rattle.saw_node.specs.Trees.{IsNodeOf}
+use Rattle.saw_node.specs.declared.node.Node.{Node}
+use Rattle.saw_top.specs.History.{IsAmong, history, maps_of, some_refused, tried}
 use Rattle.saw_top.specs.Limits.{max_frames, max_length}
 use Rattle.saw_top.specs.Outside.{WritesFront, Outside, SomeRose, lines_side, other_side}
 use Rattle.saw_top.specs.Reports.{report}
 use Rattle.saw_top.specs.Run.{fault_of, run_of}
 use Rattle.saw_top.specs.KeptBlocks.{IsAfter}
-use Rattle.saw_top.specs.Stream.{Reads}
+use Rattle.saw_top.specs.Stream.{Reads, stream_of}
 use Rattle.saw_report.specs.declared.run_fault.RunFault.{RunFault}
-use Rattle.saw_report.specs.declared.run_fault.RunFault.TheVariants.{Truncated, TooLong, Read, Write, Peer, Memory}
+use Rattle.saw_report.specs.declared.run_fault.RunFault.TheVariants.{Truncated, TooLong, Read, Write, Peer, Collision, Memory}
 use Rattle.saw_top.specs.declared.task.Lines.{Lines}
 use Rattle.saw_context.specs.Outcome.{Processors}
 use Rattle.saw_faults.specs.Counts.{Rose}
+use Rattle.saw_top.specs.Clashing.{AreAlike, TellsAlike}
 use Rattle.saw_top.specs.EndingFaults.{IsOfStream}
 use Rattle.saw_top.specs.World.{Accepts, TellsAll, rules_by}
 
@@ -62,6 +68,23 @@ module _ (rules : Rules) (lines : Lines) where
     pub part : List ℕ
     pub written : Appends old new (report_of frames ++ part)
 
+  -- Two different nodes of one hash were met behind whole frames that have their lines: one of the map that the next block
+  -- would leave, and one of that map, of the empty one, or of one that an earlier accepted block leaves.
+  pub record StopsAtClash (bytes : List ℕ) (left old new : Option (List ℕ)) (kept given : Node) : Type 0 where
+    pub frames : List (List ℕ)
+    pub content : List ℕ
+    pub rest : List ℕ
+    pub reads : Reads (frames ++ content ∷ []) bytes rest
+    pub left_is : left ≡ Some rest
+    pub m : StateMap
+    pub would : slice_get (tried rules (stream_of bytes).frames []) (length frames) ≡ Some (Some m)
+    pub written : Appends old new (report_of frames)
+    pub given_of : IsNodeOf rules.hash (finite.entries m) (shape_of given)
+    pub kept_of : (of : StateMap)
+        × ((of ≡ m) ⊎ ((of ≡ no_entries) ⊎ IsAmong of (maps_of (history rules frames []).accepted)))
+        × IsNodeOf rules.hash (finite.entries of) (shape_of kept)
+    pub alike : AreAlike kept given
+
   -- the lines of all blocks
   abbrev pub report_in : List ℕ → List ℕ
   report_in bytes = report lines 0 (run_of rules bytes).said
@@ -86,6 +109,7 @@ module _ (rules : Rules) (lines : Lines) where
   JudgesBy bytes left old new ledger (Err Read) = IsUpToDate bytes left old new
   JudgesBy bytes left old new ledger (Err Write) = Unit {0}
   JudgesBy bytes left old new ledger (Err Peer) = Unit {0}
+  JudgesBy bytes left old new ledger (Err (Collision kept given)) = StopsAtClash bytes left old new kept given
   JudgesBy bytes left old new ledger (Err Memory) = Unit {0}
   JudgesBy bytes left old new ledger (Err fault) = JudgesTo bytes old new fault
 
@@ -96,19 +120,16 @@ module _ (rules : Rules) (lines : Lines) where
     pub prompt : IsPrompt bytes left old new
     pub ends : JudgesBy bytes left old new ledger result
 
--- what is so of a stream where its maps have roots that tell them apart
-abbrev pub WhereRootsTell : Rules → List ℕ → Type 0 → Type 0
-WhereRootsTell rules bytes P = RootsTell rules.hash (maps_of (run_of rules bytes).accepted) → P
-
 -- what was judged of a stream, with its lines on the output or on the notes
 module _ (processors : Processors) (accepts : Accepts) (lines : Lines) (before after : Outside) where
   pub record JudgesFor (ledger : Ledger) (result : Result Bool RunFault) : Type 0 where
     pub judges : TellsAll processors → IfSome before.input.tells (λ bytes.
-        WhereRootsTell (rules_by accepts processors) bytes (Judges (rules_by accepts processors) lines bytes
-        after.input.tells (lines_side lines before).tells (lines_side lines after).tells ledger result))
+        Judges (rules_by accepts processors) lines bytes after.input.tells (lines_side lines before).tells
+        (lines_side lines after).tells ledger result)
     pub aside : other_side lines after ≡ other_side lines before
     pub wrote : (written : List ℕ) × Appends (lines_side lines before).tells (lines_side lines after).tells written
     pub kind : IfErr result IsOfStream
+    pub nodes : IfErr result TellsAlike
     pub input : IsErrOf result Read → Rose before.input.faults after.input.faults
     pub output : IsErrOf result Write → Rose (lines_side lines before).faults (lines_side lines after).faults
     pub later : (lines_side lines before).faults ≤ (lines_side lines after).faults

@@ -16,8 +16,8 @@ use crate::task::Ending;
 use saw_address::Prefix;
 use saw_io::{Sink, write_all};
 use saw_journal::Journal;
+use saw_merkle::{Listed, Tree};
 use saw_node::Sha512Half;
-use saw_receipts::{Listed, Tree};
 use saw_report::{RunFault, head_line, listed_line};
 use std::alloc::Global;
 

@@ -5,8 +5,10 @@ ghost use Rattle.std.specs.Io.KnownBytes.{Appends};
 ghost use Rattle.saw_crew.specs.Desks.{Failed, HaveSameOffers, KeepsDesks, offers_at};
 ghost use Rattle.saw_faults.specs.Counts.{Rose};
 ghost use Rattle.saw_journal.specs.Ledger.{IsFull, Says};
+ghost use Rattle.saw_merkle.specs.States.{Stays};
 ghost use Rattle.saw_receipts.specs.Verdicts.{is_accepted};
 ghost use Rattle.saw_station.specs.Serving.{processors_at};
+ghost use Rattle.saw_top.specs.Clashing.{ClashesBy, LeavesUnjudged};
 ghost use Rattle.saw_top.specs.Reports.{line_of, said_of};
 ghost use Rattle.saw_top.specs.World.{TellsAll, rules_by};
 
@@ -19,9 +21,11 @@ use saw_report::{RunFault, verdict_line};
 use saw_station::{Desk, Station};
 use saw_verify::Verifier;
 use std::alloc::Global;
+use std::thread::Threads;
 
 /// Judges the bytes of a block. After a fault the journal is as before. The desks keep their offers and their remotes.
-pub(crate) fn judge<R: Station, V: Verifier>(
+pub(crate) fn judge<T: Threads + Sync, R: Station, V: Verifier>(
+    rt: &T,
     journal: &mut Journal<Sha512Half>,
     desks: &mut [Desk<R>],
     verifier: &V,
@@ -36,17 +40,21 @@ pub(crate) fn judge<R: Station, V: Verifier>(
     ensures full { let processors = processors_at R.next R.tells (offers_at desks.old) in
         TellsAll processors → IsErrOf result RunFault.Blocks
         → IsFull (rules_by (V.accepts verifier.now) processors) journal.old content.now }
+    ensures clash { let processors = processors_at R.next R.tells (offers_at desks.old) in
+        TellsAll processors → IfErr result
+        (ClashesBy (rules_by (V.accepts verifier.now) processors) journal.old content.now) }
     ensures blocks { IfOk result (λ verdict.
         is_accepted verdict ≡ true → 0 < length journal.new.blocks) }
+    ensures stays { OnOk result (Stays journal.old.states journal.new.states) }
     ensures err { OnErr result (journal.new ≡ journal.old) }
-    ensures fault { IfErr result (λ e.
-        (e ≡ RunFault.Blocks) ⊎ ((e ≡ RunFault.Peer) ⊎ (e ≡ RunFault.Memory))) }
+    ensures fault { IfErr result LeavesUnjudged }
     ensures desks { KeepsDesks R.faults R.offered desks.old desks.new }
     ensures cause { IsErrOf result RunFault.Peer → Failed R.faults desks.old desks.new }
 {
-    match journal.accept(content, verifier, desks) {
+    match journal.accept(rt, content, verifier, desks) {
         Ok(verdict) => Ok(verdict),
         Err(JournalFault::Full) => Err(RunFault::Blocks),
+        Err(JournalFault::Collision { kept, given }) => Err(RunFault::Collision { kept, given }),
         Err(JournalFault::PeerFailed) => Err(RunFault::Peer),
         Err(JournalFault::OutOfMemory) => Err(RunFault::Memory),
     }

@@ -2,11 +2,16 @@
 
 ghost use Rattle.std.specs.Prelude.{◌≡◌, ◌≤◌, ◌<◌, ◌==◌, [], List, ℕ, length, Err, IfErr, IfOk, IfSome, OnErr, IsErrOf};
 ghost use Rattle.std.specs.Io.KnownBytes.{Appends, Consumes};
+ghost use Rattle.std.specs.FinMap as finite;
+ghost use Rattle.saw_address.specs.Maps.{no_entries};
 ghost use Rattle.saw_crew.specs.Desks.{HaveSameOffers, KeepsDesks, offers_at};
 ghost use Rattle.saw_faults.specs.Counts.{Rose};
+ghost use Rattle.saw_merkle.specs.States.{knows};
+ghost use Rattle.saw_node.specs.Hashes.{first_half};
 ghost use Rattle.saw_station.specs.Serving.{processors_at};
+ghost use Rattle.saw_top.specs.Clashing.{TellsAlike};
 ghost use Rattle.saw_top.specs.EndingFaults.{IsOfStream};
-ghost use Rattle.saw_top.specs.StreamJudging.{Judges, WhereRootsTell};
+ghost use Rattle.saw_top.specs.StreamJudging.{Judges};
 ghost use Rattle.saw_top.specs.Limits.{max_blocks};
 ghost use Rattle.saw_top.specs.Outside.{SomeRose, counts_of};
 ghost use Rattle.saw_top.specs.World.{TellsAll, rules_by};
@@ -20,6 +25,7 @@ use saw_report::RunFault;
 use saw_station::{Desk, Station};
 use saw_verify::Verifier;
 use std::alloc::Global;
+use std::thread::Threads;
 
 /// The most bytes of a frame's content.
 pub const MAX_LENGTH: u32 = 16_777_216;
@@ -51,7 +57,8 @@ fn has_ended<S: Source>(input: &mut S) -> Result<bool, RunFault>
 
 /// Judges the blocks of the input one by one, writes their lines, and tells whether one was refused. The desks keep their
 /// offers and their remotes.
-pub(crate) fn judge_stream<S: Source, O: Sink, V: Verifier, R: Station>(
+pub(crate) fn judge_stream<T: Threads + Sync, S: Source, O: Sink, V: Verifier, R: Station>(
+    rt: &T,
     alloc: Global,
     input: &mut S,
     output: &mut O,
@@ -61,16 +68,18 @@ pub(crate) fn judge_stream<S: Source, O: Sink, V: Verifier, R: Station>(
     journal: &mut Journal<Sha512Half>,
 ) -> Result<bool, RunFault>
     requires fresh { journal.old.blocks ≡ [] }
+    requires states { journal.old.states ≡ knows first_half finite.empty no_entries }
     requires limit { journal.old.limit ≡ max_blocks }
     requires some { 0 < length desks.old }
     requires alike { HaveSameOffers desks.old }
     ensures judges { let processors = processors_at R.next R.tells (offers_at desks.old) in
         let rules = rules_by (V.accepts verifier.now) processors in
-        TellsAll processors → IfSome (S.unread input.old) (λ bytes. WhereRootsTell rules bytes
-        (Judges rules lines bytes (S.unread input.new) (O.written output.old) (O.written output.new)
-        journal.new result)) }
+        TellsAll processors → IfSome (S.unread input.old) (λ bytes.
+        Judges rules lines bytes (S.unread input.new) (O.written output.old) (O.written output.new)
+        journal.new result) }
     ensures wrote { (written : List ℕ) × Appends (O.written output.old) (O.written output.new) written }
     ensures kind { IfErr result IsOfStream }
+    ensures nodes { IfErr result TellsAlike }
     ensures input { IsErrOf result RunFault.Read → Rose (S.faults input.old) (S.faults input.new) }
     ensures output { IsErrOf result RunFault.Write → Rose (O.faults output.old) (O.faults output.new) }
     ensures later { O.faults output.old ≤ O.faults output.new }
@@ -83,7 +92,7 @@ pub(crate) fn judge_stream<S: Source, O: Sink, V: Verifier, R: Station>(
         match read_frame(alloc, input, MAX_LENGTH)? {
             None => return Ok(refused),
             Some(content) => {
-                let verdict = judge(journal, desks, verifier, &content)?;
+                let verdict = judge(rt, journal, desks, verifier, &content)?;
                 tell_block(alloc, output, lines, journal, place, &verdict)?;
                 refused |= !verdict.is_accepted();
             }

@@ -1,8 +1,12 @@
 //! A task over the blocks of a stream.
 
 ghost use Rattle.std.specs.Prelude.{◌≡◌, ◌<◌, [], length};
+ghost use Rattle.std.specs.FinMap as finite;
+ghost use Rattle.saw_address.specs.Maps.{no_entries};
 ghost use Rattle.saw_crew.specs.Desks.{HaveSameOffers, KeepsDesks, offers_at};
 ghost use Rattle.saw_io.specs.Shelf.{Files};
+ghost use Rattle.saw_merkle.specs.States.{knows};
+ghost use Rattle.saw_node.specs.Hashes.{first_half};
 ghost use Rattle.saw_station.specs.Serving.{processors_at};
 ghost use Rattle.saw_top.specs.Answers.{vouched};
 ghost use Rattle.saw_top.specs.Headline.{Does};
@@ -21,9 +25,11 @@ use saw_report::RunFault;
 use saw_station::{Desk, Station};
 use saw_verify::Verifier;
 use std::alloc::Global;
+use std::thread::Threads;
 
 // Judges the blocks of the input, and writes their lines where they belong.
-fn judge_lines<S: Source, O: Sink, N: Sink, V: Verifier, R: Station>(
+fn judge_lines<T: Threads + Sync, S: Source, O: Sink, N: Sink, V: Verifier, R: Station>(
+    rt: &T,
     alloc: Global,
     lines: Lines,
     input: &mut S,
@@ -34,6 +40,7 @@ fn judge_lines<S: Source, O: Sink, N: Sink, V: Verifier, R: Station>(
     journal: &mut Journal<Sha512Half>,
 ) -> Result<bool, RunFault>
     requires fresh { journal.old.blocks ≡ [] }
+    requires states { journal.old.states ≡ knows first_half finite.empty no_entries }
     requires limit { journal.old.limit ≡ max_blocks }
     requires some { 0 < length desks.old }
     requires alike { HaveSameOffers desks.old }
@@ -45,8 +52,18 @@ fn judge_lines<S: Source, O: Sink, N: Sink, V: Verifier, R: Station>(
     ensures desks { KeepsDesks R.faults R.offered desks.old desks.new }
 {
     match lines {
-        Lines::All => judge_stream(alloc, input, output, Lines::All, verifier, desks, journal),
+        Lines::All => judge_stream(
+            rt,
+            alloc,
+            input,
+            output,
+            Lines::All,
+            verifier,
+            desks,
+            journal,
+        ),
         Lines::Refused => judge_stream(
+            rt,
             alloc,
             input,
             notes,
@@ -59,7 +76,8 @@ fn judge_lines<S: Source, O: Sink, N: Sink, V: Verifier, R: Station>(
 }
 
 /// Does a task over the blocks of the input. The desks keep their offers and their remotes.
-pub(crate) fn do_task<S: Source, O: Sink, N: Sink, V: Verifier, R: Station>(
+pub(crate) fn do_task<T: Threads + Sync, S: Source, O: Sink, N: Sink, V: Verifier, R: Station>(
+    rt: &T,
     alloc: Global,
     task: &Task,
     input: &mut S,
@@ -79,6 +97,7 @@ pub(crate) fn do_task<S: Source, O: Sink, N: Sink, V: Verifier, R: Station>(
 {
     let mut journal = Journal::new(alloc, MAX_BLOCKS)?;
     let refused = judge_lines(
+        rt,
         alloc,
         task.lines,
         input,

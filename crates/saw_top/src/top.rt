@@ -18,6 +18,7 @@ use saw_station::{Desk, NoStation};
 use saw_verify::Verifier;
 use std::alloc::{AllocError, Global};
 use std::sync::Arc;
+use std::thread::Threads;
 
 // A desk of the built-in processors alone.
 fn lone_desk(alloc: Global) -> Result<Desk<NoStation>, AllocError>
@@ -29,7 +30,8 @@ fn lone_desk(alloc: Global) -> Result<Desk<NoStation>, AllocError>
 }
 
 // Does what the words ask for.
-fn carry_out<S: Source, O: Sink, N: Sink, F: Shelf, V: Verifier>(
+fn carry_out<T: Threads + Sync, S: Source, O: Sink, N: Sink, F: Shelf, V: Verifier>(
+    rt: &T,
     alloc: Global,
     words: &[String],
     input: &mut S,
@@ -49,7 +51,9 @@ fn carry_out<S: Source, O: Sink, N: Sink, F: Shelf, V: Verifier>(
     let Command { task, attest } = command;
     let vouching = prepare(alloc, attest, shelf, verifier)?;
     let mut desks = [lone_desk(alloc)?];
-    do_task(alloc, &task, input, output, notes, &vouching, &mut desks)
+    do_task(
+        rt, alloc, &task, input, output, notes, &vouching, &mut desks,
+    )
 }
 
 /// Answers the words and the block stream, and tells on the notes why a run ended early. The words are those after the
@@ -60,8 +64,10 @@ fn carry_out<S: Source, O: Sink, N: Sink, F: Shelf, V: Verifier>(
 ///
 /// The status is 0 where all was done, and of `apply` 1 where a block was refused; 2 for words of no form; 3 for a stream
 /// that is none; 4 where reading failed, 5 where writing failed, 7 where memory was refused; 8 where there is nothing to
-/// list; 10 where no more blocks can be accepted; 11 for an attestation list that is missing, too long, not read or bad.
-pub fn run<S: Source, O: Sink, N: Sink, F: Shelf, V: Verifier>(
+/// list; 9 where two different nodes of one hash were met; 10 where no more blocks can be accepted; 11 for an attestation
+/// list that is missing, too long, not read or bad.
+pub fn run<T: Threads + Sync, S: Source, O: Sink, N: Sink, F: Shelf, V: Verifier>(
+    rt: &T,
     alloc: Global,
     words: &[String],
     input: &mut S,
@@ -70,9 +76,9 @@ pub fn run<S: Source, O: Sink, N: Sink, F: Shelf, V: Verifier>(
     shelf: &mut F,
     verifier: &V,
 ) -> Status
-    // Unless memory was refused (7) or a call failed, output, notes and status are the answer, where input
-    // and output tell their bytes, the verifier is a function, as its trait says, and no two different maps of
-    // accepted blocks have one root. Files that are not told are some files.
+    // Unless memory was refused (7), two different nodes of one hash were met (9) or a call failed, output,
+    // notes and status are the answer, where input and output tell their bytes and the verifier is a function,
+    // as its trait says. It rests on nothing more. Files that are not told are some files.
     ensures answered { let world = outside S.Source O.Sink N.Sink F.Shelf in
         IsAnswered (world_with (V.accepts verifier.now) (alone [])) (map string_bytes words.now)
         (world input.old output.old notes.old shelf.old)
@@ -83,8 +89,8 @@ pub fn run<S: Source, O: Sink, N: Sink, F: Shelf, V: Verifier>(
         (world input.old output.old notes.old shelf.old)
         (world input.new output.new notes.new shelf.new) result }
 {
-    match carry_out(alloc, words, input, output, notes, shelf, verifier) {
+    match carry_out(rt, alloc, words, input, output, notes, shelf, verifier) {
         Ok(status) => status,
-        Err(fault) => tell(notes, &fault),
+        Err(fault) => tell(alloc, notes, &fault),
     }
 }

@@ -29,6 +29,7 @@ fn main(rt: HostRuntime) -> ExitCode {
     let mut notes = StdSink::new(rt.stderr());
     let mut shelf = DirShelf::new(&rt);
     let status = run(
+        &rt,
         alloc,
         &words,
         &mut input,

@@ -1,17 +1,16 @@
-use Rattle.std.proofs.Common.{◌≡◌, List, subst}
+use Rattle.std.proofs.Common.{List, subst, ◌∙◌}
 use Rattle.std.proofs.lemmas.Result.{err_from_is_err_and}
-use Rattle.std.specs.Prelude.{IfSome}
 use Rattle.saw_context.specs.Outcome.{map_after}
 use Rattle.saw_context.specs.Possible.{MayComeOfAll}
 use Rattle.saw_crew.specs.Desks.{offers_at}
+use Rattle.saw_merkle.specs.Clashes.{IsClashFor, IsPreparedFor}
+use Rattle.saw_merkle.specs.States.{map_at}
 use Rattle.saw_messages.specs.declared.outcome.Change.{Change}
-use Rattle.saw_node.specs.Trees.{root_of_map}
 use Rattle.saw_messages.specs.TxShapes.{BatchShape}
 use Rattle.saw_plan.specs.BatchShapes.{txs_of}
-use Rattle.saw_receipts.specs.States.{state_at}
 use Rattle.saw_station.specs.Serving.{processors_at}
-use Rattle.saw_journal.specs.Ledger.{map_at}
-use Rattle.saw_journal.proofs.Runs.{at_known, failed_first, few_results, is_new, other_root}
+use Rattle.saw_journal.specs.BlockShapes.{parts_in}
+use Rattle.saw_journal.proofs.Runs.{failed_first, few_results, is_new, not_prepared, other_root, ran_other}
 use Rattle.saw_journal.proofs.run.run.Goals as goal
 
 pub test_results-requires : goal.test_results-requires
@@ -19,7 +18,11 @@ test_results-requires g c = few_results c.args.plan.batches c.args.checked.batch
     c.in_ok-results.ensures.whole c.requires.few
 
 pub returns-in_err-results-clause-ran : goal.returns-in_err-results-clause-ran
-returns-in_err-results-clause-ran g c = let p = err_from_is_err_and c.from_residual.result c.from_residual.ensures.1 in rw (p.1, p.2) tt
+returns-in_err-results-clause-ran g c =
+    let p = err_from_is_err_and c.from_residual.result c.from_residual.ensures.1 in
+    let processors = processors_at g.R.Station.next g.R.Station.tells (offers_at c.args.desks.now) in
+    rw (p.1, p.2) (ran_other processors g.H.NodeHasher.hash_of c.args.state.now c.args.before (parts_in c.args.checked) c.in_err-results.field-0.0
+    c.in_err-results.ensures.clear)
 
 pub returns-in_err-test_results-clause-ran : goal.returns-in_err-test_results-clause-ran
 returns-in_err-test_results-clause-ran g c =
@@ -35,9 +38,20 @@ pub returns-in_err-changes-clause-ran : goal.returns-in_err-changes-clause-ran
 returns-in_err-changes-clause-ran g c =
     let p = err_from_is_err_and c.from_residual-in_err-changes.result c.from_residual-in_err-changes.ensures.1 in rw (p.1, p.2) tt
 
-pub returns-in_err-root-clause-ran : goal.returns-in_err-root-clause-ran
-returns-in_err-root-clause-ran g c =
-    let p = err_from_is_err_and c.from_residual-in_err-root.result c.from_residual-in_err-root.ensures.1 in rw (p.1, p.2) tt
+pub returns-in_err-prepared-clause-ran : goal.returns-in_err-prepared-clause-ran
+returns-in_err-prepared-clause-ran g c =
+    let p = err_from_is_err_and c.from_residual-in_err-prepared.result c.from_residual-in_err-prepared.ensures.1 in
+    let hash = g.H.NodeHasher.hash_of in
+    let processors = processors_at g.R.Station.next g.R.Station.tells (offers_at c.args.desks.now) in
+    let results = c.in_ok-results.results.batches in
+    let before = map_at c.args.state.now c.args.before in
+    let changes = c.in_ok-changes.changes in
+    let may = subst (λ (shapes : List BatchShape). MayComeOfAll processors before (txs_of shapes) results)
+    c.requires.plan c.in_ok-results.ensures.results in
+    let clash = subst (λ (changes : List Change). IsClashFor hash c.args.state.now (map_after before changes) c.in_err-prepared.field-0.0)
+    c.as_slice.ensures c.in_err-prepared.ensures.clash in
+    rw (p.1, p.2) (not_prepared processors hash c.args.state.now c.args.before c.args.checked results may c.in_ok-test_results.ensures
+    changes (c.in_ok-changes.ensures.left before) c.in_err-prepared.field-0.0 clash)
 
 pub returns-in_err-test_root-clause-ran : goal.returns-in_err-test_root-clause-ran
 returns-in_err-test_root-clause-ran g c =
@@ -47,14 +61,12 @@ returns-in_err-test_root-clause-ran g c =
     let results = c.in_ok-results.results.batches in
     let before = map_at c.args.state.now c.args.before in
     let changes = c.in_ok-changes.changes in
-    let rooted = subst (λ (changes : List Change). IfSome (state_at c.args.state.now c.args.before)
-    (λ m. c.in_ok-root.root ≡ root_of_map hash (map_after m changes))) c.as_slice.ensures c.in_ok-root.ensures in
-    let root = at_known (state_at c.args.state.now c.args.before) (λ m. c.in_ok-root.root ≡ root_of_map hash (map_after m changes))
-    c.requires.known rooted in
+    let ready = subst (λ (changes : List Change). IsPreparedFor hash c.args.state.now (map_after before changes) c.in_ok-prepared.prepared)
+    c.as_slice.ensures c.in_ok-prepared.ensures.ok in
     let may = subst (λ (shapes : List BatchShape). MayComeOfAll processors before (txs_of shapes) results)
     c.requires.plan c.in_ok-results.ensures.results in
     rw (p.1, p.2) (other_root processors hash c.args.state.now c.args.before c.args.checked results may c.in_ok-test_results.ensures
-    c.in_ok-root.root changes (c.in_ok-changes.ensures.left before) root c.in_err-test_root.field-0.0 c.in_err-test_root.ensures)
+    changes (c.in_ok-changes.ensures.left before) c.root-root.result (c.root-root.ensures ∙ ready.root) c.in_err-test_root.field-0.0 c.in_err-test_root.ensures)
 
 pub returns-in_err-block-clause-ran : goal.returns-in_err-block-clause-ran
 returns-in_err-block-clause-ran g c =
@@ -67,12 +79,10 @@ returns-clause-ran g c =
     let results = c.in_ok-results.results.batches in
     let before = map_at c.args.state.now c.args.before in
     let changes = c.in_ok-changes.changes in
-    let rooted = subst (λ (changes : List Change). IfSome (state_at c.args.state.now c.args.before)
-    (λ m. c.in_ok-root.root ≡ root_of_map hash (map_after m changes))) c.as_slice.ensures c.in_ok-root.ensures in
-    let root = at_known (state_at c.args.state.now c.args.before) (λ m. c.in_ok-root.root ≡ root_of_map hash (map_after m changes))
-    c.requires.known rooted in
+    let ready = subst (λ (changes : List Change). IsPreparedFor hash c.args.state.now (map_after before changes) c.in_ok-prepared.prepared)
+    c.as_slice.ensures c.in_ok-prepared.ensures.ok in
     let may = subst (λ (shapes : List BatchShape). MayComeOfAll processors before (txs_of shapes) results)
     c.requires.plan c.in_ok-results.ensures.results in
     is_new processors hash c.args.state.now c.args.before c.args.checked results may c.in_ok-test_results.ensures
-    c.in_ok-root.root changes (c.in_ok-changes.ensures.left before) root c.in_ok-block.block c.in_ok-test_root.ensures
-    c.requires.known c.in_ok-changes.ensures.rising c.in_ok-block.ensures
+    changes (c.in_ok-changes.ensures.left before) c.root-root.result (c.root-root.ensures ∙ ready.root) c.in_ok-block.block c.in_ok-prepared.prepared
+    c.in_ok-test_root.ensures c.requires.known c.in_ok-changes.ensures.rising ready c.in_ok-block.ensures

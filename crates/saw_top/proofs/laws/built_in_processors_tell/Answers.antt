@@ -1,4 +1,4 @@
-use Rattle.saw_top.proofs.RunMaps.{built_in_tell}
+use Rattle.saw_top.proofs.BuiltIn.{built_in_tell}
 use Rattle.saw_top.proofs.laws.built_in_processors_tell.Goals as goal
 
 pub returns : goal.returns

@@ -1,4 +1,4 @@
-use Rattle.std.proofs.Common.{◌≡◌, [], ◌++◌, Err, refl, ap, arith}
+use Rattle.std.proofs.Common.{◌≡◌, inl, [], ◌++◌, Err, refl, ap, arith}
 use Rattle.std.proofs.KnownBytes.{Appends-nil, Appends-trans}
 use Rattle.std.specs.Prelude.{◌||◌, not}
 use Rattle.std.proofs.lemmas.Result.{err_from_is_err_and}
@@ -7,11 +7,15 @@ use Rattle.saw_crew.specs.Desks.{offers_at}
 use Rattle.saw_io.specs.declared.fault.FrameFault.{FrameFault}
 use Rattle.saw_io.specs.declared.fault.FrameFault.TheVariants as frames
 use Rattle.saw_journal.proofs.OneByOne.{serial_one_by_one}
+use Rattle.saw_node.specs.Hashes.{first_half}
 use Rattle.saw_report.specs.RunFaults.{fault_of_frame}
-use Rattle.saw_report.specs.declared.run_fault.RunFault.TheVariants.{Peer, Read}
+use Rattle.saw_report.specs.declared.run_fault.RunFault.{RunFault}
+use Rattle.saw_report.specs.declared.run_fault.RunFault.TheVariants.{Blocks, Collision, Memory, Peer, Read}
 use Rattle.saw_station.specs.Serving.{processors_at}
+use Rattle.saw_top.specs.Clashing.{LeavesUnjudged, TellsAlike}
 use Rattle.saw_top.specs.EndingFaults.{IsOfStream}
 use Rattle.saw_top.specs.World.{rules_by}
+use Rattle.saw_top.proofs.Branching.{known_first}
 use Rattle.saw_top.proofs.Desks.{failed_rose}
 use Rattle.saw_top.proofs.Standings.{all_there, line_cut, line_written, no_more, not_judged, probe_fault, read_fault, so_ends, so_more, start, too_many}
 use Rattle.saw_top.proofs.stream.judge_stream.Goals as goal
@@ -21,7 +25,12 @@ loop-place-init g c = record {
   so_far = λ told. start (rules_by (g.V.Verifier.accepts c.args.verifier.now)
       (processors_at g.R.Station.next g.R.Station.tells (offers_at c.args.desks.now))) c.args.lines (g.S.Source.unread c.args.input.now)
       (g.O.Sink.written c.args.output.now) c.args.journal.now
-      (record { blocks = c.requires.fresh; limit = c.requires.limit; kept = tt });
+      (record {
+        blocks = c.requires.fresh;
+        limit = c.requires.limit;
+        kept = tt;
+        known = λ root m is. inl (known_first first_half c.args.journal.now.states c.requires.states root m is);
+      });
   wrote = ([], Appends-nil (g.O.Sink.written c.args.output.now));
   desks = keep_all g.R.Station.faults g.R.Station.offered c.args.desks.now;
   input_later = omega arith;
@@ -49,10 +58,11 @@ returns-in_err-verdict-in-Some-clause-judges g c = λ told.
     let e = c.in_err-verdict-in-Some.ensures in
     let same = kept_offers _ _ c.args.desks.now c.loop-place.desks c.loop-place.invariant.desks in
     let full = rw (same, c.deref.ensures.value) at e.full in
+    let clash = rw (same, c.deref.ensures.value) at e.clash in
     rw (p.1, p.2) (so_ends _ _ (c.loop-place.invariant.so_far told) _ _ _ _ (λ bytes at.
     not_judged _ c.args.lines at _ c.in-Some.content c.loop-place-test.true some
     (serial_one_by_one (processors_at g.R.Station.next g.R.Station.tells (offers_at c.args.desks.now))) _ c.judge.new.journal e.fault
-    (λ is. full told (ap Err is))))
+    (λ is. full told (ap Err is)) (clash told)))
 
 pub returns-in_err-tell_block-in-Some-clause-judges : goal.returns-in_err-tell_block-in-Some-clause-judges
 returns-in_err-tell_block-in-Some-clause-judges g c = λ told.
@@ -65,7 +75,7 @@ returns-in_err-tell_block-in-Some-clause-judges g c = λ told.
     rw (p.1, p.2) (so_ends _ _ (c.loop-place.invariant.so_far told) _ _ _ _ (λ bytes at.
     line_cut _ c.args.lines at _ c.in-Some.content c.loop-place-test.true some
     (serial_one_by_one (processors_at g.R.Station.next g.R.Station.tells (offers_at c.args.desks.now))) c.in_ok-verdict-in-Some.verdict
-    c.judge.new.journal (says told) _ _ e.err.0 e.fault e.err.1))
+    c.judge.new.journal (says told) c.in_ok-verdict-in-Some.ensures.stays _ _ e.err.0 e.fault e.err.1))
 
 pub loop-place-preserved : goal.loop-place-preserved
 loop-place-preserved g c =
@@ -73,10 +83,10 @@ loop-place-preserved g c =
     let same = kept_offers _ _ c.args.desks.now c.loop-place.desks c.loop-place.invariant.desks in
     let says = rw (same, c.deref.ensures.value) at c.in_ok-verdict-in-Some.ensures.says in
     record {
-      so_far = λ told. so_more _ _ (c.loop-place.invariant.so_far told) _ _ _ _ (λ bytes at tell.
+      so_far = λ told. so_more _ _ (c.loop-place.invariant.so_far told) _ _ _ _ (λ bytes at.
           line_written _ c.args.lines at _ c.in-Some.content c.loop-place-test.true some
           (serial_one_by_one (processors_at g.R.Station.next g.R.Station.tells (offers_at c.args.desks.now))) c.in_ok-verdict-in-Some.verdict
-          c.judge.new.journal (says told) _ _ tell
+          c.judge.new.journal (says told) c.in_ok-verdict-in-Some.ensures.stays _ _
           c.in_ok-tell_block-in-Some.ensures.ok (ap (λ b. c.loop-place.refused || not b) c.is_accepted.ensures));
       wrote = (
         c.loop-place.invariant.wrote.0 ++ _,
@@ -120,11 +130,50 @@ frame_kind : (e : FrameFault) → IsOfStream (fault_of_frame e)
 frame_kind (frames.Truncated have want) = refl
 frame_kind e = refl
 
+frame_alike : (e : FrameFault) → TellsAlike (fault_of_frame e)
+frame_alike (frames.Truncated have want) = tt
+frame_alike (frames.TooLong size) = tt
+frame_alike frames.ReadFailed = tt
+frame_alike frames.OutOfMemory = tt
+
 pub returns-in_err-read_frame-clause-kind : goal.returns-in_err-read_frame-clause-kind
 returns-in_err-read_frame-clause-kind g c =
     let failed = c.from_residual in
     let p = err_from_is_err_and failed.result failed.ensures.1 in
     rw (p.1, p.2) (frame_kind c.in_err-read_frame.field-0.0)
+
+-- what a fault of a block without verdict says
+unjudged_kind : (e : RunFault) → LeavesUnjudged e → IsOfStream e
+unjudged_kind Blocks why = refl
+unjudged_kind (Collision kept given) why = refl
+unjudged_kind Peer why = refl
+unjudged_kind Memory why = refl
+unjudged_kind e why = absurd why
+
+unjudged_alike : (e : RunFault) → LeavesUnjudged e → TellsAlike e
+unjudged_alike Blocks why = tt
+unjudged_alike (Collision kept given) why = why
+unjudged_alike Peer why = tt
+unjudged_alike Memory why = tt
+unjudged_alike e why = absurd why
+
+pub returns-in_err-verdict-in-Some-clause-kind : goal.returns-in_err-verdict-in-Some-clause-kind
+returns-in_err-verdict-in-Some-clause-kind g c =
+    let failed = c.from_residual-in_err-verdict-in-Some in
+    let p = err_from_is_err_and failed.result failed.ensures.1 in
+    rw (p.1, p.2) (unjudged_kind c.in_err-verdict-in-Some.field-0.0 c.in_err-verdict-in-Some.ensures.fault)
+
+pub returns-in_err-verdict-in-Some-clause-nodes : goal.returns-in_err-verdict-in-Some-clause-nodes
+returns-in_err-verdict-in-Some-clause-nodes g c =
+    let failed = c.from_residual-in_err-verdict-in-Some in
+    let p = err_from_is_err_and failed.result failed.ensures.1 in
+    rw (p.1, p.2) (unjudged_alike c.in_err-verdict-in-Some.field-0.0 c.in_err-verdict-in-Some.ensures.fault)
+
+pub returns-in_err-read_frame-clause-nodes : goal.returns-in_err-read_frame-clause-nodes
+returns-in_err-read_frame-clause-nodes g c =
+    let failed = c.from_residual in
+    let p = err_from_is_err_and failed.result failed.ensures.1 in
+    rw (p.1, p.2) (frame_alike c.in_err-read_frame.field-0.0)
 
 pub judge-requires-clause-alike : goal.judge-requires-clause-alike
 judge-requires-clause-alike g c = λ κs alive.

@@ -1,7 +1,7 @@
 use Rattle.std.proofs.Common.{Err, Ok, refl}
 use Rattle.saw_top.specs.Outside.{sink_end}
 use Rattle.saw_top.proofs.Endings.{answered}
-use Rattle.saw_top.proofs.RunMaps.{built_in_tell}
+use Rattle.saw_top.proofs.BuiltIn.{built_in_tell}
 use Rattle.saw_top.proofs.top.run.Goals as goal
 
 pub returns-in-Ok-clause-ended : goal.returns-in-Ok-clause-ended

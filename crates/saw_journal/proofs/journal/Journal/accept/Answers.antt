@@ -1,5 +1,5 @@
 use Rattle.std.proofs.Common.{refl, subst}
-use Rattle.std.proofs.lemmas.Result.{IfOk-weaker}
+use Rattle.std.proofs.lemmas.Result.{IfErr-weaker, IfOk-weaker}
 use Rattle.std.specs.Prelude.{Err, Result}
 use Rattle.saw_crew.specs.Desks.{offers_at}
 use Rattle.saw_station.specs.Serving.{processors_at}
@@ -8,7 +8,7 @@ use Rattle.saw_journal.specs.Ledger.{Ledger}
 use Rattle.saw_journal.specs.Parted.{JudgedAs}
 use Rattle.saw_journal.specs.declared.judge.New.{New}
 use Rattle.saw_journal.specs.declared.stop.Stop.{Stop}
-use Rattle.saw_journal.proofs.Accepting.{may_join, says_full, says_good}
+use Rattle.saw_journal.proofs.Accepting.{clashes_judged, may_join, no_clash, says_full, says_good}
 use Rattle.saw_journal.proofs.journal.Journal.accept.Goals as goal
 
 pub join-requires-after_bounds : goal.join-requires-after_bounds
@@ -63,3 +63,22 @@ returns-in-Err-Refused-clause-says g c =
     let told = subst (λ (result : Result New Stop). JudgedAs processors hash accepts old.blocks old.states content result) c.in-Err-Refused.is seen in
     let came = subst (λ (stop : Stop). JudgedAs processors hash accepts old.blocks old.states content (Err stop)) c.in-Err-Refused.field-0-is told in
     (came.runs, came.by, (came.judged_as, refl))
+
+pub returns-in-Ok-clause-clash : goal.returns-in-Ok-clause-clash
+returns-in-Ok-clause-clash g c =
+    let hash = g.H.NodeHasher.hash_of in
+    let accepts = g.V.Verifier.accepts c.args.verifier.now in
+    let processors = processors_at g.R.Station.next g.R.Station.tells (offers_at c.args.desks.now) in
+    IfErr-weaker c.join.result _ _ (no_clash processors hash accepts c.args.self.now c.args.bytes.now) c.join.ensures.clear
+
+pub returns-in-Err-Failed-clause-clash : goal.returns-in-Err-Failed-clause-clash
+returns-in-Err-Failed-clause-clash g c =
+    let hash = g.H.NodeHasher.hash_of in
+    let accepts = g.V.Verifier.accepts c.args.verifier.now in
+    let old = c.args.self.now in
+    let content = c.args.bytes.now in
+    let processors = processors_at g.R.Station.next g.R.Station.tells (offers_at c.args.desks.now) in
+    let seen = subst (λ (j : Ledger). JudgedAs processors hash accepts j.blocks j.states content c.judge.result) c.self.view_is c.judge.ensures.judged in
+    let told = subst (λ (result : Result New Stop). JudgedAs processors hash accepts old.blocks old.states content result) c.in-Err-Failed.is seen in
+    let met = subst (λ (stop : Stop). JudgedAs processors hash accepts old.blocks old.states content (Err stop)) c.in-Err-Failed.field-0-is told in
+    clashes_judged processors hash accepts old content c.in-Err-Failed.fault met

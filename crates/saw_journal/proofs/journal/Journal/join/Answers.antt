@@ -3,9 +3,10 @@ use Rattle.std.proofs.lemmas.List.{length-map}
 use Rattle.std.specs.Prelude.{string_bytes}
 use Rattle.indexmap.specs.IndexMap.{keys, values}
 use Rattle.saw_context.specs.Outcome.{map_after}
+use Rattle.saw_merkle.specs.States.{map_at}
 use Rattle.saw_node.specs.Trees.{root_of_map}
 use Rattle.saw_journal.specs.Heads.{head_of, is_new_head}
-use Rattle.saw_journal.specs.Ledger.{Ledger, map_at}
+use Rattle.saw_journal.specs.Ledger.{Ledger}
 use Rattle.saw_journal.specs.Linked.{StandsBehind}
 use Rattle.saw_journal.proofs.Joining.{head_joins, other_joins}
 use Rattle.saw_journal.proofs.journal.Journal.join.Goals as goal

@@ -1,7 +1,7 @@
 use Rattle.std.proofs.Common.{◌<◌, Option, length, sym, subst}
 use Rattle.std.specs.Prelude.{IfSome, IsSome}
 use Rattle.std.specs.List.{AllByRecursion}
-use Rattle.saw_receipts.specs.States.{state_at}
+use Rattle.saw_merkle.specs.States.{state_at}
 use Rattle.saw_receipts.specs.declared.block.BlockRecord.{BlockRecord}
 use Rattle.saw_journal.specs.Ledger.{Ledger}
 use Rattle.saw_journal.specs.Linked.{AreLinked}
