@@ -1,1 +1,2 @@
 pub mod IdSets
+pub mod Parting

@@ -2,5 +2,7 @@
 #![tactic(auto)]
 
 mod seen;
+mod set;
 
 pub use seen::{add_id, has_id};
+pub use set::IdSet;

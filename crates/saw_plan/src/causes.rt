@@ -6,7 +6,7 @@ ghost use Rattle.saw_plan.specs.BatchShapes.{shapes_of};
 ghost use Rattle.saw_plan.specs.StaticRules.{Ids, Knows, first_missing, tx_cause, txs_cause, batch_cause};
 ghost use Rattle.saw_plan.specs.SortingSteps.{both};
 
-use crate::known::Known;
+use crate::known::{Known, KnownIds};
 use crate::sorted::DropCause;
 use saw_ids::{add_id, has_id};
 use saw_messages::{Tx, TxBatch};
@@ -16,38 +16,38 @@ use std::collections::BTreeSet;
 use std::sync::Arc;
 
 // What is there is what is known and what the kept batches added: two sets, since there may be very many known ids.
-fn is_batch_there(known: &Known, kept: &Known, id: &Text) -> bool
-    ensures { (there more : Ids) → Knows known.now there → Knows kept.now more → result
+fn is_batch_there<K: KnownIds>(known: &K, kept: &Known, id: &Text) -> bool
+    ensures { (there more : Ids) → K.knows known.now there → Knows kept.now more → result
         ≡ is_among (both there more).batches id.now }
 {
-    has_id(&known.batches, id) || has_id(&kept.batches, id)
+    known.has_batch(id) || kept.has_batch(id)
 }
 
-fn is_tx_there(known: &Known, kept: &Known, id: &Text) -> bool
-    ensures { (there more : Ids) → Knows known.now there → Knows kept.now more → result
+fn is_tx_there<K: KnownIds>(known: &K, kept: &Known, id: &Text) -> bool
+    ensures { (there more : Ids) → K.knows known.now there → Knows kept.now more → result
         ≡ is_among (both there more).transactions id.now }
 {
-    has_id(&known.transactions, id) || has_id(&kept.transactions, id)
+    known.has_transaction(id) || kept.has_transaction(id)
 }
 
 // Whether a dependency is there or earlier in the batch.
-fn is_met(known: &Known, kept: &Known, earlier: &BTreeSet<Text>, dependency: &Text) -> bool
-    ensures { (there more : Ids) (before : List (List ℕ)) → Knows known.now there → Knows kept.now more
+fn is_met<K: KnownIds>(known: &K, kept: &Known, earlier: &BTreeSet<Text>, dependency: &Text) -> bool
+    ensures { (there more : Ids) (before : List (List ℕ)) → K.knows known.now there → Knows kept.now more
         → HoldsIds earlier.now before
         → result ≡ is_among ((both there more).transactions ++ before) dependency.now }
 {
     is_tx_there(known, kept, dependency) || has_id(earlier, dependency)
 }
 
-fn first_missing(
+fn first_missing<K: KnownIds>(
     alloc: Global,
-    known: &Known,
+    known: &K,
     kept: &Known,
     earlier: &BTreeSet<Text>,
     dependencies: &[Text],
 ) -> Result<Option<Text>, AllocError>
     ensures { IfOk result
-        (λ missing. (there more : Ids) (before : List (List ℕ)) → Knows known.now there → Knows kept.now more
+        (λ missing. (there more : Ids) (before : List (List ℕ)) → K.knows known.now there → Knows kept.now more
         → HoldsIds earlier.now before
         → missing ≡ first_missing ((both there more).transactions ++ before) dependencies.now) }
 {
@@ -59,16 +59,16 @@ fn first_missing(
     Ok(None)
 }
 
-fn tx_cause(
+fn tx_cause<K: KnownIds>(
     alloc: Global,
-    known: &Known,
+    known: &K,
     kept: &Known,
     earlier: &BTreeSet<Text>,
     t: u32,
     tx: &Tx,
 ) -> Result<Option<DropCause>, AllocError>
     ensures { IfOk result
-        (λ cause. (there more : Ids) (before : List (List ℕ)) → Knows known.now there → Knows kept.now more
+        (λ cause. (there more : Ids) (before : List (List ℕ)) → K.knows known.now there → Knows kept.now more
         → HoldsIds earlier.now before
         → cause ≡ tx_cause (both there more).transactions before t tx.now) }
 {
@@ -88,14 +88,14 @@ fn tx_cause(
 }
 
 // The first cause in the order of the transactions.
-fn txs_cause(
+fn txs_cause<K: KnownIds>(
     alloc: Global,
-    known: &Known,
+    known: &K,
     kept: &Known,
     txs: &[Arc<Tx>],
 ) -> Result<Option<DropCause>, AllocError>
     requires { length txs.now < 2 ^ 32 }
-    ensures { IfOk result (λ cause. (there more : Ids) → Knows known.now there → Knows kept.now more
+    ensures { IfOk result (λ cause. (there more : Ids) → K.knows known.now there → Knows kept.now more
         → cause ≡ txs_cause (both there more).transactions [] 0 (shapes_of txs.now)) }
 {
     let mut earlier = BTreeSet::new(alloc);
@@ -109,14 +109,14 @@ fn txs_cause(
 }
 
 /// Why a batch is dropped, if it is.
-pub(crate) fn batch_cause(
+pub(crate) fn batch_cause<K: KnownIds>(
     alloc: Global,
-    known: &Known,
+    known: &K,
     kept: &Known,
     batch: &TxBatch,
 ) -> Result<Option<DropCause>, AllocError>
     requires { length batch.now.txs < 2 ^ 32 }
-    ensures { IfOk result (λ cause. (there more : Ids) → Knows known.now there → Knows kept.now more
+    ensures { IfOk result (λ cause. (there more : Ids) → K.knows known.now there → Knows kept.now more
         → cause ≡ batch_cause (both there more) batch.now) }
 {
     if is_batch_there(known, kept, &batch.id) {

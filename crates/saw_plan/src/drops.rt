@@ -8,7 +8,7 @@ ghost use Rattle.saw_plan.specs.SortingSteps.{both, sorting_of, with_batch};
 ghost use Rattle.saw_plan.specs.StaticRules.{Ids, Knows, batch_cause, after_batch};
 
 use crate::causes::batch_cause;
-use crate::known::Known;
+use crate::known::{Known, KnownIds};
 use crate::plan::copy_batch;
 use crate::sorted::Sorted;
 use saw_ids::add_id;
@@ -39,18 +39,18 @@ fn add_batch(kept: &mut Known, alloc: Global, batch: &TxBatch) -> Result<(), All
 }
 
 // Sorts the next batch, against what is known and what the kept ones before it added.
-fn sort_next(
+fn sort_next<K: KnownIds>(
     alloc: Global,
-    known: &Known,
+    known: &K,
     kept: &mut Known,
     sorted: &mut Sorted,
     place: u32,
     batch: &TxBatch,
 ) -> Result<(), AllocError>
     requires { length batch.now.txs < 2 ^ 32 }
-    ensures ids { OnOk result ((there more : Ids) → Knows known.now there → Knows kept.old more
+    ensures ids { OnOk result ((there more : Ids) → K.knows known.now there → Knows kept.old more
         → Knows kept.new (after_batch (batch_cause (both there more) batch.now) more batch.now)) }
-    ensures sorting { OnOk result ((there more : Ids) → Knows known.now there → Knows kept.old more
+    ensures sorting { OnOk result ((there more : Ids) → K.knows known.now there → Knows kept.old more
         → sorting_of sorted.new ≡ with_batch (batch_cause (both there more) batch.now) place batch.now (sorting_of sorted.old)) }
 {
     match batch_cause(alloc, known, kept, batch)? {
@@ -64,11 +64,15 @@ fn sort_next(
 
 /// Sorts batches by the static rules: against what is known and the batches kept before it a batch is dropped where its id
 /// or that of one of its transactions is there already, or where a dependency is neither there nor earlier in the batch.
-pub fn precheck(alloc: Global, known: &Known, batches: &[TxBatch]) -> Result<Sorted, AllocError>
+pub fn precheck_by<K: KnownIds>(
+    alloc: Global,
+    known: &K,
+    batches: &[TxBatch],
+) -> Result<Sorted, AllocError>
     requires batches { length batches.now < 2 ^ 32 }
     requires transactions { transactions_in batches.now < 2 ^ 32 }
     ensures { IfOk result
-        (λ sorted. (there : Ids) → Knows known.now there → IsSorted there batches.now sorted) }
+        (λ sorted. (there : Ids) → K.knows known.now there → IsSorted there batches.now sorted) }
 {
     let mut kept = Known::new(alloc);
     let mut sorted = Sorted::new(alloc);
@@ -76,4 +80,14 @@ pub fn precheck(alloc: Global, known: &Known, batches: &[TxBatch]) -> Result<Sor
         sort_next(alloc, known, &mut kept, &mut sorted, place as u32, batch)?;
     }
     Ok(sorted)
+}
+
+/// The same, against ids that are held by themselves.
+pub fn precheck(alloc: Global, known: &Known, batches: &[TxBatch]) -> Result<Sorted, AllocError>
+    requires batches { length batches.now < 2 ^ 32 }
+    requires transactions { transactions_in batches.now < 2 ^ 32 }
+    ensures { IfOk result
+        (λ sorted. (there : Ids) → Knows known.now there → IsSorted there batches.now sorted) }
+{
+    precheck_by(alloc, known, batches)
 }

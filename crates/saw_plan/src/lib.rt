@@ -8,8 +8,8 @@ mod laws;
 mod plan;
 mod sorted;
 
-pub use drops::precheck;
-pub use known::Known;
+pub use drops::{precheck, precheck_by};
+pub use known::{Known, KnownIds};
 pub use laws::nothing_dropped_keeps_all;
 pub use plan::Plan;
 pub use sorted::{DropCause, Dropped, Sorted};

@@ -9,7 +9,7 @@ use saw_wire::{Items, Text};
 use std::alloc::{AllocError, Global};
 
 /// Why a batch is dropped. Places count from 0.
-#[derive(Drop)]
+#[derive(Debug, Drop)]
 pub enum DropCause {
     /// Its id is there already.
     DuplicateBatch,

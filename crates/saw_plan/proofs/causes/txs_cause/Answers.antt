@@ -5,7 +5,7 @@ use Rattle.saw_plan.proofs.Transactions.{ids_more, cause_later}
 use Rattle.saw_plan.proofs.causes.txs_cause.Goals as goal
 
 pub loop-t-preserved : goal.loop-t-preserved
-loop-t-preserved c =
+loop-t-preserved g c =
     let i = c.loop-t.invariant in
     let at = c.loop-t.t in
     let txs = c.args.txs.now in

@@ -7,9 +7,9 @@ use Rattle.saw_plan.proofs.causes.txs_cause.Given as goal
 
 -- the cause of all is the cause of the rest
 abbrev pub invariant-loop-t : goal.invariant-loop-t
-invariant-loop-t l = record {
+invariant-loop-t g l = record {
   holds : HoldsIds l.earlier (ids_of (shapes_of (take l.t l.txs)));
-  so_far : (there more : Ids) → Knows l.known there → Knows l.kept more
+  so_far : (there more : Ids) → g.K.KnownIds.knows l.known there → Knows l.kept more
       → txs_cause (both there more).transactions [] 0 (shapes_of l.txs) ≡ txs_cause (both there more).transactions
       (ids_of (shapes_of (take l.t l.txs))) l.t (shapes_of (drop l.t l.txs));
 }

@@ -5,7 +5,7 @@ use Rattle.saw_plan.specs.declared.sorted.DropCause.{DropCause}
 use Rattle.saw_plan.proofs.drops.sort_next.Goals as goal
 
 pub returns-in_ok-copy_batch-in-None-clause-ids : goal.returns-in_ok-copy_batch-in-None-clause-ids
-returns-in_ok-copy_batch-in-None-clause-ids c =
+returns-in_ok-copy_batch-in-None-clause-ids g c =
     on_ok_weaker c.keep.result
     (λ _ there more known kept.
     subst (λ (cause : Option DropCause). Knows c.add_batch.new.kept (after_batch cause more c.args.batch.now))

@@ -2,8 +2,8 @@ use Rattle.std.proofs.Common.{drop}
 use Rattle.saw_plan.specs.StaticRules.{Ids, Knows}
 use Rattle.saw_plan.specs.SortingSteps.{both, sorting_of}
 use Rattle.saw_plan.proofs.Rest.{GoesOn}
-use Rattle.saw_plan.proofs.drops.precheck.Given as goal
+use Rattle.saw_plan.proofs.drops.precheck_by.Given as goal
 
 abbrev pub invariant-loop-place : goal.invariant-loop-place
-invariant-loop-place l = (there : Ids) → Knows l.known there → (more : Ids) × Knows l.kept more
+invariant-loop-place g l = (there : Ids) → g.K.KnownIds.knows l.known there → (more : Ids) × Knows l.kept more
     × GoesOn there (both there more) l.place (drop l.place l.batches) l.batches (sorting_of l.sorted)

@@ -2,10 +2,10 @@ use Rattle.std.proofs.Common.{[], arith}
 use Rattle.saw_plan.specs.StaticRules.{batch_cause, after_batch}
 use Rattle.saw_plan.specs.SortingSteps.{both, sorting_of}
 use Rattle.saw_plan.proofs.Rest.{begins, goes_on, ends, few}
-use Rattle.saw_plan.proofs.drops.precheck.Goals as goal
+use Rattle.saw_plan.proofs.drops.precheck_by.Goals as goal
 
 pub loop-place-init : goal.loop-place-init
-loop-place-init c = λ there known. (
+loop-place-init g c = λ there known. (
   record { batches = []; transactions = [] },
   c.new-kept.ensures,
   begins there c.args.batches.now
@@ -13,7 +13,7 @@ loop-place-init c = λ there known. (
 )
 
 pub sort_next-requires : goal.sort_next-requires
-sort_next-requires c =
+sort_next-requires g c =
     omega (
       arith,
       few c.args.batches.now c.loop-place.place c.index-batches-place.result c.loop-place-test.true c.index-batches-place.is,
@@ -21,7 +21,7 @@ sort_next-requires c =
     )
 
 pub loop-place-preserved : goal.loop-place-preserved
-loop-place-preserved c = λ there known.
+loop-place-preserved g c = λ there known.
     let l = c.loop-place in
     let batch = c.index-batches-place.result in
     let so_far = l.invariant there known in
@@ -34,7 +34,7 @@ loop-place-preserved c = λ there known.
     )
 
 pub returns : goal.returns
-returns c = λ there known.
+returns g c = λ there known.
     let l = c.loop-place in
     let so_far = l.invariant there known in
     ends there (both there so_far.0) l.place c.args.batches.now l.sorted c.loop-place-test.false so_far.2

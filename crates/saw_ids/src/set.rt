@@ -1,0 +1,217 @@
+//! Sets of ids of which many may stand side by side: a set with one id more shares all but a few nodes with the set before.
+
+ghost use Rattle.std.specs.Prelude.{◌≡◌, ◌==◌, ◌<◌, ◌++◌, ◌||◌, ◌∷◌, [], ℕ, List, filter, IfOk, true, false};
+ghost use Rattle.saw_ids.specs.Seen.{is_among};
+ghost use Rattle.std.specs.Arc.{arc_value};
+ghost use Rattle.std.specs.List.{list_any};
+ghost use Rattle.std.specs.Str.{bytes_eq};
+ghost use Rattle.saw_ids.specs.Sets.{HasIds, HasOneMore, goes, has, texts_of, turns};
+
+use saw_wire::{Items, Text};
+use std::alloc::{AllocError, Global};
+use std::sync::Arc;
+
+// So many ids lie side by side; one more, and they are parted.
+const FEW: usize = 8;
+
+// No fork looks at a bit from here on, so no walk is longer. Two ids of 128 hex digits differ before it.
+const DEEPEST: usize = 512;
+
+// Ids by the bits of their digits. A fork parts ids by one bit; a few that went the same way so far lie side by side, and
+// are parted by the next bit when they become many.
+#[derive(Drop)]
+enum Tree {
+    Few {
+        bit: usize,
+        ids: Items<Arc<Text>>,
+    },
+    Fork {
+        bit: usize,
+        zero: Arc<Tree>,
+        one: Arc<Tree>,
+    },
+}
+
+/// A set of ids. A set made of it shares all but a few nodes with it, and both stay.
+#[derive(Drop)]
+pub struct IdSet {
+    tree: Tree,
+}
+
+// Which way an id goes: by a bit of one of its hex digits, four bits a digit. Behind its end all bits are 0.
+#[tactic(auto, unfolding(crate::specs::Sets::turns))]
+fn turns(id: &str, bit: usize) -> bool
+    ensures { result ≡ turns id.now bit }
+{
+    match id.as_bytes().get(bit / 4) {
+        None => false,
+        Some(byte) => ((*byte & 15) + 9 * (*byte >> 6)) >> (bit % 4) & 1 == 1,
+    }
+}
+
+fn is_one_of(ids: &[Arc<Text>], id: &Text) -> bool
+    ensures { result ≡ list_any (λ other. bytes_eq (arc_value other) id.now) ids.now }
+{
+    ids.iter().any(|other| **other == *id)
+}
+
+fn copy_of(alloc: Global, ids: &[Arc<Text>]) -> Result<Items<Arc<Text>>, AllocError>
+    ensures { IfOk result (λ copy. texts_of copy ≡ texts_of ids.now) }
+{
+    let mut copy = Items::new(alloc);
+    for id in ids {
+        copy.push(Arc::try_clone(id)?)?;
+    }
+    Ok(copy)
+}
+
+// The ids that go this way.
+fn going(
+    alloc: Global,
+    ids: &[Arc<Text>],
+    bit: usize,
+    way: bool,
+) -> Result<Items<Arc<Text>>, AllocError>
+    ensures { IfOk result (λ some. texts_of some ≡ filter (goes bit way) (texts_of ids.now)) }
+{
+    let mut some = Items::new(alloc);
+    for id in ids {
+        if turns(id.as_str(), bit) == way {
+            some.push(Arc::try_clone(id)?)?;
+        }
+    }
+    Ok(some)
+}
+
+// Parts ids by a bit.
+fn fork(alloc: Global, bit: usize, ids: &[Arc<Text>]) -> Result<Tree, AllocError>
+    requires { bit < 512 }
+    ensures { IfOk result
+        (λ tree. (other : List ℕ) → has tree other ≡ is_among (texts_of ids.now) other) }
+{
+    let zero = Tree::Few {
+        bit: bit + 1,
+        ids: going(alloc, ids, bit, false)?,
+    };
+    let one = Tree::Few {
+        bit: bit + 1,
+        ids: going(alloc, ids, bit, true)?,
+    };
+    Ok(Tree::Fork {
+        bit,
+        zero: Arc::new(alloc, zero)?,
+        one: Arc::new(alloc, one)?,
+    })
+}
+
+// A few ids and one more, which are parted where they have become many.
+fn few_with(
+    alloc: Global,
+    bit: usize,
+    ids: &[Arc<Text>],
+    id: &Arc<Text>,
+) -> Result<Tree, AllocError>
+    ensures { IfOk result
+        (λ made. (other : List ℕ) → has made other ≡ (is_among (texts_of ids.now) other || bytes_eq (arc_value id.now) other)) }
+{
+    let mut more = copy_of(alloc, ids)?;
+    more.push(Arc::try_clone(id)?)?;
+    if ids.len() < FEW || bit >= DEEPEST {
+        Ok(Tree::Few { bit, ids: more })
+    } else {
+        fork(alloc, bit, more.as_slice())
+    }
+}
+
+fn has(tree: &Tree, id: &Text) -> bool
+    ensures { result ≡ has tree.now id.now }
+{
+    match tree {
+        Tree::Few { ids, .. } => is_one_of(ids.as_slice(), id),
+        Tree::Fork { bit, zero, one } => {
+            if turns(id.as_str(), *bit) {
+                has(one, id)
+            } else {
+                has(zero, id)
+            }
+        }
+    }
+}
+
+// The tree with one id more: new nodes on the id's way, and all others shared.
+fn with(alloc: Global, tree: &Tree, id: &Arc<Text>) -> Result<Tree, AllocError>
+    ensures { IfOk result (HasOneMore tree.now (arc_value id.now)) }
+{
+    match tree {
+        Tree::Few { bit, ids } => few_with(alloc, *bit, ids.as_slice(), id),
+        Tree::Fork { bit, zero, one } => {
+            let bit = *bit;
+            if turns(id.as_str(), bit) {
+                let one = Arc::new(alloc, with(alloc, one, id)?)?;
+                let zero = Arc::try_clone(zero)?;
+                Ok(Tree::Fork { bit, zero, one })
+            } else {
+                let zero = Arc::new(alloc, with(alloc, zero, id)?)?;
+                let one = Arc::try_clone(one)?;
+                Ok(Tree::Fork { bit, zero, one })
+            }
+        }
+    }
+}
+
+fn share(alloc: Global, tree: &Tree) -> Result<Tree, AllocError>
+    ensures { IfOk result (λ made. (id : List ℕ) → has made id ≡ has tree.now id) }
+{
+    match tree {
+        Tree::Few { bit, ids } => Ok(Tree::Few {
+            bit: *bit,
+            ids: copy_of(alloc, ids.as_slice())?,
+        }),
+        Tree::Fork { bit, zero, one } => Ok(Tree::Fork {
+            bit: *bit,
+            zero: Arc::try_clone(zero)?,
+            one: Arc::try_clone(one)?,
+        }),
+    }
+}
+
+impl IdSet {
+    /// No ids.
+    pub fn new(alloc: Global) -> Self
+        ensures { HasIds result [] }
+    {
+        IdSet {
+            tree: Tree::Few {
+                bit: 0,
+                ids: Items::new(alloc),
+            },
+        }
+    }
+
+    /// Whether an id is there.
+    pub fn contains(&self, id: &Text) -> bool
+        ensures { (ids : List (List ℕ)) → HasIds self.now ids → result ≡ is_among ids id.now }
+    {
+        has(&self.tree, id)
+    }
+
+    /// The set with this id, too.
+    pub fn with(&self, alloc: Global, id: &Text) -> Result<Self, AllocError>
+        ensures { IfOk result (λ made. (ids : List (List ℕ)) → HasIds self.now ids
+            → HasIds made (ids ++ id.now ∷ [])) }
+    {
+        let id = Arc::new(alloc, id.try_clone(alloc)?)?;
+        Ok(IdSet {
+            tree: with(alloc, &self.tree, &id)?,
+        })
+    }
+
+    /// The same set once more, for a few counts of references.
+    pub fn try_share(&self, alloc: Global) -> Result<Self, AllocError>
+        ensures { IfOk result (λ made. (ids : List (List ℕ)) → HasIds self.now ids → HasIds made ids) }
+    {
+        Ok(IdSet {
+            tree: share(alloc, &self.tree)?,
+        })
+    }
+}
