@@ -1,3 +1,4 @@
+mod Digests
 pub mod Places
 pub mod LineSets
 pub mod Triples
