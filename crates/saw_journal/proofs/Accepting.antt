@@ -12,7 +12,7 @@ use Rattle.saw_receipts.specs.declared.verdict.Verdict.{Verdict}
 use Rattle.saw_receipts.specs.declared.verdict.Verdict.TheVariants.{Committed, Stored, Refused}
 use Rattle.saw_journal.specs.BlockFaults.{place_tests}
 use Rattle.saw_journal.specs.Clashing.{ClashesAs, TellsNoNodes}
-use Rattle.saw_journal.specs.Heads.{head_of, is_new_head}
+use Rattle.saw_receipts.specs.Heads.{head_of, is_new_head}
 use Rattle.saw_journal.specs.Judgement.{Kept, Rules}
 use Rattle.saw_journal.specs.Ledger.{IsAccepted, IsFull, Ledger, Says, judged_in, map_under}
 use Rattle.saw_journal.specs.Parted.{IsNew, Joins, JoinsAs, JudgedAs, MayJoin}

@@ -6,7 +6,7 @@ use Rattle.std.specs.List.{AllByRecursion}
 use Rattle.std.specs.Str.{bytes_eq}
 use Rattle.std.proofs.lemmas.List.{reverse-append}
 use Rattle.saw_receipts.specs.declared.block.BlockRecord.{BlockRecord}
-use Rattle.saw_journal.specs.Branches.{block_at, branch_back, branch_of}
+use Rattle.saw_receipts.specs.Branches.{block_at, branch_back, branch_of}
 use Rattle.saw_journal.proofs.Linking.{all_push}
 
 all_reverse : {X : Type 0} (P : X → Type 0) (xs : List X) → AllByRecursion P xs → AllByRecursion P (reverse xs)

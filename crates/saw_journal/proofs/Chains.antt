@@ -9,7 +9,7 @@ use Rattle.std.proofs.lemmas.List.Folds.{list_any-append}
 use Rattle.indexmap.proofs.ReorderLemmas.{map-reverse}
 use Rattle.saw_context.proofs.Each.{all_left, all_right, all_weaker}
 use Rattle.saw_receipts.specs.declared.block.BlockRecord.{BlockRecord}
-use Rattle.saw_journal.specs.Branches.{block_at, branch_back, branch_of, has_block, no_block}
+use Rattle.saw_receipts.specs.Branches.{block_at, branch_back, branch_of, has_block, no_block}
 use Rattle.saw_journal.specs.Judgement.{Kept}
 use Rattle.saw_journal.specs.Linked.{AreChained, AreLinked, IsChainTo, StandsBehind}
 use Rattle.saw_journal.proofs.Ids.{walk}
@@ -87,7 +87,7 @@ module _ (latest : BlockRecord) (earlier : List BlockRecord) (are : AreBack (lat
 
 -- ---- the branch is a chain
 
-no_walk : (back : List BlockRecord) → AreBack back → walk back no_block ≡ []
+pub no_walk : (back : List BlockRecord) → AreBack back → walk back no_block ≡ []
 no_walk [] are = refl
 no_walk (latest ∷ earlier) are = ap (λ b. if b then walk earlier latest.previous ++ latest ∷ [] else walk earlier no_block) are.0.named ∙ no_walk earlier are.1
 

@@ -12,7 +12,8 @@ use Rattle.saw_messages.specs.TxShapes.{BatchShape, shape_in}
 use Rattle.saw_messages.specs.declared.batch.Batch.{Batch}
 use Rattle.saw_messages.specs.declared.block.Block.{Block}
 use Rattle.saw_plan.specs.BatchShapes.{transactions_in}
-use Rattle.saw_journal.specs.BlockShapes.{Parts, batch_in}
+use Rattle.saw_journal.specs.BlockShapes.{Parts}
+use Rattle.saw_receipts.specs.Shapes.{batch_in}
 use Rattle.saw_journal.proofs.SameParts.{same_parts}
 
 count_in : (batches : List Batch) → transactions_in (map batch_in batches) ≡ transactions_count batches

@@ -13,7 +13,7 @@ use Rattle.saw_receipts.specs.declared.block.BlockRecord.{BlockRecord}
 use Rattle.saw_receipts.specs.declared.verdict.BlockFault.TheVariants.{Structure}
 use Rattle.saw_wire.specs.declared.fault.MessageFault.{MessageFault}
 use Rattle.saw_journal.specs.BlockFaults.{fault_by, parent_of}
-use Rattle.saw_journal.specs.Branches.{no_block}
+use Rattle.saw_receipts.specs.Branches.{no_block}
 use Rattle.saw_journal.specs.Judgement.{Kept, Rules, judged, judged_parts, judged_with, kept_of, left_parts, would_leave}
 use Rattle.saw_journal.specs.BlockShapes.{Parts, parts_of}
 use Rattle.saw_journal.proofs.Judging.{unless_ok}

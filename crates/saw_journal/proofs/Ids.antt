@@ -18,7 +18,7 @@ use Rattle.saw_plan.specs.SortingSteps.{both}
 use Rattle.saw_plan.specs.declared.known.Known.{Known}
 use Rattle.saw_receipts.specs.declared.block.BatchRecord.{BatchRecord}
 use Rattle.saw_receipts.specs.declared.block.BlockRecord.{BlockRecord}
-use Rattle.saw_journal.specs.Branches.{batch_ids, branch_back, ids_in}
+use Rattle.saw_receipts.specs.Branches.{batch_ids, branch_back, ids_in}
 
 -- ---- the ids of one block
 
@@ -93,7 +93,7 @@ all_gathered seen gathered whole holds covers = λ q. holds q ∙ sym (or_false 
 abbrev pub walk : List BlockRecord → List ℕ → List BlockRecord
 walk blocks id = branch_back (λ block. block) blocks id
 
-ids_push_block : (blocks : List BlockRecord) (block : BlockRecord) → ids_in (blocks ++ block ∷ []) ≡ both (ids_in blocks) (batch_ids block.batches)
+pub ids_push_block : (blocks : List BlockRecord) (block : BlockRecord) → ids_in (blocks ++ block ∷ []) ≡ both (ids_in blocks) (batch_ids block.batches)
 ids_push_block blocks block =
     rw (
       flat_map-append (λ (block : BlockRecord). (batch_ids block.batches).batches) blocks (block ∷ []),

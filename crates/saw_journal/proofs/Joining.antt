@@ -17,10 +17,12 @@ use Rattle.saw_address.specs.Maps.{StateMap}
 use Rattle.saw_merkle.specs.States.{States, knows, state_at}
 use Rattle.saw_node.specs.Trees.{root_of_map}
 use Rattle.saw_receipts.specs.declared.block.BlockRecord.{BlockRecord}
-use Rattle.saw_journal.specs.Branches.{has_block, has_first, no_block}
-use Rattle.saw_journal.specs.Heads.{head_after, head_of, is_new_head}
+use Rattle.saw_receipts.specs.Branches.{has_block, has_first, no_block}
+use Rattle.saw_receipts.specs.Heads.{head_after, head_of, is_new_head}
 use Rattle.saw_journal.specs.Standing.{IsFounded, IsStanding, has_any, head_at}
+use Rattle.saw_journal.specs.KnownBranches.{HaveIds}
 use Rattle.saw_journal.specs.Linked.{StandsBehind}
+use Rattle.saw_journal.specs.declared.branch_ids.BranchIds.{BranchIds}
 use Rattle.saw_journal.proofs.Linking.{all_push, either_false, linked_push}
 use Rattle.saw_journal.proofs.Lookups.{heads}
 
@@ -91,8 +93,8 @@ some_first blocks new opened known false is =
     let before = ap (λ b. b || has_block blocks new.previous) (sym is) ∙ known in
     ap (λ b. b || bytes_eq new.previous no_block) (opened ∙ any_from blocks new.previous before)
 
-module _ (hash : List ℕ → List ℕ) (ids : List (List ℕ)) (blocks : List BlockRecord) (head : Option ℕ) (states : States) (limit : ℕ)
-    (stands : IsStanding hash ids blocks head states limit)
+module _ (hash : List ℕ → List ℕ) (ids : List (List ℕ)) (blocks : List BlockRecord) (kept : List BranchIds) (head : Option ℕ) (states : States)
+    (limit : ℕ) (stands : IsStanding hash ids blocks kept head states limit)
     (new : BlockRecord) (m : StateMap) (root : new.root ≡ root_of_map hash m) (behind : StandsBehind blocks new) (room : length blocks < limit) where
   founded_more : (more : List (List ℕ)) → more ≡ map (λ block. block.id) (blocks ++ new ∷ []) → IsFounded hash more (blocks ++ new ∷ []) (knows hash states m)
   founded_more more ids_are = record {
@@ -121,14 +123,20 @@ module _ (hash : List ℕ → List ℕ) (ids : List (List ℕ)) (blocks : List B
       some_length [] = refl
       some_length (block ∷ blocks) = refl
 
-  module _ (more : List (List ℕ)) (ids_are : more ≡ map (λ block. block.id) (blocks ++ new ∷ [])) where
+  module _ (more : List (List ℕ)) (ids_are : more ≡ map (λ block. block.id) (blocks ++ new ∷ [])) (after : List BranchIds)
+      (branches : HaveIds (blocks ++ new ∷ []) (blocks ++ new ∷ []) after) where
     stands_with : (place : Option ℕ) → head_at (blocks ++ new ∷ []) place ≡ head_of (blocks ++ new ∷ [])
-        → IsStanding hash more (blocks ++ new ∷ []) place (knows hash states m) limit
-    stands_with place chosen = record { founded = founded_more more ids_are; chosen = chosen; room = omega (arith, length_push blocks new, room) }
+        → IsStanding hash more (blocks ++ new ∷ []) after place (knows hash states m) limit
+    stands_with place chosen = record {
+      founded = founded_more more ids_are;
+      branches = branches;
+      chosen = chosen;
+      room = omega (arith, length_push blocks new, room);
+    }
 
     -- the new block is the head
     pub new_head : (place : ℕ) → place ≡ length blocks → true ≡ is_new_head (head_of blocks) new
-        → IsStanding hash more (blocks ++ new ∷ []) (Some place) (knows hash states m) limit
+        → IsStanding hash more (blocks ++ new ∷ []) after (Some place) (knows hash states m) limit
     new_head place is head_is =
         stands_with (Some place)
         (ap (slice_get (blocks ++ new ∷ [])) is ∙ get_last blocks new
@@ -141,26 +149,31 @@ module _ (hash : List ℕ → List ℕ) (ids : List (List ℕ)) (blocks : List B
     still_at (Some i) (Some block) is head_is = get_kept blocks new block i is
 
     -- the head stays
-    pub old_head : false ≡ is_new_head (head_of blocks) new → IsStanding hash more (blocks ++ new ∷ []) head (knows hash states m) limit
+    pub old_head : false ≡ is_new_head (head_of blocks) new → IsStanding hash more (blocks ++ new ∷ []) after head (knows hash states m) limit
     old_head head_is =
         stands_with head
         (still_at head (head_of blocks) stands.chosen head_is
         ∙ sym (head_push None blocks new ∙ ap (λ b. if b then Some new else head_of blocks) (sym head_is)))
 
-module _ (hash : List ℕ → List ℕ) (ids : List (List ℕ)) (blocks : List BlockRecord) (head : Option ℕ) (states : States) (limit : ℕ)
-    (stands : IsStanding hash ids blocks head states limit)
+module _ (hash : List ℕ → List ℕ) (ids : List (List ℕ)) (blocks : List BlockRecord) (kept : List BranchIds) (head : Option ℕ) (states : States)
+    (limit : ℕ) (stands : IsStanding hash ids blocks kept head states limit)
     (new : BlockRecord) (m : StateMap) (root : new.root ≡ root_of_map hash m) (behind : StandsBehind blocks new) (room : length blocks < limit)
     (more : List (List ℕ)) (all : List BlockRecord) (later : States) (put : all ≡ blocks ++ new ∷ []) (ids_are : more ≡ map (λ block. block.id) all)
-    (known : later ≡ knows hash states m) where
+    (known : later ≡ knows hash states m) (after : List BranchIds) (branches : HaveIds all all after) where
   ids_put : more ≡ map (λ block. block.id) (blocks ++ new ∷ [])
   ids_put = ids_are ∙ ap (map (λ (block : BlockRecord). block.id)) put
 
-  pub head_joins : (place : ℕ) → place ≡ length blocks → true ≡ is_new_head (head_of blocks) new → IsStanding hash more all (Some place) later limit
-  head_joins place is head_is =
-      rw (put, known) (new_head hash ids blocks head states limit stands new m root behind room more ids_put place is head_is)
+  branches_put : HaveIds (blocks ++ new ∷ []) (blocks ++ new ∷ []) after
+  branches_put = subst (λ (all : List BlockRecord). HaveIds all all after) put branches
 
-  pub other_joins : false ≡ is_new_head (head_of blocks) new → IsStanding hash more all head later limit
-  other_joins head_is = rw (put, known) (old_head hash ids blocks head states limit stands new m root behind room more ids_put head_is)
+  pub head_joins : (place : ℕ) → place ≡ length blocks → true ≡ is_new_head (head_of blocks) new
+      → IsStanding hash more all after (Some place) later limit
+  head_joins place is head_is =
+      rw (put, known) (new_head hash ids blocks kept head states limit stands new m root behind room more ids_put after branches_put place is head_is)
+
+  pub other_joins : false ≡ is_new_head (head_of blocks) new → IsStanding hash more all after head later limit
+  other_joins head_is =
+      rw (put, known) (old_head hash ids blocks kept head states limit stands new m root behind room more ids_put after branches_put head_is)
 
 -- ---- the map of blocks
 

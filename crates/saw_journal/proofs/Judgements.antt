@@ -22,8 +22,10 @@ use Rattle.saw_receipts.specs.declared.verdict.BlockFault.{BlockFault}
 use Rattle.saw_receipts.specs.declared.verdict.BlockFault.TheVariants.{Structure}
 use Rattle.saw_journal.specs.BlockFaults.{early_fault, ids_before, parent_of, place_tests, static_fault}
 use Rattle.saw_journal.specs.BlockShapes.{parts_in}
-use Rattle.saw_journal.specs.Judgement.{Kept, Runs, judged, judged_parts, kept_of, rules_with, unless, unless_early, would_leave}
-use Rattle.saw_journal.specs.Ledger.{RunsBy, map_under}
+use Rattle.saw_journal.specs.Judgement.{Kept, judged, judged_parts, kept_of, rules_with, unless, unless_early, would_leave}
+use Rattle.saw_receipts.specs.Running.{Runs}
+use Rattle.saw_journal.specs.Ledger.{map_under}
+use Rattle.saw_receipts.specs.Running.{RunsBy}
 use Rattle.saw_journal.specs.Parted.{ComesTo, HasRun, JudgedAs, RunsAs}
 use Rattle.saw_journal.specs.Stops.{IsStop, stop_of_structure}
 use Rattle.saw_journal.specs.declared.fault.JournalFault.{JournalFault}
@@ -34,7 +36,7 @@ use Rattle.saw_journal.specs.declared.stop.Stop.{Stop}
 use Rattle.saw_journal.specs.declared.stop.Stop.TheVariants.{Refused, Failed}
 use Rattle.saw_journal.proofs.Judging.{by_run, dropped, misplaced}
 use Rattle.saw_journal.proofs.SameParts.{judged_bad, judged_is, left_is}
-use Rattle.saw_journal.proofs.Ways.{by_serial, here_are, is_by_serial, is_or_here, or_here}
+use Rattle.saw_receipts.proofs.Ways.{by_serial, here_are, is_by_serial, is_or_here, or_here}
 
 -- a part that stops for the call stops for memory
 pub of_memory : {A : Type 0} (found : Option BlockFault) (stop : Stop) (e : JournalFault) → IsStop found stop

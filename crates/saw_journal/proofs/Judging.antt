@@ -4,7 +4,7 @@ use Rattle.std.specs.Prelude.{◌&&◌, ◌||◌, ◌==◌, not, Err, Ok, IsSome
 use Rattle.std.specs.FinMap as finite
 use Rattle.std.specs.Str.{bytes_eq}
 use Rattle.std.specs.Cmp.{eq_by_cmp_equiv}
-use Rattle.std.specs.Cmp.Lexicographic.{nat_list_cmp_total, same_text}
+use Rattle.std.specs.Cmp.Lexicographic.{nat_list_cmp_total}
 use Rattle.std.proofs.lemmas.Bool.{eqb-true}
 use Rattle.saw_address.specs.Maps.{StateMap, no_entries}
 use Rattle.saw_checks.specs.Tests.{first_of, ◌<|>◌}
@@ -14,14 +14,12 @@ use Rattle.saw_merkle.specs.States.{States, knows, map_at, state_at}
 use Rattle.saw_messages.specs.declared.block.BlockHeader.{BlockHeader}
 use Rattle.saw_node.specs.Trees.{root_of_map}
 use Rattle.saw_plan.specs.BatchShapes.{txs_of}
-use Rattle.saw_plan.specs.StaticRules.{Knows}
-use Rattle.saw_plan.specs.declared.known.Known.{Known}
 use Rattle.saw_receipts.specs.declared.block.BlockRecord.{BlockRecord}
 use Rattle.saw_receipts.specs.declared.verdict.BlockFault.{BlockFault}
 use Rattle.saw_journal.specs.BlockFaults.{due_behind, failure_fault, ids_before, is_first, parent_of, place_tests, root_fault, static_fault}
-use Rattle.saw_journal.specs.Branches.{block_at, branch_of, has_block, has_first, ids_in, no_block}
-use Rattle.saw_journal.specs.Heads.{branch_to}
-use Rattle.saw_journal.specs.Judgement.{Kept, Runs, judged_parts, kept_of, unless}
+use Rattle.saw_receipts.specs.Branches.{block_at, has_block, has_first, no_block}
+use Rattle.saw_journal.specs.Judgement.{Kept, judged_parts, kept_of, unless}
+use Rattle.saw_receipts.specs.Running.{Runs}
 use Rattle.saw_journal.specs.Ledger.{map_under}
 use Rattle.saw_journal.specs.Linked.{StandsBehind, parent_in}
 use Rattle.saw_journal.specs.Parted.{root_before, run_fault}
@@ -180,48 +178,15 @@ module _ (hash : List ℕ → List ℕ) (ids : List (List ℕ)) (blocks : List B
   pub is_before : IsBefore (parent_of blocks header)
   is_before = by_first (is_first header) refl
 
--- ---- the ids before a block
-
-named_here : (here : Bool) (one block : BlockRecord) (others : Option BlockRecord) (id : List ℕ) → bytes_eq one.id id ≡ here
-    → (others ≡ Some block → block.id ≡ id) → (if here then Some one else others) ≡ Some block → block.id ≡ id
-named_here true one block others id is later e = let same : one ≡ block = cc in ap (λ (block : BlockRecord). block.id) (sym same) ∙ same_text one.id id (sym is)
-named_here false one block others id is later e = later e
-
--- a block that is found by an id has it
-has_id : (blocks : List BlockRecord) (id : List ℕ) (block : BlockRecord) → block_at blocks id ≡ Some block → block.id ≡ id
-has_id [] id block e = absurd (grind (arith, e))
-has_id (one ∷ blocks) id block e = named_here (bytes_eq one.id id) one block (block_at blocks id) id refl (has_id blocks id block) e
-
-module _ (blocks : List BlockRecord) (id : List ℕ) (header : BlockHeader) (placed : None ≡ first_of (place_tests blocks id header)) where
-  behind_other : is_first header ≡ false → (found : Option BlockRecord) → block_at blocks header.previous_block_id ≡ found
-      → branch_to blocks found ≡ branch_of (λ block. block) blocks header.previous_block_id
-  behind_other other None e =
-      let there = ap (λ b. not b && not (has_block blocks header.previous_block_id)) (sym other) ∙ previous_known blocks id header placed in
-      let missing = missing_is blocks header.previous_block_id e in
-      absurd (grind (arith, there, missing))
-  behind_other other (Some parent) e = ap (branch_of (λ (block : BlockRecord). block) blocks) (has_id blocks header.previous_block_id parent e)
-
-  branch_behind : (first : Bool) → is_first header ≡ first
-      → branch_to blocks (if first then None else block_at blocks header.previous_block_id)
-      ≡ (if first then [] else branch_of (λ block. block) blocks header.previous_block_id)
-  branch_behind true e = refl
-  branch_behind false e = behind_other e (block_at blocks header.previous_block_id) refl
-
-  -- the ids before a block are those of its parent's branch
-  ids_behind : ids_in (branch_to blocks (parent_of blocks header)) ≡ ids_before blocks header
-  ids_behind = ap ids_in (branch_behind (is_first header) refl)
-
-  module _ (parent : Option BlockRecord) (is : parent ≡ parent_of blocks header) where
-    pub knows_before : (known : Known) → Knows known (ids_in (branch_to blocks parent)) → Knows known (ids_before blocks header)
-    knows_before known knows = subst (Knows known) (ap (λ parent. ids_in (branch_to blocks parent)) is ∙ ids_behind) knows
-
-    -- the root before a block is known, and has the map behind its parent
-    pub at_root : (hash : List ℕ → List ℕ) (ids : List (List ℕ)) (states : States) → IsFounded hash ids blocks states → (root : List ℕ)
-        → root ≡ root_before hash parent → (map_under states (parent_of blocks header) ≡ map_at states root) × IsSome (state_at states root)
-    at_root hash ids states founded root root_is =
-        let same = root_is ∙ ap (root_before hash) is in
-        let before = is_before hash ids blocks states founded id header placed in
-        (before.0 ∙ ap (map_at states) (sym same), subst (λ (root : List ℕ). IsSome (state_at states root)) (sym same) before.1)
+module _ (blocks : List BlockRecord) (id : List ℕ) (header : BlockHeader) (placed : None ≡ first_of (place_tests blocks id header))
+    (parent : Option BlockRecord) (is : parent ≡ parent_of blocks header) where
+  -- the root before a block is known, and has the map behind its parent
+  pub at_root : (hash : List ℕ → List ℕ) (ids : List (List ℕ)) (states : States) → IsFounded hash ids blocks states → (root : List ℕ)
+      → root ≡ root_before hash parent → (map_under states (parent_of blocks header) ≡ map_at states root) × IsSome (state_at states root)
+  at_root hash ids states founded root root_is =
+      let same = root_is ∙ ap (root_before hash) is in
+      let before = is_before hash ids blocks states founded id header placed in
+      (before.0 ∙ ap (map_at states) (sym same), subst (λ (root : List ℕ). IsSome (state_at states root)) (sym same) before.1)
 
 -- ---- results
 

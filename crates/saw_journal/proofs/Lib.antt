@@ -6,8 +6,6 @@ pub mod Chains
 pub mod Dropped
 pub mod Runs
 pub mod Joining
-pub mod Testing
-pub mod Ways
 pub mod Judging
 pub mod SameParts
 pub mod Counted
@@ -17,4 +15,5 @@ pub mod FromBytes
 pub mod Accepting
 pub mod OneByOne
 pub mod Branching
+pub mod KnownBranches
 pub mod Leaving

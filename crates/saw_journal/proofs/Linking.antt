@@ -9,8 +9,8 @@ use Rattle.std.proofs.lemmas.List.{append_assoc, length_push, reverse-append, re
 use Rattle.saw_context.proofs.Each.{all_append, all_weaker}
 use Rattle.saw_receipts.specs.declared.block.BlockRecord.{BlockRecord}
 use Rattle.saw_journal.specs.BlockFaults.{due_behind}
-use Rattle.saw_journal.specs.Branches.{block_at, has_block, no_block}
-use Rattle.saw_journal.specs.Heads.{head_after, head_of, is_new_head}
+use Rattle.saw_receipts.specs.Branches.{block_at, has_block, no_block}
+use Rattle.saw_receipts.specs.Heads.{head_after, head_of, is_new_head}
 use Rattle.saw_journal.specs.Linked.{AreLinked, StandsBehind, parent_in}
 
 -- ---- lists

@@ -6,7 +6,7 @@ use Rattle.std.specs.Prelude.{string_bytes, String, is_some, option_copied, ◌|
 use Rattle.std.specs.Cmp.Lexicographic.{nat_list_eq_equiv}
 use Rattle.std.specs.Str.{bytes_eq}
 use Rattle.saw_receipts.specs.declared.block.BlockRecord.{BlockRecord}
-use Rattle.saw_journal.specs.Branches.{block_at, has_block}
+use Rattle.saw_receipts.specs.Branches.{block_at, has_block}
 
 pub heads : {x y : List ℕ} {xs ys : List (List ℕ)} → (◌≡◌ {A = List (List ℕ)} (x ∷ xs) (y ∷ ys)) → (x ≡ y) × (xs ≡ ys)
 heads e = grind (arith, e)

@@ -11,7 +11,7 @@ use Rattle.saw_checks.specs.Tests.{first_of}
 use Rattle.saw_checks.specs.declared.checked.CheckedBlock.{CheckedBlock}
 use Rattle.saw_messages.specs.declared.block.Block.{Block}
 use Rattle.saw_messages.specs.declared.block.BlockHeader.{BlockHeader}
-use Rattle.saw_journal.specs.Branches.{no_block}
+use Rattle.saw_receipts.specs.Branches.{no_block}
 use Rattle.saw_journal.proofs.Judging.{first_not, not_not}
 use Rattle.saw_journal.proofs.SameParts.{neither}
 

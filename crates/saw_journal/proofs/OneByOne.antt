@@ -5,7 +5,7 @@ use Rattle.saw_context.specs.Outcome.{Processors}
 use Rattle.saw_context.specs.Serial.{batch_result, failed_with, left_after, left_by, serial, serial_from}
 use Rattle.saw_context.specs.declared.batch_result.BatchResult.{BatchResult}
 use Rattle.saw_context.specs.declared.batch_result.BatchResult.TheVariants.{Applied, Failed}
-use Rattle.saw_journal.specs.Judgement.{Runs}
+use Rattle.saw_receipts.specs.Running.{Runs}
 use Rattle.saw_messages.specs.TxShapes.{TxShape}
 use Rattle.saw_schedule.specs.BatchResults.{first_failure}
 

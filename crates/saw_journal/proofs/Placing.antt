@@ -8,7 +8,7 @@ use Rattle.saw_messages.specs.declared.block.BlockHeader.{BlockHeader}
 use Rattle.saw_receipts.specs.declared.block.BlockRecord.{BlockRecord}
 use Rattle.saw_receipts.specs.declared.verdict.BlockFault.TheVariants.{BlockNumber, Consensus, PreviousUnknown}
 use Rattle.saw_journal.specs.BlockFaults.{due_behind, is_first, parent_of, place_tests}
-use Rattle.saw_journal.specs.Branches.{block_at, has_block, has_first}
+use Rattle.saw_receipts.specs.Branches.{block_at, has_block, has_first}
 use Rattle.saw_journal.proofs.Lookups.{copied_is_some, is_there}
 
 by_first : (first : Bool) (others : Option BlockRecord) (has : Bool) → is_some others ≡ has

@@ -1,53 +1,26 @@
 -- What a checked block has in common with the block of its bytes.
-use Rattle.std.proofs.Common.{◌≡◌, ℕ, ◌+◌, Bool, List, [], ◌∷◌, map, Option, Some, None, Result, Ok, Err, refl, sym, ap, ◌∙◌, arith}
+use Rattle.std.proofs.Common.{◌≡◌, ℕ, ◌+◌, Bool, List, [], ◌∷◌, map, Option, Some, None, Ok, Err, refl, sym, ap, ◌∙◌}
 use Rattle.std.specs.Prelude.{option_map}
 use Rattle.saw_checks.specs.BatchFaults.{batch_fault}
 use Rattle.saw_checks.specs.StructureFaults.{batch_ids_of, batches_fault, block_tests, structure_fault, structure_fault_by}
-use Rattle.saw_checks.specs.Readings.{IsTxOf, AreTxsOf, IsBatchOf, AreBatchesOf, IsBlockOf}
+use Rattle.saw_checks.specs.Readings.{AreBatchesOf, IsBlockOf}
 use Rattle.saw_checks.specs.Tests.{◌<|>◌, first_of, first_difference}
 use Rattle.saw_checks.specs.declared.checked.CheckedBlock.{CheckedBlock}
-use Rattle.saw_checks.specs.declared.fault.BatchFault.TheVariants.{Header}
 use Rattle.saw_checks.specs.declared.fault.StructureFault.{StructureFault}
 use Rattle.saw_checks.specs.declared.fault.StructureFault.TheVariants as faults
-use Rattle.saw_messages.specs.Batches.{batch_header}
 use Rattle.saw_messages.specs.Blocks.{block, block_header}
-use Rattle.saw_messages.specs.TxShapes.{BatchShape, TxShape, shape_in, header_by}
 use Rattle.saw_messages.specs.declared.batch.Batch.{Batch}
-use Rattle.saw_messages.specs.declared.batch.BatchHeader.{BatchHeader}
 use Rattle.saw_messages.specs.declared.block.Block.{Block}
 use Rattle.saw_messages.specs.declared.block.BlockHeader.{BlockHeader}
-use Rattle.saw_messages.specs.declared.transaction.Transaction.{Transaction}
-use Rattle.saw_messages.specs.declared.transaction.TransactionHeader.{TransactionHeader}
-use Rattle.saw_messages.specs.declared.tx.Tx.{Tx}
 use Rattle.saw_messages.specs.declared.tx.TxBatch.{TxBatch}
+use Rattle.saw_receipts.proofs.ReadBatches.{batch_is}
 use Rattle.saw_receipts.specs.declared.block.BlockRecord.{BlockRecord}
 use Rattle.saw_receipts.specs.declared.verdict.BlockFault.TheVariants.{Structure}
-use Rattle.saw_wire.specs.declared.fault.MessageFault.{MessageFault}
 use Rattle.saw_address.specs.Maps.{StateMap}
-use Rattle.saw_journal.specs.Judgement.{Runs, judged, judged_header, judged_parts, left_header, left_parts, rules_with, would_leave}
-use Rattle.saw_journal.specs.BlockShapes.{batch_in, parts_in, parts_of, signer_by}
-
-same_shape : (id id' bytes bytes' payload payload' : List ℕ) (header header' : TransactionHeader) → id ≡ id' → header ≡ header' → bytes ≡ bytes'
-    → payload ≡ payload'
-    → (let first : TxShape = record { id = id; header = header; header_bytes = bytes; payload = payload } in
-    let second : TxShape = record { id = id'; header = header'; header_bytes = bytes'; payload = payload' } in first ≡ second)
-same_shape id id' bytes bytes' payload payload' header header' a b c d = rw (a, b, c, d) refl
-
-tx_shape : (tx : Transaction) (read : Tx) → IsTxOf tx read → read ≡ shape_in tx
-tx_shape tx read is = same_shape _ _ _ _ _ _ _ _ is.id (sym (ap header_by is.header)) is.header_bytes is.payload
-
-tx_shapes : (txs : List Transaction) (reads : List Tx) → AreTxsOf txs reads → reads ≡ map shape_in txs
-tx_shapes [] [] are = refl
-tx_shapes [] (read ∷ reads) are = absurd are
-tx_shapes (tx ∷ txs) [] are = absurd are
-tx_shapes (tx ∷ txs) (read ∷ reads) are = rw (tx_shape tx read are.0, tx_shapes txs reads are.1) refl
-
-same_batch : (id id' signer signer' : List ℕ) (txs txs' : List TxShape) → id ≡ id' → signer ≡ signer' → txs ≡ txs'
-    → (let first : BatchShape = record { id = id; signer = signer; txs = txs } in
-    let second : BatchShape = record { id = id'; signer = signer'; txs = txs' } in first ≡ second)
-same_batch id id' signer signer' txs txs' a b c = rw (a, b, c) refl
-
--- ---- the signers of batches without fault
+use Rattle.saw_journal.specs.Judgement.{judged, judged_header, judged_parts, left_header, left_parts, rules_with, would_leave}
+use Rattle.saw_receipts.specs.Running.{Runs}
+use Rattle.saw_journal.specs.BlockShapes.{parts_in, parts_of}
+use Rattle.saw_receipts.specs.Shapes.{batch_in}
 
 pub neither : {F : Type 0} (a b : Option F) → (a <|> b) ≡ None → (a ≡ None) × (b ≡ None)
 neither None b e = (refl, e)
@@ -58,19 +31,6 @@ map_none f None e = refl
 map_none f (Some x) e = absurd cc
 
 module _ (accepts : List ℕ → List ℕ → List ℕ → Bool) where
-  said_by : (batch : Batch) → batch_fault accepts batch ≡ None → (read : Result BatchHeader MessageFault) → batch_header batch.header ≡ read
-      → (signer : List ℕ) → ((header : BatchHeader) → batch_header batch.header ≡ Ok header → signer ≡ header.signer_public_key) → signer ≡ signer_by read
-  unfolding batch_fault
-  said_by batch fine (Ok header) is signer says = says header is
-  said_by batch fine (Err e) is signer says =
-      let bad : batch_fault accepts batch ≡ Some Header = rw is refl in
-      absurd (grind (arith, bad, fine))
-
-  batch_is : (batch : Batch) (read : TxBatch) → batch_fault accepts batch ≡ None → IsBatchOf batch read → read ≡ batch_in batch
-  batch_is batch read fine is =
-      same_batch _ _ _ _ _ _ is.id (said_by batch fine (batch_header batch.header) refl read.signer is.signer)
-      (tx_shapes batch.transactions read.txs is.txs)
-
   batches_are : (k : ℕ) (batches : List Batch) (reads : List TxBatch) → batches_fault accepts k batches ≡ None → AreBatchesOf batches reads
       → reads ≡ map batch_in batches
   batches_are k [] [] fine are = refl
@@ -78,7 +38,7 @@ module _ (accepts : List ℕ → List ℕ → List ℕ → Bool) where
   batches_are k (batch ∷ batches) [] fine are = absurd are
   batches_are k (batch ∷ batches) (read ∷ reads) fine are =
       let both = neither (option_map (faults.Batch k) (batch_fault accepts batch)) (batches_fault accepts (k + 1) batches) fine in
-      rw (batch_is batch read (map_none (faults.Batch k) (batch_fault accepts batch) both.0) are.0, batches_are (k + 1) batches reads both.1 are.1) refl
+      rw (batch_is accepts batch read (map_none (faults.Batch k) (batch_fault accepts batch) both.0) are.0, batches_are (k + 1) batches reads both.1 are.1) refl
 
   fine_batches : (b : Block) (header : BlockHeader) (bytes : List ℕ) → block bytes ≡ Ok b → block_header b.header ≡ Ok header
       → structure_fault accepts bytes ≡ None → batches_fault accepts 0 b.batches ≡ None

@@ -17,7 +17,7 @@ use Rattle.saw_receipts.specs.declared.block.BlockRecord.{BlockRecord}
 use Rattle.saw_receipts.specs.declared.verdict.BlockFault.{BlockFault}
 use Rattle.saw_receipts.specs.declared.verdict.BlockFault.TheVariants.{Known, GenesisAgain, PreviousUnknown, BlockNumber, Consensus, Static, BatchInvalid, Root}
 use Rattle.saw_schedule.specs.BatchResults.{first_failure}
-use Rattle.saw_journal.specs.Branches.{no_block, has_block, has_first, block_at, branch_of, ids_in}
+use Rattle.saw_receipts.specs.Branches.{no_block, has_block, has_first, block_at, branch_of, ids_in}
 use Rattle.saw_journal.specs.BlockShapes.{Parts}
 
 -- a block that states that none is before it

@@ -7,8 +7,10 @@ use Rattle.saw_merkle.specs.States.{States}
 use Rattle.saw_node.specs.declared.node.Node.{Node}
 use Rattle.saw_receipts.specs.declared.block.BlockRecord.{BlockRecord}
 use Rattle.saw_store.specs.declared.fault.StoreFault.TheVariants.{Collision}
-use Rattle.saw_journal.specs.Judgement.{Rules, Runs, rules_with, would_leave}
-use Rattle.saw_journal.specs.Ledger.{Ledger, RunsBy, map_under}
+use Rattle.saw_journal.specs.Judgement.{Rules, rules_with, would_leave}
+use Rattle.saw_receipts.specs.Running.{Runs}
+use Rattle.saw_journal.specs.Ledger.{Ledger, map_under}
+use Rattle.saw_receipts.specs.Running.{RunsBy}
 use Rattle.saw_journal.specs.declared.fault.JournalFault.{JournalFault}
 use Rattle.saw_journal.specs.declared.fault.JournalFault.TheVariants as faults
 

@@ -16,6 +16,7 @@ use Rattle.saw_messages.specs.declared.outcome.Outcome.{Outcome}
 use Rattle.saw_node.specs.Trees.{root_of_map}
 use Rattle.saw_plan.specs.BatchShapes.{ids_of, txs_of}
 use Rattle.saw_receipts.specs.Receipts.{receipts}
+use Rattle.saw_receipts.specs.Running.{Runs}
 use Rattle.saw_receipts.specs.declared.block.BatchRecord.{BatchRecord}
 use Rattle.saw_receipts.specs.declared.block.BlockRecord.{BlockRecord}
 use Rattle.saw_receipts.specs.declared.verdict.BlockFault.{BlockFault}
@@ -44,10 +45,6 @@ batch_records batches results = map (λ each. batch_record each.0 each.1) (zip b
 abbrev pub unless : {A : Type 0} → Option BlockFault → A → Result A BlockFault
 unless None kept = Ok kept
 unless (Some fault) kept = Err fault
-
--- how batches are run over a map
-abbrev pub Runs : Type 0
-Runs = StateMap → List (List TxShape) → List BatchResult
 
 -- by what a block is judged: the hash of nodes, who vouches for signatures, and how batches are run
 pub record Rules : Type 0 where

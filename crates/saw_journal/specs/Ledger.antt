@@ -1,16 +1,13 @@
 -- What a journal holds, and what a call leaves of it.
 use Rattle.std.specs.Prelude.{◌≡◌, ◌<◌, ℕ, Bool, true, false, List, [], ◌∷◌, ◌++◌, length, Option, Some, None, Result, Ok, Err}
 use Rattle.saw_address.specs.Maps.{StateMap, no_entries}
-use Rattle.saw_context.specs.Outcome.{Processors}
-use Rattle.saw_context.specs.Possible.{MayComeOfAll}
 use Rattle.saw_merkle.specs.States.{States, knows, map_at}
-use Rattle.saw_messages.specs.TxShapes.{TxShape}
 use Rattle.saw_receipts.specs.declared.block.BlockRecord.{BlockRecord}
 use Rattle.saw_receipts.specs.declared.verdict.BlockFault.{BlockFault}
 use Rattle.saw_receipts.specs.declared.verdict.Verdict.{Verdict}
 use Rattle.saw_receipts.specs.declared.verdict.Verdict.TheVariants.{Committed, Stored, Refused}
-use Rattle.saw_journal.specs.Heads.{head_of, is_new_head}
-use Rattle.saw_journal.specs.Judgement.{Kept, Rules, Runs, judged}
+use Rattle.saw_receipts.specs.Heads.{head_of, is_new_head}
+use Rattle.saw_journal.specs.Judgement.{Kept, Rules, judged}
 
 -- the accepted blocks in order of arrival, the map of each known root, and how many blocks may be accepted
 pub record Ledger : Type 0 where
@@ -22,10 +19,6 @@ pub record Ledger : Type 0 where
 abbrev pub map_under : States → Option BlockRecord → StateMap
 map_under states None = no_entries
 map_under states (Some parent) = map_at states parent.root
-
--- A way to run batches: what it gives is what may come of them, run one after another.
-pub record RunsBy (processors : Processors) (runs : Runs) : Type 0 where
-  pub serial : (m : StateMap) (batches : List (List TxShape)) → MayComeOfAll processors m batches (runs m batches)
 
 -- the ledger with one block more, whose map is known
 abbrev pub grown : (List ℕ → List ℕ) → Ledger → Kept → Ledger

@@ -1,7 +1,5 @@
 pub mod LowerFaults
 pub mod Stops
-pub mod Branches
-pub mod Heads
 pub mod BlockShapes
 pub mod BlockFaults
 pub mod Judgement
@@ -9,5 +7,6 @@ pub mod Linked
 pub mod Left
 pub mod Ledger
 pub mod Clashing
+pub mod KnownBranches
 pub mod Standing
 pub mod Parted

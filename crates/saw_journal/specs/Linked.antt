@@ -4,7 +4,7 @@ use Rattle.std.specs.List.{AllByRecursion}
 use Rattle.std.specs.Str.{bytes_eq}
 use Rattle.saw_receipts.specs.declared.block.BlockRecord.{BlockRecord}
 use Rattle.saw_journal.specs.BlockFaults.{due_behind}
-use Rattle.saw_journal.specs.Branches.{block_at, branch_of, has_block, has_first, no_block}
+use Rattle.saw_receipts.specs.Branches.{block_at, branch_of, has_block, has_first, no_block}
 use Rattle.saw_journal.specs.Judgement.{Kept}
 
 -- the block before one that states this id as its previous one

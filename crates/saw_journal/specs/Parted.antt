@@ -25,9 +25,11 @@ use Rattle.saw_store.specs.declared.fault.StoreFault.TheVariants.{Collision}
 use Rattle.saw_journal.specs.BlockFaults.{failure_fault, parent_of, place_tests, root_fault, static_fault}
 use Rattle.saw_journal.specs.BlockShapes.{Parts}
 use Rattle.saw_journal.specs.Clashing.{Clashes}
-use Rattle.saw_journal.specs.Heads.{head_of, is_new_head}
-use Rattle.saw_journal.specs.Judgement.{Kept, Runs, judged, kept_of, rules_with}
-use Rattle.saw_journal.specs.Ledger.{Ledger, RunsBy, map_under}
+use Rattle.saw_receipts.specs.Heads.{head_of, is_new_head}
+use Rattle.saw_journal.specs.Judgement.{Kept, judged, kept_of, rules_with}
+use Rattle.saw_receipts.specs.Running.{Runs}
+use Rattle.saw_journal.specs.Ledger.{Ledger, map_under}
+use Rattle.saw_receipts.specs.Running.{RunsBy}
 use Rattle.saw_journal.specs.Linked.{StandsBehind}
 use Rattle.saw_journal.specs.Stops.{IsStop}
 use Rattle.saw_journal.specs.declared.fault.JournalFault.TheVariants as faults

@@ -5,9 +5,11 @@ use Rattle.std.specs.List.{AllByRecursion}
 use Rattle.saw_address.specs.Maps.{no_entries}
 use Rattle.saw_merkle.specs.States.{States, knows, state_at}
 use Rattle.saw_receipts.specs.declared.block.BlockRecord.{BlockRecord}
-use Rattle.saw_journal.specs.Branches.{has_first}
-use Rattle.saw_journal.specs.Heads.{head_of}
+use Rattle.saw_receipts.specs.Branches.{has_first}
+use Rattle.saw_receipts.specs.Heads.{head_of}
+use Rattle.saw_journal.specs.KnownBranches.{HaveIds}
 use Rattle.saw_journal.specs.Linked.{AreLinked}
+use Rattle.saw_journal.specs.declared.branch_ids.BranchIds.{BranchIds}
 
 -- whether some block was accepted
 abbrev pub has_any : List BlockRecord → Bool
@@ -28,8 +30,11 @@ pub record IsFounded (hash : List ℕ → List ℕ) (ids : List (List ℕ)) (blo
   pub first : has_first blocks ≡ has_any blocks
   pub opening : blocks ≡ [] → states ≡ knows hash finite.empty no_entries
 
--- besides, the head is the one that was chosen, and no more blocks are there than may be
-pub record IsStanding (hash : List ℕ → List ℕ) (ids : List (List ℕ)) (blocks : List BlockRecord) (head : Option ℕ) (states : States) (limit : ℕ) : Type 0 where
+-- besides, the ids of each block's branch are kept, the head is the one that was chosen, and no more blocks are there than
+-- may be
+pub record IsStanding (hash : List ℕ → List ℕ) (ids : List (List ℕ)) (blocks : List BlockRecord) (kept : List BranchIds) (head : Option ℕ)
+    (states : States) (limit : ℕ) : Type 0 where
   pub founded : IsFounded hash ids blocks states
+  pub branches : HaveIds blocks blocks kept
   pub chosen : head_at blocks head ≡ head_of blocks
   pub room : length blocks ≤ limit

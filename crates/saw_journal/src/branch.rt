@@ -1,10 +1,10 @@
-//! The ids of a branch.
+//! The ids of a branch, gathered by a walk along it.
 
 ghost use Rattle.std.specs.Prelude.{◌≡◌, ◌<◌, ◌++◌, ◌∷◌, [], ℕ, List, length, get_or, map, option_copied, OnOk, IfOk};
 ghost use Rattle.indexmap.specs.IndexMap.{values};
 ghost use Rattle.saw_ids.specs.Seen.{HoldsIds};
-ghost use Rattle.saw_journal.specs.Branches.{batch_ids, branch_of, ids_in};
-ghost use Rattle.saw_journal.specs.Heads.{branch_to};
+ghost use Rattle.saw_receipts.specs.Branches.{batch_ids, branch_of, ids_in};
+ghost use Rattle.saw_receipts.specs.Heads.{branch_to};
 ghost use Rattle.saw_plan.specs.StaticRules.{Ids, Knows};
 ghost use Rattle.saw_plan.specs.SortingSteps.{both};
 

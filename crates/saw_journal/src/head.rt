@@ -4,7 +4,7 @@ ghost use Rattle.std.specs.Prelude.{◌≡◌, ◌++◌, IfOk};
 ghost use Rattle.std.specs.Cmp.Lexicographic.{slice_cmp};
 ghost use Rattle.std.specs.Ordering.{is_lt, nat_cmp};
 ghost use Rattle.sha2.specs.Sha256.{sha256};
-ghost use Rattle.saw_journal.specs.Heads.{replaces, weight_of};
+ghost use Rattle.saw_receipts.specs.Heads.{replaces, weight_of};
 
 use saw_receipts::BlockRecord;
 use sha2::{Digest, Sha256};

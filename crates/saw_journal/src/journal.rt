@@ -1,6 +1,6 @@
 //! The journal of accepted blocks.
 
-ghost use Rattle.std.specs.Prelude.{◌≡◌, ◌<◌, ◌≤◌, ◌^◌, ◌++◌, ◌∷◌, [], false, map, length, string_bytes, option_copied, option_map, Some, IfOk, IfErr, IfSome, OnOk, OnErr, IsErrOf, IsSome};
+ghost use Rattle.std.specs.Prelude.{◌≡◌, ◌<◌, ◌≤◌, ◌^◌, ◌++◌, ◌∷◌, [], false, vec_capacity, vec_len, map, length, string_bytes, option_copied, option_map, Some, IfOk, IfErr, IfSome, OnOk, OnErr, IsErrOf, IsSome};
 ghost use Rattle.std.specs.FinMap as finite;
 ghost use Rattle.std.specs.List.{AllByRecursion};
 ghost use Rattle.indexmap.specs.IndexMap.{keys, spare, values};
@@ -8,11 +8,14 @@ ghost use Rattle.saw_address.specs.Maps.{no_entries};
 ghost use Rattle.saw_context.specs.Changed.{AreRising};
 ghost use Rattle.saw_context.specs.Outcome.{map_after};
 ghost use Rattle.saw_crew.specs.Desks.{Failed, HaveSameOffers, KeepsDesks, offers_at};
-ghost use Rattle.saw_journal.specs.Branches.{block_at, has_block, ids_in};
+ghost use Rattle.saw_receipts.specs.Branches.{block_at, has_block, ids_in};
 ghost use Rattle.saw_journal.specs.Clashing.{ClashesAs, TellsNoNodes};
-ghost use Rattle.saw_journal.specs.Heads.{as_parent, head_branch, head_of, is_new_head};
-ghost use Rattle.saw_journal.specs.Judgement.{Runs, rules_with};
-ghost use Rattle.saw_journal.specs.Ledger.{IsFull, RunsBy, Says};
+ghost use Rattle.saw_receipts.specs.Heads.{as_parent, head_branch, head_of, is_new_head};
+ghost use Rattle.saw_journal.specs.Judgement.{rules_with};
+ghost use Rattle.saw_receipts.specs.Running.{Runs};
+ghost use Rattle.saw_journal.specs.KnownBranches.{HaveIds, KnowsIds};
+ghost use Rattle.saw_journal.specs.Ledger.{IsFull, Says};
+ghost use Rattle.saw_receipts.specs.Running.{RunsBy};
 ghost use Rattle.saw_journal.specs.Linked.{AreLinked};
 ghost use Rattle.saw_journal.specs.Parted.{JoinsAs, MayJoin};
 ghost use Rattle.saw_merkle.specs.Clashes.{AreTold, IsPreparedFor};
@@ -21,6 +24,7 @@ ghost use Rattle.saw_plan.specs.StaticRules.{Knows};
 ghost use Rattle.saw_station.specs.Serving.{processors_at};
 
 use crate::branch::known_behind;
+use crate::branch_ids::{BranchIds, ids_with};
 use crate::fault::JournalFault;
 use crate::head::choose;
 use crate::judge::{New, judge};
@@ -36,11 +40,12 @@ use std::alloc::{AllocError, Global};
 use std::marker::Model;
 use std::thread::Threads;
 
-/// The accepted blocks, the maps that they leave, and the head.
+/// The accepted blocks, the ids of the branch of each, the maps that they leave, and the head.
 #[derive(Drop)]
 pub struct Journal<H: NodeHasher> {
     alloc: Global,
     blocks: BlockMap,
+    ids: Vec<BranchIds>,
     head: Option<usize>,
     state: State<H>,
     limit: u32,
@@ -62,7 +67,7 @@ impl<H: NodeHasher> Model for Journal<H> {
     ghost view = { λ j. record { blocks = values j.blocks; states = j.state; limit = j.limit } };
 
     ghost invariant = { λ j.
-        IsStanding H.hash_of (map string_bytes (keys j.blocks)) (values j.blocks) j.head j.state j.limit };
+        IsStanding H.hash_of (map string_bytes (keys j.blocks)) (values j.blocks) j.ids.items j.head j.state j.limit };
 }
 
 // The block is put last, under its id; there is room for it.
@@ -77,15 +82,25 @@ fn put_last(blocks: &mut BlockMap, key: String, block: BlockRecord)
     let _ = blocks.insert(key, block);
 }
 
-// A fault leaves the blocks and the states.
+// There is room for it.
+fn push_last(ids: &mut Vec<BranchIds>, new: BranchIds)
+    requires { vec_len ids.old < vec_capacity ids.old }
+    ensures { ids.new.items ≡ ids.old.items ++ new ∷ [] }
+{
+    let _ = ids.push(new);
+}
+
+// A fault leaves the blocks, the ids of their branches and the states.
 fn put<H: NodeHasher>(
     alloc: Global,
     blocks: &mut BlockMap,
+    ids: &mut Vec<BranchIds>,
     state: &mut State<H>,
     new: New,
 ) -> Result<(), JournalFault>
     requires fresh { has_block (values blocks.old) new.block.id ≡ false }
     requires ids { map string_bytes (keys blocks.old) ≡ map (λ block. block.id) (values blocks.old) }
+    requires kept { HaveIds (values blocks.old) (values blocks.old) ids.old.items }
     requires known { IsSome (state_at state.old new.before) }
     requires rising { AreRising new.changes }
     requires prepared { IsPreparedFor H.hash_of state.old
@@ -93,11 +108,13 @@ fn put<H: NodeHasher>(
     ensures joined { OnOk result (values blocks.new ≡ values blocks.old ++ new.block ∷ []) }
     ensures ids { OnOk result (
         map string_bytes (keys blocks.new) ≡ map (λ block. block.id) (values blocks.new)) }
+    ensures kept { OnOk result (HaveIds (values blocks.new) (values blocks.new) ids.new.items) }
     ensures state { OnOk result (state.new ≡ knows H.hash_of state.old
         (map_after (map_at state.old new.before) new.changes)) }
     ensures stays { OnOk result (Stays state.old state.new) }
     ensures err_blocks { OnErr result ((values blocks.new ≡ values blocks.old)
         × (map string_bytes (keys blocks.new) ≡ map string_bytes (keys blocks.old))) }
+    ensures err_ids { OnErr result (ids.new.items ≡ ids.old.items) }
     ensures err_state { OnErr result (state.new ≡ state.old) }
     ensures fault { IfErr result (λ e. e ≡ JournalFault.OutOfMemory) }
 {
@@ -107,10 +124,13 @@ fn put<H: NodeHasher>(
         changes,
         prepared,
     } = new;
+    let known = ids_with(alloc, blocks, ids.as_slice(), &block)?;
     let key = String::from_str(alloc, block.id.as_str())?;
     blocks.reserve(1)?;
+    ids.reserve(1)?;
     state.keep(&before, changes.as_slice(), prepared)?;
     put_last(blocks, key, block);
+    push_last(ids, known);
     Ok(())
 }
 
@@ -127,6 +147,7 @@ impl<H: NodeHasher> Journal<H> {
         Ok(Journal {
             alloc,
             blocks: IndexMap::new(alloc),
+            ids: Vec::new(alloc),
             head: None,
             state,
             limit,
@@ -218,7 +239,13 @@ impl<H: NodeHasher> Journal<H> {
         }
         let place = self.blocks.len();
         let is_head = self.is_new_head(&new.block);
-        put(self.alloc, &mut self.blocks, &mut self.state, new)?;
+        put(
+            self.alloc,
+            &mut self.blocks,
+            &mut self.ids,
+            &mut self.state,
+            new,
+        )?;
         if is_head {
             self.head = Some(place);
             return Ok(Verdict::Committed);
@@ -256,6 +283,7 @@ impl<H: NodeHasher> Journal<H> {
             rt,
             self.alloc,
             &self.blocks,
+            self.ids.as_slice(),
             &self.state,
             bytes,
             verifier,

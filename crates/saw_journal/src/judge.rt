@@ -3,11 +3,12 @@
 ghost use Rattle.std.specs.Prelude.{◌≡◌, ◌<◌, ◌^◌, map, length, string_bytes, option_copied, IfOk, IsErrOf};
 ghost use Rattle.indexmap.specs.IndexMap.{keys, values};
 ghost use Rattle.saw_crew.specs.Desks.{Failed, HaveSameOffers, KeepsDesks, offers_at};
+ghost use Rattle.saw_journal.specs.KnownBranches.{HaveIds};
 ghost use Rattle.saw_journal.specs.Parted.{JudgedAs, root_before};
 ghost use Rattle.saw_journal.specs.Standing.{IsFounded};
 ghost use Rattle.saw_station.specs.Serving.{processors_at};
 
-use crate::branch::known_behind;
+use crate::branch_ids::{BranchIds, ids_behind};
 use crate::fault::JournalFault;
 use crate::place::parent_of;
 use crate::planned::plan_all;
@@ -55,6 +56,7 @@ pub(crate) fn judge<H: NodeHasher, T: Threads + Sync, V: Verifier, R: Station>(
     rt: &T,
     alloc: Global,
     blocks: &BlockMap,
+    ids: &[BranchIds],
     state: &State<H>,
     bytes: &[u8],
     verifier: &V,
@@ -62,6 +64,7 @@ pub(crate) fn judge<H: NodeHasher, T: Threads + Sync, V: Verifier, R: Station>(
 ) -> Result<New, Stop>
     requires founded { IsFounded H.hash_of (map string_bytes (keys blocks.now))
         (values blocks.now) state.now }
+    requires kept { HaveIds (values blocks.now) (values blocks.now) ids.now }
     requires small { length bytes.now < 2 ^ 32 }
     requires some { 0 < length desks.old }
     requires alike { HaveSameOffers desks.old }
@@ -75,7 +78,7 @@ pub(crate) fn judge<H: NodeHasher, T: Threads + Sync, V: Verifier, R: Station>(
 {
     let checked = check_block(alloc, bytes, verifier, 1)?;
     let parent = parent_of(blocks, &checked.id, &checked.header)?;
-    let known = known_behind(alloc, blocks, parent)?;
+    let known = ids_behind(alloc, blocks, ids, &checked.header.previous_block_id)?;
     let plan = plan_all(alloc, &known, checked.batches.as_slice())?;
     let before = root_before::<H>(alloc, parent)?;
     run(rt, alloc, state, before, checked, plan, desks)

@@ -2,6 +2,7 @@
 #![tactic(auto)]
 
 mod branch;
+mod branch_ids;
 mod fault;
 mod head;
 mod journal;

@@ -4,7 +4,7 @@ ghost use Rattle.std.specs.Prelude.{◌≡◌, ◌&&◌, not, is_none, map, stri
 ghost use Rattle.std.specs.List.{starts_with};
 ghost use Rattle.indexmap.specs.IndexMap.{keys, values};
 ghost use Rattle.saw_journal.specs.BlockFaults.{due_behind, is_first, parent_of};
-ghost use Rattle.saw_journal.specs.Branches.{block_at, has_block, has_first};
+ghost use Rattle.saw_receipts.specs.Branches.{block_at, has_block, has_first};
 ghost use Rattle.saw_journal.specs.Parted.{PlacedAs};
 
 use crate::stop::Stop;

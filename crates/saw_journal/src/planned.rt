@@ -4,26 +4,30 @@ ghost use Rattle.std.specs.Prelude.{◌≡◌, ◌<◌, ◌^◌, length};
 ghost use Rattle.saw_journal.specs.BlockFaults.{first_dropped};
 ghost use Rattle.saw_journal.specs.Parted.{PlansAs};
 ghost use Rattle.saw_plan.specs.BatchShapes.{transactions_in};
-ghost use Rattle.saw_plan.specs.StaticRules.{Ids, Knows};
+ghost use Rattle.saw_plan.specs.StaticRules.{Ids};
 
 use crate::stop::Stop;
 use saw_messages::TxBatch;
-use saw_plan::{Dropped, Known, Plan, Sorted, precheck};
+use saw_plan::{Dropped, KnownIds, Plan, Sorted, precheck_by};
 use saw_receipts::BlockFault;
 use saw_wire::Items;
 use std::alloc::Global;
 
 /// Plans all batches of a block, against the ids that are there. It stops at the first that the static rules drop.
-pub(crate) fn plan_all(alloc: Global, known: &Known, batches: &[TxBatch]) -> Result<Plan, Stop>
+pub(crate) fn plan_all<K: KnownIds>(
+    alloc: Global,
+    known: &K,
+    batches: &[TxBatch],
+) -> Result<Plan, Stop>
     requires batches { length batches.now < 2 ^ 32 }
     requires transactions { transactions_in batches.now < 2 ^ 32 }
-    ensures { (there : Ids) → Knows known.now there → PlansAs there batches.now result }
+    ensures { (there : Ids) → K.knows known.now there → PlansAs there batches.now result }
 {
     let Sorted {
         plan,
         places: _,
         dropped,
-    } = precheck(alloc, known, batches)?;
+    } = precheck_by(alloc, known, batches)?;
     match first_dropped(dropped) {
         None => Ok(plan),
         Some(fault) => Err(Stop::Refused(fault)),

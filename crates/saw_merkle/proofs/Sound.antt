@@ -67,6 +67,14 @@ pub state_at-of : (nodes : Nodes) (roots : List (List ℕ)) (q : List ℕ) → s
     (Some (map_read nodes q)) None
 state_at-of nodes roots q = finite.get-from_entries nat_list_cmp_total _ q ∙ find-states nodes roots q
 
+-- the empty map is known
+pub empty_is_known : (hash : List ℕ → List ℕ) (nodes : Nodes) (roots : List (List ℕ)) (empty : List ℕ) (flat : Option Flat)
+    → IsSound hash nodes roots empty flat → state_at (states_of nodes roots) (root_of_map hash no_entries) ≡ Some no_entries
+empty_is_known hash nodes roots empty flat sound =
+    ap (state_at (states_of nodes roots)) (sym sound.empty_is.named) ∙ state_at-of nodes roots empty
+    ∙ ap (λ t. cond t (Some (map_read nodes empty)) None) sound.empty_known
+    ∙ ap Some (map_read-root hash nodes no_entries empty sound.empty_is)
+
 known_from : (nodes : Nodes) (roots : List (List ℕ)) (q : List ℕ) (states : States) → states_of nodes roots ≡ states → IsSome (state_at states q)
     → has_root roots q ≡ true
 known_from nodes roots q states is some = elim (cases_Bool (has_root roots q)) [

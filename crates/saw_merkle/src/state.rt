@@ -1,6 +1,6 @@
 //! The states of a journal.
 
-ghost use Rattle.std.specs.Prelude.{◌≡◌, ◌≤◌, [], None, IfErr, IfOk, IfSome, IsSome, OnErr, OnOk};
+ghost use Rattle.std.specs.Prelude.{◌≡◌, ◌≤◌, [], None, Some, IfErr, IfOk, IfSome, IsSome, OnErr, OnOk};
 ghost use Rattle.std.specs.FinMap as finite;
 ghost use Rattle.saw_address.specs.Maps.{no_entries};
 ghost use Rattle.saw_context.specs.Changed.{AreRising};
@@ -111,9 +111,10 @@ impl<H: NodeHasher> State<H> {
         })
     }
 
-    /// That each known root is the root of its map, which has only addresses, and that no two different nodes of the maps
-    /// have one hash.
+    /// That each known root is the root of its map, which has only addresses, that the empty map is known, and that no two
+    /// different nodes of the maps have one hash.
     pub fn sound(&self)
+        ensures empty { state_at self.now (root_of_map H.hash_of no_entries) ≡ Some no_entries }
         ensures rooted { AreRooted H.hash_of self.now }
         ensures told { AreTold H.hash_of self.now }
     {

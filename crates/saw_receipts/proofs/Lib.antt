@@ -1,0 +1,3 @@
+pub mod ReadBatches
+pub mod Testing
+pub mod Ways

@@ -2,9 +2,11 @@
 #![tactic(auto)]
 
 mod block;
+mod loss;
 mod receipt;
 mod verdict;
 
 pub use block::{BatchRecord, BlockMap, BlockRecord, Parent};
+pub use loss::{Loss, LossCause};
 pub use receipt::{batch_receipts, receipt_of};
 pub use verdict::{BlockFault, Verdict};

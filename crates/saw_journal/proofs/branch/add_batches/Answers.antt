@@ -3,7 +3,7 @@ use Rattle.std.proofs.lemmas.List.{take_all}
 use Rattle.saw_receipts.specs.declared.block.BatchRecord.{BatchRecord}
 use Rattle.saw_plan.specs.StaticRules.{Ids, Knows}
 use Rattle.saw_plan.specs.SortingSteps.{both}
-use Rattle.saw_journal.specs.Branches.{batch_ids}
+use Rattle.saw_receipts.specs.Branches.{batch_ids}
 use Rattle.saw_journal.proofs.Ids.{batch_ids_more}
 use Rattle.saw_journal.proofs.branch.add_batches.Goals as goal
 

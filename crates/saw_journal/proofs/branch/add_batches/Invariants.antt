@@ -1,7 +1,7 @@
 use Rattle.std.proofs.Common.{take}
 use Rattle.saw_plan.specs.StaticRules.{Ids, Knows}
 use Rattle.saw_plan.specs.SortingSteps.{both}
-use Rattle.saw_journal.specs.Branches.{batch_ids}
+use Rattle.saw_receipts.specs.Branches.{batch_ids}
 use Rattle.saw_journal.proofs.branch.add_batches.Given as goal
 
 abbrev pub invariant-loop-batch : goal.invariant-loop-batch

@@ -7,7 +7,7 @@ use Rattle.saw_plan.specs.StaticRules.{Knows}
 use Rattle.saw_receipts.specs.declared.block.BatchRecord.{BatchRecord}
 use Rattle.saw_plan.specs.SortingSteps.{both}
 use Rattle.saw_receipts.specs.declared.block.BlockRecord.{BlockRecord}
-use Rattle.saw_journal.specs.Branches.{batch_ids, branch_of, ids_in}
+use Rattle.saw_receipts.specs.Branches.{batch_ids, branch_of, ids_in}
 use Rattle.saw_journal.proofs.Ids.{CoversIds, walk, opens, taken_at}
 use Rattle.saw_journal.proofs.branch.known_in.Goals as goal
 

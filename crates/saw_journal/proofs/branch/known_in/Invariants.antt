@@ -1,7 +1,7 @@
 use Rattle.std.proofs.Common.{◌≤◌, length, reverse, take}
 use Rattle.indexmap.specs.IndexMap.{values}
 use Rattle.saw_plan.specs.StaticRules.{Ids, Knows}
-use Rattle.saw_journal.specs.Branches.{branch_of, ids_in}
+use Rattle.saw_receipts.specs.Branches.{branch_of, ids_in}
 use Rattle.saw_journal.proofs.Ids.{CoversIds, walk}
 use Rattle.saw_journal.proofs.branch.known_in.Given as goal
 

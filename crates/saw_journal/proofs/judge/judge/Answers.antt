@@ -13,7 +13,8 @@ use Rattle.saw_journal.specs.Stops.{IsStop}
 use Rattle.saw_journal.specs.declared.fault.JournalFault.TheVariants.{Full, OutOfMemory, PeerFailed}
 use Rattle.saw_journal.proofs.Counted.{few_batches, few_transactions}
 use Rattle.saw_journal.proofs.Judgements.{by_place, by_results, by_rules, by_structure, of_memory}
-use Rattle.saw_journal.proofs.Judging.{at_root, knows_before}
+use Rattle.saw_journal.proofs.Judging.{at_root}
+use Rattle.saw_journal.proofs.KnownBranches.{known_before}
 use Rattle.saw_journal.proofs.judge.judge.Goals as goal
 
 pub returns-in_err-checked-clause-desks : goal.returns-in_err-checked-clause-desks
@@ -86,7 +87,7 @@ returns-in_err-plan-clause-judged g c =
     let placed = c.in_ok-parent.ensures in
     let parent = option_copied c.in_ok-parent.parent in
     let there = ids_before blocks checked.header in
-    let knows = knows_before blocks checked.id checked.header (sym placed.0) parent placed.1 c.in_ok-known.known c.in_ok-known.ensures in
+    let knows = known_before blocks checked.header c.in_ok-known.known c.requires.founded.linked c.in_ok-known.ensures in
     let laws = g.met.R.Station g.world.𝓛 g.world.𝓜 g.world.𝓡 ((λ s x. x), (λ x. x), (λ x. x), λ x. x) in
     let own = processors_own g.R.Station.next laws.own_reasons g.R.Station.tells (offers_at c.args.desks.now) in
     let processors = processors_at g.R.Station.next g.R.Station.tells (offers_at c.args.desks.now) in
@@ -125,7 +126,7 @@ run-requires-clause-plan g c = λ κs alive.
     let placed = c.in_ok-parent.ensures in
     let parent = option_copied c.in_ok-parent.parent in
     let there = ids_before blocks checked.header in
-    let knows = knows_before blocks checked.id checked.header (sym placed.0) parent placed.1 c.in_ok-known.known c.in_ok-known.ensures in
+    let knows = known_before blocks checked.header c.in_ok-known.known c.requires.founded.linked c.in_ok-known.ensures in
     (c.in_ok-plan.ensures there knows).1 ∙ c.as_slice.ensures
 
 pub run-requires-clause-counted : goal.run-requires-clause-counted
@@ -140,7 +141,7 @@ run-requires-clause-counted g c = λ κs alive.
     let placed = c.in_ok-parent.ensures in
     let parent = option_copied c.in_ok-parent.parent in
     let there = ids_before blocks checked.header in
-    let knows = knows_before blocks checked.id checked.header (sym placed.0) parent placed.1 c.in_ok-known.known c.in_ok-known.ensures in
+    let knows = known_before blocks checked.header c.in_ok-known.known c.requires.founded.linked c.in_ok-known.ensures in
     subst (λ (shapes : List BatchShape). transactions_in shapes < 2 ^ 32)
     (sym ((c.in_ok-plan.ensures there knows).1 ∙ c.as_slice.ensures)) (few_transactions accepts content checked sound.0 sound.1)
 
@@ -167,7 +168,7 @@ returns-clause-judged g c =
     let placed = c.in_ok-parent.ensures in
     let parent = option_copied c.in_ok-parent.parent in
     let there = ids_before blocks checked.header in
-    let knows = knows_before blocks checked.id checked.header (sym placed.0) parent placed.1 c.in_ok-known.known c.in_ok-known.ensures in
+    let knows = known_before blocks checked.header c.in_ok-known.known c.requires.founded.linked c.in_ok-known.ensures in
     let root = at_root blocks checked.id checked.header (sym placed.0) parent placed.1 hash (map string_bytes (keys c.args.blocks.now)) states
     c.requires.founded c.in_ok-before.before c.in_ok-before.ensures in
     let laws = g.met.R.Station g.world.𝓛 g.world.𝓜 g.world.𝓡 ((λ s x. x), (λ x. x), (λ x. x), λ x. x) in
@@ -185,8 +186,7 @@ returns-in_err-plan-clause-room g c =
     let checked = c.in_ok-checked.checked in
     let placed = c.in_ok-parent.ensures in
     let there = ids_before blocks checked.header in
-    let knows = knows_before blocks checked.id checked.header (sym placed.0) (option_copied c.in_ok-parent.parent) placed.1 c.in_ok-known.known
-    c.in_ok-known.ensures in
+    let knows = known_before blocks checked.header c.in_ok-known.known c.requires.founded.linked c.in_ok-known.ensures in
     rw (p.1, p.2) (λ is.
     let same : Full ≡ OutOfMemory = of_memory (static_fault there c.as_slice.result.now) c.in_err-plan.field-0.0 Full
     (c.in_err-plan.ensures there knows) is in
@@ -199,8 +199,7 @@ returns-in_err-plan-clause-cause g c =
     let checked = c.in_ok-checked.checked in
     let placed = c.in_ok-parent.ensures in
     let there = ids_before blocks checked.header in
-    let knows = knows_before blocks checked.id checked.header (sym placed.0) (option_copied c.in_ok-parent.parent) placed.1 c.in_ok-known.known
-    c.in_ok-known.ensures in
+    let knows = known_before blocks checked.header c.in_ok-known.known c.requires.founded.linked c.in_ok-known.ensures in
     rw (p.1, p.2) (λ is.
     let same : PeerFailed ≡ OutOfMemory = of_memory (static_fault there c.as_slice.result.now) c.in_err-plan.field-0.0 PeerFailed
     (c.in_err-plan.ensures there knows) is in

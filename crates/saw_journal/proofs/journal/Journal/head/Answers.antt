@@ -4,8 +4,8 @@ use Rattle.std.specs.Prelude.{IfSome, String, option_map}
 use Rattle.std.proofs.lemmas.Option.{slice_get-map}
 use Rattle.indexmap.specs.IndexMap.{values}
 use Rattle.saw_receipts.specs.declared.block.BlockRecord.{BlockRecord}
-use Rattle.saw_journal.specs.Branches.{block_at}
-use Rattle.saw_journal.specs.Heads.{head_of}
+use Rattle.saw_receipts.specs.Branches.{block_at}
+use Rattle.saw_receipts.specs.Heads.{head_of}
 use Rattle.saw_journal.specs.Ledger.{Ledger}
 use Rattle.saw_journal.specs.Linked.{AreLinked}
 use Rattle.saw_journal.specs.Standing.{head_at}

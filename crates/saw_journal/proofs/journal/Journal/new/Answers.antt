@@ -5,6 +5,7 @@ use Rattle.std.specs.Map.{keys_of, values_of}
 use Rattle.indexmap.specs.IndexMap.{keys, values}
 use Rattle.saw_address.specs.Maps.{no_entries}
 use Rattle.saw_journal.specs.Standing.{IsStanding}
+use Rattle.saw_journal.specs.declared.branch_ids.BranchIds.{BranchIds}
 use Rattle.saw_merkle.specs.States.{States, knows}
 use Rattle.saw_receipts.specs.declared.block.BlockRecord.{BlockRecord}
 use Rattle.saw_journal.proofs.journal.Journal.new.Goals as goal
@@ -14,9 +15,10 @@ none_there [] after block is = cc
 none_there (first ∷ before) after block is = cc
 
 -- a journal without blocks
-first_stands : (hash : List ℕ → List ℕ) (ids : List (List ℕ)) (blocks : List BlockRecord) (states : States) (limit : ℕ) → ids ≡ [] → blocks ≡ []
-    → states ≡ knows hash finite.empty no_entries → IsStanding hash ids blocks None states limit
-first_stands hash ids blocks states limit no_ids no_blocks opening = rw (no_ids, no_blocks) (record {
+first_stands : (hash : List ℕ → List ℕ) (ids : List (List ℕ)) (blocks : List BlockRecord) (kept : List BranchIds) (states : States) (limit : ℕ)
+    → ids ≡ [] → blocks ≡ [] → kept ≡ []
+    → states ≡ knows hash finite.empty no_entries → IsStanding hash ids blocks kept None states limit
+first_stands hash ids blocks kept states limit no_ids no_blocks none_kept opening = rw (no_ids, no_blocks, none_kept) (record {
   founded = record {
     ids_are = refl;
     linked = λ before after block is. absurd (none_there before after block is);
@@ -24,6 +26,7 @@ first_stands hash ids blocks states limit no_ids no_blocks opening = rw (no_ids,
     first = refl;
     opening = λ none. opening;
   };
+  branches = tt;
   chosen = refl;
   room = omega arith;
 })
@@ -31,5 +34,5 @@ first_stands hash ids blocks states limit no_ids no_blocks opening = rw (no_ids,
 pub invariant_of-result : goal.invariant_of-result
 invariant_of-result g c =
     let none = c.new-2.ensures.empty in
-    first_stands g.H.NodeHasher.hash_of (map string_bytes (keys c.new-2.result)) (values c.new-2.result) c.in_ok-state.state c.args.limit
-    (ap (λ entries. map string_bytes (keys_of entries)) none) (ap values_of none) c.in_ok-state.ensures
+    first_stands g.H.NodeHasher.hash_of (map string_bytes (keys c.new-2.result)) (values c.new-2.result) c.new-3.result.items c.in_ok-state.state c.args.limit
+    (ap (λ entries. map string_bytes (keys_of entries)) none) (ap values_of none) c.new-3.ensures.items c.in_ok-state.ensures

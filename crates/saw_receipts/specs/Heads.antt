@@ -5,7 +5,7 @@ use Rattle.std.specs.Cmp.Lexicographic.{slice_cmp}
 use Rattle.sha2.specs.Sha256.{sha256}
 use Rattle.saw_receipts.specs.declared.block.BlockRecord.{BlockRecord}
 use Rattle.saw_receipts.specs.declared.block.Parent.{Parent}
-use Rattle.saw_journal.specs.Branches.{branch_of}
+use Rattle.saw_receipts.specs.Branches.{branch_of}
 
 -- by which blocks of equal number are told apart
 abbrev pub weight_of : BlockRecord → List ℕ

@@ -12,9 +12,8 @@ use Rattle.saw_context.proofs.Coming.{from_comes}
 use Rattle.saw_messages.specs.Reasons.{has_own_reason}
 use Rattle.saw_messages.specs.TxShapes.{TxShape}
 use Rattle.saw_messages.specs.declared.talk.Turn.{Turn}
-use Rattle.saw_journal.specs.Judgement.{Runs}
-use Rattle.saw_journal.specs.Ledger.{RunsBy}
-use Rattle.saw_journal.proofs.Testing.{are_one, one_is, one_itself}
+use Rattle.saw_receipts.specs.Running.{Runs, RunsBy}
+use Rattle.saw_receipts.proofs.Testing.{are_one, one_is, one_itself}
 
 -- a map with batches
 abbrev Place : Type 0
