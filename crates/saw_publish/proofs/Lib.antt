@@ -1,0 +1,17 @@
+mod Applied
+pub mod AppliedAgain
+mod Drafting
+mod Drops
+mod Executed
+mod Fitting
+pub mod GoodBlocks
+mod HexTexts
+mod Making
+mod Planned
+mod Putting
+mod Roomy
+mod RulesAgain
+mod SerialAgain
+mod Staying
+mod Taking
+mod Written

@@ -1,0 +1,37 @@
+use Rattle.std.proofs.Common.{List, map, ap, ◌∙◌}
+use Rattle.std.specs.Prelude.{option_copied}
+use Rattle.saw_context.specs.Outcome.{map_after}
+use Rattle.saw_merkle.specs.States.{map_at}
+use Rattle.saw_messages.specs.TxShapes.{BatchShape}
+use Rattle.saw_node.specs.Trees.{root_of_map}
+use Rattle.saw_publish.specs.Candidates.{Signing}
+use Rattle.saw_publish.specs.Fates.{still_in}
+use Rattle.saw_publish.proofs.Making.{empty_is, made_block, made_nothing, some_are}
+use Rattle.saw_publish.proofs.building.make.Goals as goal
+
+pub returns-then-is_empty-clause-answers : goal.returns-then-is_empty-clause-answers
+returns-then-is_empty-clause-answers g c =
+    λ draft is.
+    let signing : Signing = record { key = g.G.Signer.key_text c.args.signer.now; signature = g.G.Signer.signature c.args.signer.now } in
+    let ids_are = c.in_ok-ids.ensures
+    ∙ ap (λ fates. still_in fates (map (λ (batch : BatchShape). batch.id) c.as_slice-2.result.now)) c.as_slice.ensures
+    ∙ ap (λ (batches : List BatchShape). still_in c.args.ran.fates (map (λ (batch : BatchShape). batch.id) batches)) c.as_slice-2.ensures in
+    made_nothing g.H.NodeHasher.hash_of signing c.args.state.now (option_copied c.args.parent) (map_at c.args.state.now c.args.before.now) c.args.sifted c.args.ran draft is c.in_ok-ids.ids ids_are
+    (empty_is c.in_ok-ids.ids c.is_empty.result c.is_empty.ensures c.if-is_empty.true) c.nothing_valid.result c.nothing_valid.ensures
+
+pub returns-clause-answers : goal.returns-clause-answers
+returns-clause-answers g c =
+    λ draft is.
+    let signing : Signing = record { key = g.G.Signer.key_text c.args.signer.now; signature = g.G.Signer.signature c.args.signer.now } in
+    let hash = g.H.NodeHasher.hash_of in
+    let before = map_at c.args.state.now c.args.before.now in
+    let ids_are = c.in_ok-ids.ensures
+    ∙ ap (λ fates. still_in fates (map (λ (batch : BatchShape). batch.id) c.as_slice-2.result.now)) c.as_slice.ensures
+    ∙ ap (λ (batches : List BatchShape). still_in c.args.ran.fates (map (λ (batch : BatchShape). batch.id) batches)) c.as_slice-2.ensures in
+    let written = rw (c.deref-2.ensures.value, c.as_slice-4.ensures, c.as_slice-5.ensures) at c.in_ok-block.ensures in
+    made_block hash signing c.args.state.now (option_copied c.args.parent) before c.args.sifted c.args.ran draft is c.in_ok-ids.ids ids_are
+    (some_are c.in_ok-ids.ids c.is_empty.result c.is_empty.ensures c.if-is_empty.false) c.in_ok-root.root
+    (c.in_ok-root.ensures.ok ∙ ap (λ changes. root_of_map hash (map_after before changes)) c.as_slice-3.ensures) c.in_ok-header.header
+    c.in_ok-header.ensures c.in_ok-header-2.header.items c.in_ok-header-2.ensures c.sign-signature.result
+    (c.sign-signature.ensures.is ∙ ap (g.G.Signer.signature c.args.signer.now) c.deref.ensures.value) c.in_ok-block.block.items written
+    c.in_ok-losses_of.field-0 c.in_ok-losses_of.ensures

@@ -1,0 +1,10 @@
+pub mod LowerFaults
+pub mod Fates
+pub mod Room
+pub mod Drafts
+pub mod Candidates
+pub mod Building
+pub mod Sifting
+pub mod Ran
+pub mod Dropping
+pub mod Laws

@@ -1,0 +1,122 @@
+//! The block of a candidate.
+
+ghost use Rattle.std.specs.Prelude.{◌≡◌, ◌<◌, ◌+◌, ◌++◌, ◌^◌, ℕ, List, length, map, option_copied, IfOk, IfSome, OnOk};
+ghost use Rattle.hex.specs.Hex.{encode_lower};
+ghost use Rattle.saw_messages.specs.declared.batch.Batch.{Batch};
+ghost use Rattle.saw_wire.specs.Writing.{bytes_pieces, spelled};
+ghost use Rattle.saw_wire.specs.Written.{texts_pieces};
+ghost use Rattle.saw_publish.specs.Candidates.{header_with, number_behind, previous_of, signed_block};
+ghost use Rattle.saw_messages.specs.Blocks.{block_pieces};
+ghost use Rattle.saw_publish.specs.Fates.{still_in};
+ghost use Rattle.saw_publish.specs.Room.{encoded};
+
+use crate::fates::Fate;
+use saw_messages::{BlockHeader, TxBatch};
+use saw_node::NodeHash;
+use saw_receipts::Parent;
+use saw_verify::Signer;
+use saw_wire::{Bytes, Items, Text, put_bytes, put_item};
+use std::alloc::{AllocError, Global};
+
+/// What a first block states as the id of the block before it.
+const NO_BLOCK: &str = "0000000000000000";
+
+/// What the consensus bytes begin with, and here are.
+const DEVMODE: &[u8] = b"Devmode";
+
+fn number_behind(parent: Option<&Parent>) -> u64
+    requires { IfSome (option_copied parent) (λ parent. parent.number + 1 < 2 ^ 64) }
+    ensures { result ≡ number_behind (option_copied parent.entry) }
+{
+    match parent {
+        None => 0,
+        Some(parent) => parent.number + 1,
+    }
+}
+
+fn previous_of(alloc: Global, parent: Option<&Parent>) -> Result<Text, AllocError>
+    ensures { IfOk result (λ id. id ≡ previous_of (option_copied parent.entry)) }
+{
+    match parent {
+        None => Text::from_str(alloc, NO_BLOCK),
+        Some(parent) => parent.id.try_clone(alloc),
+    }
+}
+
+fn digits_of(alloc: Global, root: NodeHash) -> Result<Text, AllocError>
+    ensures { IfOk result (λ text. text ≡ encode_lower root) }
+{
+    let digits = hex::encode(alloc, root.as_slice())?;
+    Ok(Text::from_string(digits))
+}
+
+/// The header of a block with these batches that leaves a map with this root.
+pub(crate) fn header_of<G: Signer>(
+    alloc: Global,
+    signer: &G,
+    parent: Option<&Parent>,
+    ids: Items<Text>,
+    root: NodeHash,
+) -> Result<BlockHeader, AllocError>
+    requires { IfSome (option_copied parent) (λ parent. parent.number + 1 < 2 ^ 64) }
+    ensures { IfOk result (λ header.
+        header ≡ header_with (G.key_text signer.now) (option_copied parent.entry) ids root) }
+{
+    Ok(BlockHeader {
+        block_num: number_behind(parent),
+        previous_block_id: previous_of(alloc, parent)?,
+        signer_public_key: Text::from_str(alloc, signer.key())?,
+        batch_ids: ids,
+        consensus: Bytes::from_slice(alloc, DEVMODE)?,
+        state_root_hash: digits_of(alloc, root)?,
+    })
+}
+
+/// The ids of the batches that stay in.
+pub(crate) fn ids_of(
+    alloc: Global,
+    fates: &[Fate],
+    batches: &[TxBatch],
+) -> Result<Items<Text>, AllocError>
+    ensures { IfOk result (λ ids. ids ≡ still_in fates.now (map (λ batch. batch.id) batches.now)) }
+{
+    let mut ids = Items::new(alloc);
+    for (fate, batch) in fates.iter().zip(batches) {
+        if fate.is_none() {
+            ids.push(batch.id.try_clone(alloc)?)?;
+        }
+    }
+    Ok(ids)
+}
+
+// Appends the batches that stay in, as they are written.
+fn put_batches(out: &mut Vec<u8>, fates: &[Fate], encodings: &[Bytes]) -> Result<(), AllocError>
+    ensures { OnOk result (out.new.items
+        ≡ out.old.items ++ spelled (texts_pieces 3 (still_in fates.now encodings.now))) }
+{
+    for (fate, encoding) in fates.iter().zip(encodings) {
+        if fate.is_none() {
+            put_item(out, 3, encoding.as_slice())?;
+        }
+    }
+    Ok(())
+}
+
+/// The bytes of a block with this header, its signature and the batches that stay in.
+pub(crate) fn block_bytes(
+    alloc: Global,
+    header: &[u8],
+    signature: &[u8],
+    fates: &[Fate],
+    encodings: &[Bytes],
+) -> Result<Vec<u8>, AllocError>
+    ensures { IfOk result (λ out. (batches : List Batch) (signs : List ℕ → List ℕ) → encodings.now ≡ map encoded batches
+        → signature.now ≡ signs header.now
+        → out.items ≡ spelled (block_pieces (signed_block signs header.now (still_in fates.now batches)))) }
+{
+    let mut out = Vec::new(alloc);
+    put_bytes(&mut out, 1, header)?;
+    put_bytes(&mut out, 2, signature)?;
+    put_batches(&mut out, fates, encodings)?;
+    Ok(out)
+}

@@ -1,0 +1,17 @@
+//! Candidates: a new block of waiting batches behind the head.
+#![tactic(auto)]
+
+mod block;
+mod building;
+mod candidate;
+mod dropped;
+mod fates;
+mod fault;
+mod laws;
+mod run;
+mod sift;
+
+pub use building::build;
+pub use candidate::Candidate;
+pub use fault::PublishFault;
+pub use laws::{applied_apply_again, candidate_is_good};
