@@ -9,13 +9,19 @@ use Rattle.saw_checks.specs.declared.fault.StructureFault.TheVariants as blocks
 use Rattle.saw_merkle.specs.declared.tree.Listed.{Listed}
 use Rattle.saw_messages.specs.declared.outcome.Reason.{Reason}
 use Rattle.saw_messages.specs.declared.outcome.Reason.TheVariants as reasons
+use Rattle.saw_messages.specs.declared.receipt.Receipt.{Receipt}
+use Rattle.saw_messages.specs.Receipts.{receipt_pieces}
 use Rattle.saw_plan.specs.declared.sorted.DropCause.{DropCause}
 use Rattle.saw_plan.specs.declared.sorted.DropCause.TheVariants as causes
 use Rattle.saw_receipts.specs.declared.block.BlockRecord.{BlockRecord}
+use Rattle.saw_receipts.specs.declared.loss.Loss.{Loss}
+use Rattle.saw_receipts.specs.declared.loss.LossCause.{LossCause}
+use Rattle.saw_receipts.specs.declared.loss.LossCause.TheVariants as losses
 use Rattle.saw_receipts.specs.declared.verdict.BlockFault.{BlockFault}
 use Rattle.saw_receipts.specs.declared.verdict.BlockFault.TheVariants as faults
 use Rattle.saw_receipts.specs.declared.verdict.Verdict.{Verdict}
 use Rattle.saw_receipts.specs.declared.verdict.Verdict.TheVariants.{Committed, Stored, Refused}
+use Rattle.saw_wire.specs.Writing.{spelled}
 
 abbrev pub spaced : ℕ → List ℕ
 spaced n = codes " " ++ decimal n
@@ -107,3 +113,27 @@ head_line head = codes "head " ++ head_text head ++ 10 ∷ []
 -- an entry of the state
 abbrev pub listed_line : Listed → List ℕ
 listed_line listed = encode_lower listed.address ++ codes " " ++ encode_lower listed.value ++ 10 ∷ []
+
+-- why a candidate leaves a batch out
+abbrev pub loss_text : LossCause → List ℕ
+loss_text (losses.Check fault) = codes " check " ++ batch_fault_text fault
+loss_text losses.Room = codes " room"
+loss_text (losses.Static cause) = codes " static " ++ cause_text cause
+loss_text (losses.Invalid t reason) = codes " invalid" ++ spaced t ++ spaced (reason_number reason)
+
+-- a batch that a candidate leaves out, by its place in the list
+abbrev pub loss_line : Loss → List ℕ
+loss_line loss = codes "batch" ++ spaced loss.place ++ codes " dropped" ++ loss_text loss.cause ++ 10 ∷ []
+
+-- the id of a transaction, and its receipt as it is spelled
+abbrev pub receipt_line : Receipt → List ℕ
+receipt_line receipt =
+    receipt.transaction_id ++ codes " " ++ encode_lower (spelled (receipt_pieces receipt)) ++ 10 ∷ []
+
+-- number and id of the block that holds a batch, if one does
+abbrev pub status_text : Option BlockRecord → List ℕ
+status_text None = codes "UNKNOWN"
+status_text (Some block) = codes "COMMITTED" ++ spaced block.number ++ codes " " ++ block.id
+
+abbrev pub status_line : Option BlockRecord → List ℕ
+status_line block = status_text block ++ 10 ∷ []

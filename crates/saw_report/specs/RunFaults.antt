@@ -11,6 +11,8 @@ use Rattle.saw_node.specs.Nodes.{encoding_of, shape_of}
 use Rattle.saw_node.specs.declared.node.Node.{Node}
 use Rattle.saw_verify.specs.declared.attest.AttestFault.{AttestFault}
 use Rattle.saw_verify.specs.declared.attest.AttestFault.TheVariants as lists
+use Rattle.saw_wire.specs.declared.fault.MessageFault.{MessageFault}
+use Rattle.saw_wire.specs.declared.fault.MessageFault.TheVariants as messages
 use Rattle.saw_report.specs.Lines.{spaced}
 use Rattle.saw_report.specs.declared.run_fault.RunFault.{RunFault}
 use Rattle.saw_report.specs.declared.run_fault.RunFault.TheVariants as runs
@@ -37,6 +39,12 @@ abbrev pub fault_of_list : AttestFault → RunFault
 fault_of_list (lists.BadLine line) = runs.BadLine line
 fault_of_list lists.OutOfMemory = runs.Memory
 
+-- of the bytes of a batch list
+abbrev pub fault_of_message : MessageFault → RunFault
+fault_of_message (messages.Wire fault) = runs.BadList
+fault_of_message (messages.NotUtf8 field) = runs.BadList
+fault_of_message messages.OutOfMemory = runs.Memory
+
 -- ---- what is told of a fault
 
 -- the status of a fault
@@ -55,6 +63,7 @@ status_of runs.FileMissing = 11
 status_of runs.FileTooLong = 11
 status_of runs.FileFailed = 11
 status_of (runs.BadLine line) = 11
+status_of runs.BadList = 11
 
 -- a node as it is told: the lower-case digits of its encoding
 abbrev pub node_digits : Node → List ℕ
@@ -76,6 +85,7 @@ fault_words runs.FileMissing = codes " missing"
 fault_words runs.FileTooLong = codes " toolong"
 fault_words runs.FileFailed = codes " failed"
 fault_words (runs.BadLine line) = codes " badline" ++ spaced line
+fault_words runs.BadList = codes " badlist"
 
 -- what tells why a run ended: its status and the fault
 abbrev pub fault_line : RunFault → List ℕ

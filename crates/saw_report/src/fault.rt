@@ -1,13 +1,13 @@
-//! The words of faults.
+//! The words of faults and losses.
 
 ghost use Rattle.std.specs.Prelude.{◌≡◌, ◌++◌, codes, OnOk};
-ghost use Rattle.saw_report.specs.Lines.{spaced, batch_fault_text, structure_text, cause_text, reason_number, fault_text};
+ghost use Rattle.saw_report.specs.Lines.{spaced, batch_fault_text, structure_text, cause_text, reason_number, fault_text, loss_text};
 
 use crate::word::{put_counted, put_number, put_pair, put_placed, put_spaced};
 use saw_checks::{BatchFault, StructureFault};
 use saw_messages::Reason;
 use saw_plan::DropCause;
-use saw_receipts::BlockFault;
+use saw_receipts::{BlockFault, LossCause};
 use std::alloc::{AllocError, Global};
 
 /// Appends what a fault says.
@@ -40,6 +40,30 @@ pub(crate) fn put_fault(
         } => {
             out.extend_from_slice(b"15 Root ")?;
             out.extend_from_slice(&computed.to_hex())
+        }
+    }
+}
+
+/// Appends why a batch is left out.
+pub(crate) fn put_loss(
+    alloc: Global,
+    out: &mut Vec<u8>,
+    cause: &LossCause,
+) -> Result<(), AllocError>
+    ensures { OnOk result (out.new.items ≡ out.old.items ++ loss_text cause.now) }
+{
+    match cause {
+        LossCause::Check(fault) => {
+            out.extend_from_slice(b" check ")?;
+            put_batch_fault(alloc, out, fault)
+        }
+        LossCause::Room => out.extend_from_slice(b" room"),
+        LossCause::Static(cause) => {
+            out.extend_from_slice(b" static ")?;
+            put_cause(alloc, out, cause)
+        }
+        LossCause::Invalid { t, reason } => {
+            put_pair(alloc, out, b" invalid", *t as u64, reason_number(reason))
         }
     }
 }

@@ -1,13 +1,15 @@
-//! The lines of blocks, of the head and of entries.
+//! The lines of blocks, of the head, of entries, of losses, of receipts and of batches.
 
 ghost use Rattle.std.specs.Prelude.{◌≡◌, ◌++◌, length, sum_by, option_copied, is_some, IfOk, OnOk};
 ghost use Rattle.saw_receipts.specs.Verdicts.{is_accepted};
 ghost use Rattle.saw_report.specs.Lines.{record_text, accepted_text, verdict_text, verdict_line, head_line, listed_line};
+ghost use Rattle.saw_report.specs.Lines.{loss_line, receipt_line, status_line, status_text};
 
-use crate::fault::put_fault;
-use crate::word::{put_number, put_spaced};
+use crate::fault::{put_fault, put_loss};
+use crate::word::{put_counted, put_number, put_spaced};
 use saw_merkle::Listed;
-use saw_receipts::{BatchRecord, BlockRecord, Verdict};
+use saw_messages::{Receipt, encode_receipt};
+use saw_receipts::{BatchRecord, BlockRecord, Loss, Verdict};
 use std::alloc::{AllocError, Global};
 
 /// The line of the block at this place of the stream, counted from 0. The block is given where it is accepted.
@@ -52,6 +54,59 @@ pub fn listed_line(alloc: Global, listed: &Listed) -> Result<Vec<u8>, AllocError
     out.extend_from_slice(value.as_bytes())?;
     out.push(b'\n')?;
     Ok(out)
+}
+
+/// The line of a batch that a candidate leaves out.
+pub fn loss_line(alloc: Global, loss: &Loss) -> Result<Vec<u8>, AllocError>
+    ensures { IfOk result (λ line. line.items ≡ loss_line loss.now) }
+{
+    let mut out = Vec::new(alloc);
+    put_counted(alloc, &mut out, b"batch", loss.place as u64)?;
+    out.extend_from_slice(b" dropped")?;
+    put_loss(alloc, &mut out, &loss.cause)?;
+    out.push(b'\n')?;
+    Ok(out)
+}
+
+/// The line of a transaction's receipt.
+pub fn receipt_line(alloc: Global, receipt: &Receipt) -> Result<Vec<u8>, AllocError>
+    ensures { IfOk result (λ line. line.items ≡ receipt_line receipt.now) }
+{
+    let mut out = Vec::new(alloc);
+    out.extend_from_slice(receipt.transaction_id.as_str().as_bytes())?;
+    out.push(b' ')?;
+    let encoding = encode_receipt(alloc, receipt)?;
+    let digits = hex::encode(alloc, &encoding)?;
+    out.extend_from_slice(digits.as_bytes())?;
+    out.push(b'\n')?;
+    Ok(out)
+}
+
+/// The line of a batch: the block that holds it is given, if one does.
+pub fn status_line(alloc: Global, block: Option<&BlockRecord>) -> Result<Vec<u8>, AllocError>
+    ensures { IfOk result (λ line. line.items ≡ status_line (option_copied block.entry)) }
+{
+    let mut out = Vec::new(alloc);
+    put_status(alloc, &mut out, block)?;
+    out.push(b'\n')?;
+    Ok(out)
+}
+
+fn put_status(
+    alloc: Global,
+    out: &mut Vec<u8>,
+    block: Option<&BlockRecord>,
+) -> Result<(), AllocError>
+    ensures { OnOk result (out.new.items ≡ out.old.items ++ status_text (option_copied block.entry)) }
+{
+    match block {
+        None => out.extend_from_slice(b"UNKNOWN"),
+        Some(block) => {
+            put_counted(alloc, out, b"COMMITTED", block.number)?;
+            out.push(b' ')?;
+            out.extend_from_slice(block.id.as_str().as_bytes())
+        }
+    }
 }
 
 fn put_verdict(

@@ -68,6 +68,7 @@ fn put_words(line: &mut ShortLine, fault: &RunFault)
             put(line, b" badline");
             put_spaced(line, number);
         }
+        RunFault::BadList => put(line, b" badlist"),
     }
 }
 
@@ -92,6 +93,7 @@ impl RunFault {
             RunFault::FileTooLong => 11,
             RunFault::FileFailed => 11,
             RunFault::BadLine { line: _ } => 11,
+            RunFault::BadList => 11,
         }
     }
 }

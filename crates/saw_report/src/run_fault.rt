@@ -4,6 +4,7 @@ ghost use Rattle.std.specs.Prelude.{◌≡◌};
 ghost use Rattle.saw_report.specs.declared.run_fault.RunFault.TheVariants.{Memory};
 
 use saw_io::{FrameFault, ShelfFault, SinkFault};
+use saw_messages::MessageFault;
 use saw_node::Node;
 use saw_verify::AttestFault;
 use std::alloc::AllocError;
@@ -34,6 +35,8 @@ pub enum RunFault {
     FileFailed,
     /// The first line that is no attestation, counted from 1.
     BadLine { line: u32 },
+    /// The batch list does not decode.
+    BadList,
 }
 
 impl From<FrameFault> for RunFault {
@@ -100,6 +103,21 @@ impl From<AttestFault> for RunFault {
         match fault {
             AttestFault::BadLine { line } => RunFault::BadLine { line },
             AttestFault::OutOfMemory => RunFault::Memory,
+        }
+    }
+}
+
+impl From<MessageFault> for RunFault {
+    ghost use Rattle.std.specs.Prelude.{◌≡◌};
+    ghost use Rattle.saw_report.specs.RunFaults.{fault_of_message};
+
+    ghost from_gives = { λ e fault. fault ≡ fault_of_message e };
+
+    fn from(fault: MessageFault) -> Self {
+        match fault {
+            MessageFault::Wire(_) => RunFault::BadList,
+            MessageFault::NotUtf8 { field: _ } => RunFault::BadList,
+            MessageFault::OutOfMemory => RunFault::Memory,
         }
     }
 }
