@@ -75,4 +75,5 @@ fn laws_of_blocks_and_streams(_rt: HostRuntime) {
     saw_top::options_are_read();
     saw_top::order_of_options_does_not_show();
     saw_top::built_in_processors_tell();
+    saw_top::candidate_is_accepted();
 }

@@ -33,6 +33,7 @@ fn each_fault_of_a_run_has_its_line(rt: HostRuntime) -> Result<(), Fail> {
         (RunFault::FileTooLong, "fault 11 toolong\n"),
         (RunFault::FileFailed, "fault 11 failed\n"),
         (RunFault::BadLine { line: 2 }, "fault 11 badline 2\n"),
+        (RunFault::BadList, "fault 11 badlist\n"),
     ];
     for (fault, line) in &lines {
         let short = short_fault_line(fault).ok_or("a short line")?;

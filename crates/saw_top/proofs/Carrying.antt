@@ -1,6 +1,6 @@
 -- What was done of what was asked, by what was prepared.
 use Rattle.std.proofs.Common.{◌≡◌, inl, ℕ, true, false, List, [], ◌++◌, Option, Some, None, Result, Ok, Err, refl, sym, subst, arith}
-use Rattle.std.specs.Prelude.{IfSome, is_some}
+use Rattle.std.specs.Prelude.{IfSome, IsSome, is_some}
 use Rattle.std.specs.Io.KnownBytes.{Appends}
 use Rattle.std.proofs.KnownBytes.{Appends-nil, Consumes-nil}
 use Rattle.saw_context.specs.Outcome.{Processors}
@@ -98,6 +98,20 @@ unasked accepts processors wish before none =
       named = λ same. absurd cc;
       does = faulted processors before before.shelf _ runs.Words (refl, refl) (whole runs.Words _ _);
     })
+
+-- memory was refused while the words were read
+pub unread : (accepts : Accepts) (processors : Processors) (wish : Option Wish) (before : Outside) → IsSome wish
+    → CarriesOut (world_with accepts processors) wish before before (Err runs.Memory)
+unread accepts processors None before some = absurd cc
+unread accepts processors (Some wish) before some =
+    let at = files_in before.shelf.tells in
+    record {
+      files = at.0;
+      held = at.1;
+      words = (λ same. absurd cc, λ none. absurd cc);
+      named = λ same. absurd cc;
+      does = nothing processors before before.shelf wish.task (prepared_with accepts at.0 wish.list) (Err runs.Memory) tt (λ bytes left. tt);
+    }
 
 module _ (accepts : Accepts) (processors : Processors) (task : Task) (list : Option (List ℕ)) (before : Outside) (held : End Files) where
   abbrev wish : Option Wish

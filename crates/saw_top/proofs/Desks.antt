@@ -10,8 +10,10 @@ use Rattle.saw_context.specs.Serial.{serial}
 use Rattle.saw_crew.specs.Desks.{Failed, KeepsDesks}
 use Rattle.saw_faults.specs.Counts.{Rose}
 use Rattle.saw_journal.specs.Clashing.{Clashes}
-use Rattle.saw_journal.specs.Judgement.{Rules, Runs, rules_with}
-use Rattle.saw_journal.specs.Ledger.{IsFull, Ledger, RunsBy, Says}
+use Rattle.saw_journal.specs.Judgement.{Rules, rules_with}
+use Rattle.saw_receipts.specs.Running.{Runs}
+use Rattle.saw_journal.specs.Ledger.{IsFull, Ledger, Says}
+use Rattle.saw_receipts.specs.Running.{RunsBy}
 use Rattle.saw_messages.specs.TxShapes.{TxShape}
 use Rattle.saw_messages.specs.declared.talk.Action.{Action}
 use Rattle.saw_messages.specs.declared.talk.Turn.{Turn}

@@ -10,7 +10,8 @@ use Rattle.std.proofs.lemmas.List.{append-nil}
 use Rattle.saw_context.specs.Outcome.{Processors}
 use Rattle.saw_faults.specs.Counts.{Rose}
 use Rattle.saw_io.specs.Shelf.{Files}
-use Rattle.saw_journal.specs.Heads.{head_of}
+use Rattle.saw_receipts.specs.Heads.{head_branch, head_of}
+use Rattle.saw_queries.specs.Queries.{block_with, branch_receipts}
 use Rattle.saw_journal.specs.Judgement.{Kept, Rules}
 use Rattle.saw_journal.specs.Ledger.{Ledger, map_under}
 use Rattle.saw_merkle.specs.States.{States}
@@ -30,14 +31,14 @@ use Rattle.saw_top.specs.Headline.{Does, EndsBy, GoesOn, HasCause, HasFault, IsD
 use Rattle.saw_top.specs.History.{History, map_behind, records_of}
 use Rattle.saw_top.specs.StreamJudging.{JudgesFor}
 use Rattle.saw_top.specs.StreamJudging.{IsPrompt, IsUpToDate, Judges, JudgesAll, JudgesBy, JudgesTo, StopsAtClash}
-use Rattle.saw_top.specs.Listing.{entries_under, listing, listing_status}
+use Rattle.saw_top.specs.Listing.{batch_status, batch_text, entries_under, found_status, listing, listing_status, receipts_status, receipts_text}
 use Rattle.saw_top.specs.Outside.{End, Outside, Sides, SomeRose, WritesFront, lines_side, other_side, sides_of}
 use Rattle.saw_top.specs.Reports.{report}
 use Rattle.saw_top.specs.Run.{Answer, AtEnd, end_by, ending_of, fault_of, history_of, noted_by, run_of, status_by, task_answer, written_by}
 use Rattle.saw_top.specs.KeptBlocks.{IsKept}
 use Rattle.saw_top.specs.World.{Accepts, TellsAll, rules_by}
 use Rattle.saw_top.specs.declared.task.Ending.{Ending}
-use Rattle.saw_top.specs.declared.task.Ending.TheVariants.{Head, Entries}
+use Rattle.saw_top.specs.declared.task.Ending.TheVariants.{Batch, Head, Entries, Receipts}
 use Rattle.saw_top.specs.declared.task.Lines.{Lines}
 use Rattle.saw_top.specs.declared.task.Lines.TheVariants.{All, Refused}
 use Rattle.saw_top.specs.declared.task.Task.{Task}
@@ -98,6 +99,8 @@ pub record Finishes (middle out : End (List ℕ)) (text : List ℕ) (code : ℕ)
 none_noted : (rules : Rules) (ending : Ending) (run : History) → (ending_of rules ending run).noted ≡ []
 none_noted rules Head run = refl
 none_noted rules (Entries prefix) run = refl
+none_noted rules Receipts run = refl
+none_noted rules (Batch id) run = refl
 
 module _ (rules : Rules) (task : Task) (bytes : List ℕ) (left : Option (List ℕ)) (before middle : Outside)
     (aside : other_side task.lines middle ≡ other_side task.lines before) where
@@ -289,17 +292,28 @@ end_at rules lines (Entries prefix) bytes first last refused ledger judged =
     sym (right_head rules (run_of rules bytes).accepted ledger.states judged.after.kept (head_of blocks) refl)
     ∙ ap (λ (all : List BlockRecord). map_under ledger.states (head_of all)) (sym judged.after.blocks) in
     (ap (listing prefix) same, ap (listing_status prefix) same)
+end_at rules lines Receipts bytes first last refused ledger judged =
+    (ap receipts_text (sym judged.after.blocks), ap receipts_status (sym judged.after.blocks))
+end_at rules lines (Batch id) bytes first last refused ledger judged =
+    (ap (batch_text id) (sym judged.after.blocks), ap (batch_status id) (sym judged.after.blocks))
 
 -- ---- what was done
+
+-- nothing to list, or something
+by_test : (none : Bool) (status : ℕ) → status ≡ (if none then 8 else 0) → (status ≡ 0) ⊎ (status ≡ 8)
+by_test true status is = inr is
+by_test false status is = inl is
+
+by_found : (found : Option BlockRecord) (status : ℕ) → status ≡ found_status found → (status ≡ 0) ⊎ (status ≡ 8)
+by_found None status is = inr is
+by_found (Some block) status is = inl is
 
 done_at : (ending : Ending) (ledger : Ledger) (refused : Bool) (status : ℕ) → status ≡ code_at ending ledger refused → IsDone ending status
 done_at Head ledger true status is = inr is
 done_at Head ledger false status is = inl is
-done_at (Entries prefix) ledger refused status is = by_test (length (entries_under prefix (map_under ledger.states (head_of ledger.blocks))) == 0) is
-  where
-    by_test : (none : Bool) → status ≡ (if none then 8 else 0) → (status ≡ 0) ⊎ (status ≡ 8)
-    by_test true is = inr is
-    by_test false is = inl is
+done_at (Entries prefix) ledger refused status is = by_test (length (entries_under prefix (map_under ledger.states (head_of ledger.blocks))) == 0) status is
+done_at Receipts ledger refused status is = by_test (length (branch_receipts (head_branch ledger.blocks)) == 0) status is
+done_at (Batch id) ledger refused status is = by_found (block_with id (head_branch ledger.blocks)) status is
 
 -- the lines on the notes, by whether the task has them there
 noted_by_lines : (lines : Lines) (before after : Outside) → other_side lines after ≡ other_side lines before → (written : List ℕ)
@@ -336,6 +350,7 @@ module _ (processors : Processors) (task : Task) (accepts : Accepts) (before : O
   cause_of after runs.FileTooLong kind alike read write peer = absurd cc
   cause_of after runs.FileFailed kind alike read write peer = absurd cc
   cause_of after (runs.BadLine line) kind alike read write peer = absurd cc
+  cause_of after runs.BadList kind alike read write peer = absurd cc
   cause_of after runs.Read kind alike read write peer = ((record { accepts = accepts }, refl), read refl)
   cause_of after runs.Write kind alike read write peer = ((record { accepts = accepts }, refl), write refl)
   cause_of after runs.Peer kind alike read write peer = ((record { accepts = accepts }, refl), peer refl)

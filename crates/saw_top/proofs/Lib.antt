@@ -5,6 +5,7 @@ pub mod Steps
 pub mod Streams
 pub mod Standings
 pub mod Desks
+pub mod OneByOne
 pub mod Listed
 pub mod Wholes
 pub mod Doing
@@ -16,3 +17,6 @@ pub mod Prepares
 pub mod Carrying
 pub mod Endings
 pub mod Frames
+pub mod BehindHead
+pub mod NextBlocks
+pub mod Candidates

@@ -11,10 +11,10 @@ use Rattle.std.proofs.lemmas.List.{map-append}
 use Rattle.std.proofs.lemmas.Slice.Eq.{bytes_eq-Decides}
 use mathlib.Core.Path.{fun_ext}
 use Rattle.saw_messages.specs.Distinct.{are_distinct}
-use Rattle.saw_top.specs.Command.{Given, Wish, of_names, asks, attest, prefix, state_under, are_of, given_in, is_joined, is_known, names_of, value_of}
+use Rattle.saw_top.specs.Command.{Given, Wish, of_names, asks, attest, batch, batch_at, prefix, state_under, are_of, given_in, is_joined, is_known, names_of, value_of}
 use Rattle.saw_top.specs.Command.{wish_with}
-use Rattle.saw_top.specs.declared.task.Ending.TheVariants.{Head}
-use Rattle.saw_top.specs.declared.task.Lines.TheVariants.{All}
+use Rattle.saw_top.specs.declared.task.Ending.TheVariants.{Head, Receipts}
+use Rattle.saw_top.specs.declared.task.Lines.TheVariants.{All, Refused}
 use Rattle.saw_top.specs.OptionLaws.{IsOption, spelled}
 
 -- ---- both forms
@@ -117,4 +117,6 @@ order_of_options_does_not_show word before after one other =
     rw (
       made_swapped (attest ∷ []) (λ value. Some (asks All Head (value attest))) before after one other,
       made_swapped (attest ∷ prefix ∷ []) (λ value. state_under (unwrap_or (value prefix) []) (value attest)) before after one other,
+      made_swapped (attest ∷ []) (λ value. Some (asks Refused Receipts (value attest))) before after one other,
+      made_swapped (attest ∷ batch ∷ []) (λ value. batch_at (value batch) (value attest)) before after one other,
     ) refl

@@ -19,6 +19,7 @@ is_of_stream runs.FileMissing = false
 is_of_stream runs.FileTooLong = false
 is_of_stream runs.FileFailed = false
 is_of_stream (runs.BadLine line) = false
+is_of_stream runs.BadList = false
 is_of_stream fault = true
 
 abbrev pub IsOfStream : RunFault → Type 0

@@ -13,7 +13,7 @@ use Rattle.saw_node.specs.Trees.{IsNodeOf}
 use Rattle.saw_node.specs.declared.node.Node.{Node}
 use Rattle.saw_report.specs.RunFaults.{fault_line, status_of}
 use Rattle.saw_report.specs.declared.run_fault.RunFault.{RunFault}
-use Rattle.saw_report.specs.declared.run_fault.RunFault.TheVariants.{Words, Truncated, TooLong, Read, Write, Peer, Collision, Memory, FileMissing, FileTooLong, FileFailed, BadLine}
+use Rattle.saw_report.specs.declared.run_fault.RunFault.TheVariants.{Words, Truncated, TooLong, Read, Write, Peer, Collision, Memory, FileMissing, FileTooLong, FileFailed, BadLine, BadList}
 use Rattle.saw_top.specs.Answers.{Prepared, answer_for, answer_of, prepared, task_by}
 use Rattle.saw_top.specs.Clashing.{AreAlike}
 use Rattle.saw_top.specs.Command.{Wish, wish_of}
@@ -26,7 +26,7 @@ use Rattle.saw_top.specs.Run.{Answer, notes_of}
 use Rattle.saw_top.specs.Stream.{Reads}
 use Rattle.saw_top.specs.World.{TellsAll, World}
 use Rattle.saw_top.specs.declared.task.Ending.{Ending}
-use Rattle.saw_top.specs.declared.task.Ending.TheVariants.{Head, Entries}
+use Rattle.saw_top.specs.declared.task.Ending.TheVariants.{Batch, Head, Entries, Receipts}
 use Rattle.saw_top.specs.declared.task.Lines.TheVariants.{All}
 use Rattle.saw_top.specs.declared.task.Task.{Task}
 
@@ -120,6 +120,8 @@ module _ (answer : Answer) (bytes : List ℕ) (left : Option (List ℕ)) (writte
 abbrev pub IsDone : Ending → ℕ → Type 0
 IsDone Head status = (status ≡ 0) ⊎ (status ≡ 1)
 IsDone (Entries prefix) status = (status ≡ 0) ⊎ (status ≡ 8)
+IsDone Receipts status = (status ≡ 0) ⊎ (status ≡ 8)
+IsDone (Batch id) status = (status ≡ 0) ⊎ (status ≡ 8)
 
 module _ (processors : Processors) (task : Task) (ready : Result Prepared RunFault) (before after : Outside) where
   abbrev pub IsReady : Type 0
@@ -140,6 +142,7 @@ module _ (processors : Processors) (task : Task) (ready : Result Prepared RunFau
   HasCause (Err FileMissing) = ComesEarly FileMissing
   HasCause (Err FileTooLong) = ComesEarly FileTooLong
   HasCause (Err (BadLine line)) = ComesEarly (BadLine line)
+  HasCause (Err BadList) = ComesEarly BadList
   HasCause (Err FileFailed) = Rose before.shelf.faults after.shelf.faults × IsStill
   HasCause (Err Memory) = Unit {0}
   HasCause (Err Read) = IsReady × Rose before.input.faults after.input.faults

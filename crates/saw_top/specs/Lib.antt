@@ -20,3 +20,4 @@ pub mod Headline
 pub mod Laws
 pub mod OptionLaws
 pub mod BuiltInLaws
+pub mod CandidateLaws

@@ -1,18 +1,18 @@
 -- What a run answers to a stream.
 use Rattle.std.specs.Prelude.{ℕ, Bool, List, [], ◌++◌, length, Option, Some, None, if◌then◌else◌}
 use Rattle.saw_address.specs.Maps.{StateMap}
-use Rattle.saw_journal.specs.Heads.{head_of}
+use Rattle.saw_receipts.specs.Heads.{head_of}
 use Rattle.saw_journal.specs.Judgement.{Rules}
 use Rattle.saw_report.specs.Lines.{head_line}
 use Rattle.saw_report.specs.RunFaults.{fault_line, status_of}
 use Rattle.saw_report.specs.declared.run_fault.RunFault.{RunFault}
 use Rattle.saw_report.specs.declared.run_fault.RunFault.TheVariants.{Blocks}
 use Rattle.saw_top.specs.History.{History, history, map_behind, maps_of, records_of, some_refused, tried}
-use Rattle.saw_top.specs.Listing.{listing, listing_status}
+use Rattle.saw_top.specs.Listing.{batch_status, batch_text, listing, listing_status, receipts_status, receipts_text}
 use Rattle.saw_top.specs.Reports.{report}
 use Rattle.saw_top.specs.Stream.{stream_of}
 use Rattle.saw_top.specs.declared.task.Ending.{Ending}
-use Rattle.saw_top.specs.declared.task.Ending.TheVariants.{Head, Entries}
+use Rattle.saw_top.specs.declared.task.Ending.TheVariants.{Batch, Head, Entries, Receipts}
 use Rattle.saw_top.specs.declared.task.Lines.{Lines}
 use Rattle.saw_top.specs.declared.task.Lines.TheVariants.{All, Refused}
 use Rattle.saw_top.specs.declared.task.Task.{Task}
@@ -88,7 +88,7 @@ module _ (rules : Rules) where
   abbrev pub head_map : History → StateMap
   head_map run = map_behind rules run.accepted (head_of (records_of run.accepted))
 
-  -- the head's line, or the entries of its state
+  -- the head's line, the entries of its state, the receipts of its branch, or where a batch is
   abbrev pub ending_of : Ending → History → AtEnd
   ending_of Head run = record {
     output = head_line (head_of (records_of run.accepted));
@@ -99,6 +99,16 @@ module _ (rules : Rules) where
     output = listing prefix (head_map run);
     noted = [];
     status = listing_status prefix (head_map run);
+  }
+  ending_of Receipts run = record {
+    output = receipts_text (records_of run.accepted);
+    noted = [];
+    status = receipts_status (records_of run.accepted);
+  }
+  ending_of (Batch id) run = record {
+    output = batch_text id (records_of run.accepted);
+    noted = [];
+    status = batch_status id (records_of run.accepted);
   }
 
   -- unless there is a fault

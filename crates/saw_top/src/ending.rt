@@ -1,10 +1,10 @@
-//! What is written behind the lines of blocks: the head's line, or the entries of the head's state.
+//! What is written behind the lines of blocks: the head's line, the entries of its state, or what its branch tells.
 
 ghost use Rattle.std.specs.Prelude.{◌≡◌, ◌≤◌, ◌⊎◌, ℕ, take, IfOk, IfErr, OnErr, OnOk, IsErrOf};
 ghost use Rattle.std.specs.Io.KnownBytes.{Appends};
 ghost use Rattle.std.specs.List.{flat_map};
 ghost use Rattle.saw_faults.specs.Counts.{Rose};
-ghost use Rattle.saw_journal.specs.Heads.{head_of};
+ghost use Rattle.saw_receipts.specs.Heads.{head_of};
 ghost use Rattle.saw_journal.specs.Ledger.{map_under};
 ghost use Rattle.saw_report.specs.Lines.{head_line, listed_line};
 ghost use Rattle.saw_top.specs.Listing.{listing, listing_status};
@@ -12,6 +12,7 @@ ghost use Rattle.saw_top.specs.Run.{status_by};
 ghost use Rattle.saw_top.specs.Ends.{code_at, text_at};
 
 use crate::Status;
+use crate::branch::{list_receipts, tell_batch};
 use crate::task::Ending;
 use saw_address::Prefix;
 use saw_io::{Sink, write_all};
@@ -41,6 +42,8 @@ pub(crate) fn finish<O: Sink>(
     match ending {
         Ending::Head => tell_head(alloc, output, journal, refused),
         Ending::Entries { prefix } => list_head(alloc, output, journal, prefix),
+        Ending::Receipts => list_receipts(alloc, output, journal),
+        Ending::Batch { id } => tell_batch(alloc, output, journal, id),
     }
 }
 

@@ -1,6 +1,7 @@
 //! What is done with the blocks of a stream.
 
 use saw_address::Prefix;
+use saw_wire::Text;
 
 /// Which blocks have a line: all on the output, or the refused ones on the notes.
 #[derive(Clone, Copy, Debug, PartialEq, Eq)]
@@ -16,6 +17,10 @@ pub(crate) enum Ending {
     Head,
     /// The entries of the head's state under a prefix.
     Entries { prefix: Prefix },
+    /// The receipts of the head's branch.
+    Receipts,
+    /// Which block of the head's branch holds the batch of this id.
+    Batch { id: Text },
 }
 
 /// The lines of the blocks, and then the end.

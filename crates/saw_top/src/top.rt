@@ -45,7 +45,7 @@ fn carry_out<T: Threads + Sync, S: Source, O: Sink, N: Sink, F: Shelf, V: Verifi
         (world input.old output.old notes.old shelf.old)
         (world input.new output.new notes.new shelf.new) result }
 {
-    let Some(command) = read_command(words) else {
+    let Some(command) = read_command(alloc, words)? else {
         return Err(RunFault::Words);
     };
     let Command { task, attest } = command;
@@ -59,13 +59,14 @@ fn carry_out<T: Threads + Sync, S: Source, O: Sink, N: Sink, F: Shelf, V: Verifi
 /// Answers the words and the block stream, and tells on the notes why a run ended early. The words are those after the
 /// program's name; the shelf has the files that they name.
 ///
-/// `apply` writes a line for each block and then the head's; `state` tells the refused blocks on the notes and writes the
-/// entries of the head's state. Each takes `--attest NAME`, and `state` takes `--prefix P`.
+/// `apply` writes a line for each block and then the head's. The others tell the refused blocks on the notes: `state` writes
+/// the entries of the head's state, `receipts` the receipts of the head's branch, a line each, and `status --batch ID` the
+/// block of that branch that holds the batch, or `UNKNOWN`. Each takes `--attest NAME`, and `state` takes `--prefix P`.
 ///
 /// The status is 0 where all was done, and of `apply` 1 where a block was refused; 2 for words of no form; 3 for a stream
 /// that is none; 4 where reading failed, 5 where writing failed, 7 where memory was refused; 8 where there is nothing to
-/// list; 9 where two different nodes of one hash were met; 10 where no more blocks can be accepted; 11 for an attestation
-/// list that is missing, too long, not read or bad.
+/// list, or no block that holds the batch; 9 where two different nodes of one hash were met; 10 where no more blocks can be
+/// accepted; 11 for an attestation list that is missing, too long, not read or bad.
 pub fn run<T: Threads + Sync, S: Source, O: Sink, N: Sink, F: Shelf, V: Verifier>(
     rt: &T,
     alloc: Global,
