@@ -52,7 +52,8 @@ def head(major, number):
 
 
 def text(string):
-    return head(3, len(string)) + string.encode()
+    written = string.encode()
+    return head(3, len(written)) + written
 
 
 # State.
@@ -96,8 +97,13 @@ def root(values):
 # Blocks. An operation is a verb, a name and a value.
 
 
+def operation(verb, name, value):
+    """The payload of a transaction."""
+    return head(5, 3) + text("Verb") + text(verb) + text("Name") + text(name) + text("Value") + head(0, value)
+
+
 def transaction(verb, name, value):
-    payload = head(5, 3) + text("Verb") + text(verb) + text("Name") + text(name) + text("Value") + head(0, value)
+    payload = operation(verb, name, value)
     header = record(1, KEY) + record(3, "intkey") + record(4, "1.0")
     header += record(5, address(name)) + record(7, address(name))
     header += record(9, sha512(payload)) + record(10, KEY)

@@ -43,6 +43,7 @@ class Transaction:
     payload: bytes
     inputs: list
     outputs: list
+    nonce: str = ""
 
 
 def signed(key, header, parts=b""):
@@ -53,7 +54,7 @@ def signed(key, header, parts=b""):
 
 def written_transaction(tx, batcher):
     header = record(1, batcher) + record(3, tx.family) + record(4, "1.0")
-    header += b"".join(record(5, declared) for declared in tx.inputs)
+    header += b"".join(record(5, declared) for declared in tx.inputs) + record(6, tx.nonce)
     header += b"".join(record(7, declared) for declared in tx.outputs)
     header += record(9, sha512(tx.payload)) + record(10, tx.signer)
     return signed(tx.signer, header, record(3, tx.payload))
