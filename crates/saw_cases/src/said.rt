@@ -3,10 +3,14 @@
 use crate::given::Given;
 use saw_io::{MemoryShelf, MemorySink, MemorySource};
 use saw_top::run;
-use saw_verify::DevVerifier;
+use saw_verify::{DevSigner, DevVerifier};
+use saw_wire::Text;
 use std::alloc::{AllocError, Global};
 use std::collections::BTreeMap;
 use std::thread::Threads;
+
+/// The key of development.
+const KEY: &str = "020000000000000000000000000000000000000000000000000000000000000000";
 
 /// Output, notes and status of a run.
 #[derive(Drop)]
@@ -32,6 +36,13 @@ impl Said {
     }
 }
 
+/// Who signs candidates.
+fn signer(alloc: Global) -> Result<DevSigner, AllocError> {
+    let key = Text::from_str(alloc, KEY)?;
+    // The key has the form of one.
+    DevSigner::new(key).ok_or(AllocError)
+}
+
 /// What a run says to what is given.
 pub(crate) fn said_to<T: Threads + Sync>(
     rt: &T,
@@ -47,6 +58,7 @@ pub(crate) fn said_to<T: Threads + Sync>(
         notes,
         fetches,
     } = given;
+    let signer = signer(alloc)?;
     let mut source = MemorySource::new(input, reads);
     let mut output = MemorySink::new(alloc, writes);
     let mut notes = MemorySink::new(alloc, notes);
@@ -60,6 +72,7 @@ pub(crate) fn said_to<T: Threads + Sync>(
         &mut notes,
         &mut shelf,
         &DevVerifier,
+        &signer,
     );
     Ok(Said {
         output: output.bytes().to_vec(alloc)?,

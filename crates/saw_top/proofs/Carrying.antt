@@ -1,25 +1,31 @@
 -- What was done of what was asked, by what was prepared.
 use Rattle.std.proofs.Common.{◌≡◌, inl, ℕ, true, false, List, [], ◌++◌, Option, Some, None, Result, Ok, Err, refl, sym, subst, arith}
-use Rattle.std.specs.Prelude.{IfSome, IsSome, is_some}
+use Rattle.std.specs.Prelude.{◌||◌, IfSome, IsSome, is_some}
 use Rattle.std.specs.Io.KnownBytes.{Appends}
 use Rattle.std.proofs.KnownBytes.{Appends-nil, Consumes-nil}
 use Rattle.saw_context.specs.Outcome.{Processors}
+use Rattle.saw_faults.specs.Counts.{Rose}
 use Rattle.saw_io.specs.Shelf.{Files}
+use Rattle.saw_publish.specs.Candidates.{Signing}
 use Rattle.saw_report.specs.declared.run_fault.RunFault.{RunFault}
 use Rattle.saw_report.specs.declared.run_fault.RunFault.TheVariants as runs
 use Rattle.saw_station.specs.declared.offer.Offer.{Offer}
-use Rattle.saw_top.specs.Answers.{Prepared, answer_for, prepared_with, vouched}
+use Rattle.saw_top.specs.Answers.{Prepared, answer_for, prepared}
 use Rattle.saw_top.specs.Command.{Wish}
 use Rattle.saw_top.specs.Headline.{CarriesOut, Does, EndsBy, GoesOn, HasCause, HasFault, Shows}
 use Rattle.saw_top.specs.History.{ended, history}
 use Rattle.saw_top.specs.Outside.{End, Outside, sides, sides_of}
 use Rattle.saw_top.specs.Run.{faulty, noted_by, written_by}
-use Rattle.saw_top.specs.Vouching.{Prepares, PreparesBy}
+use Rattle.saw_top.specs.Vouching.{ComesBy, Prepares, prepared_in}
 use Rattle.saw_top.specs.World.{Accepts, TellsAll, world_with}
 use Rattle.saw_top.specs.declared.task.Lines.TheVariants.{All, Refused}
 use Rattle.saw_top.specs.declared.task.Task.{Task}
 use Rattle.saw_top.proofs.Prepares.{files_in}
 use Rattle.saw_top.proofs.Doing.{no_front}
+
+-- who signs, by the key's text and the signatures
+abbrev pub signs : List ℕ → (List ℕ → List ℕ) → Signing
+signs key signature = record { key = key; signature = signature }
 
 -- ---- nothing was taken or written
 
@@ -56,7 +62,7 @@ module _ (processors : Processors) (before : Outside) (held : End Files) where
   abbrev still : Outside
   still = record before { shelf = held }
 
-  nothing : (task : Task) (ready : Result Prepared RunFault) (came : Result ℕ RunFault) → HasCause processors task ready before still came
+  pub nothing : (task : Task) (ready : Result Prepared RunFault) (came : Result ℕ RunFault) → HasCause processors task ready before still came
       → ((bytes : List ℕ) (left : Option (List ℕ)) → EndsBy (answer_for processors task ready bytes) bytes left (sides_of before still) came)
       → Does processors task ready before still came
   nothing task ready came cause ends = record {
@@ -87,9 +93,9 @@ module _ (processors : Processors) (before : Outside) (held : End Files) where
   faulted task fault cause ends = nothing task (Err fault) (Err fault) cause ends
 
 -- the words ask for nothing
-pub unasked : (accepts : Accepts) (processors : Processors) (wish : Option Wish) (before : Outside) → wish ≡ None
-    → CarriesOut (world_with accepts processors) wish before before (Err runs.Words)
-unasked accepts processors wish before none =
+pub unasked : (accepts : Accepts) (signing : Signing) (processors : Processors) (wish : Option Wish) (before : Outside) → wish ≡ None
+    → CarriesOut (world_with accepts signing processors) wish before before (Err runs.Words)
+unasked accepts signing processors wish before none =
     let at = files_in before.shelf.tells in
     rw none (record {
       files = at.0;
@@ -100,36 +106,43 @@ unasked accepts processors wish before none =
     })
 
 -- memory was refused while the words were read
-pub unread : (accepts : Accepts) (processors : Processors) (wish : Option Wish) (before : Outside) → IsSome wish
-    → CarriesOut (world_with accepts processors) wish before before (Err runs.Memory)
-unread accepts processors None before some = absurd cc
-unread accepts processors (Some wish) before some =
+pub unread : (accepts : Accepts) (signing : Signing) (processors : Processors) (wish : Option Wish) (before : Outside) → IsSome wish
+    → CarriesOut (world_with accepts signing processors) wish before before (Err runs.Memory)
+unread accepts signing processors None before some = absurd cc
+unread accepts signing processors (Some wish) before some =
     let at = files_in before.shelf.tells in
     record {
       files = at.0;
       held = at.1;
       words = (λ same. absurd cc, λ none. absurd cc);
       named = λ same. absurd cc;
-      does = nothing processors before before.shelf wish.task (prepared_with accepts at.0 wish.list) (Err runs.Memory) tt (λ bytes left. tt);
+      does = nothing processors before before.shelf wish.task (prepared (world_with accepts signing processors at.0) (Some wish)) (Err runs.Memory) tt (λ bytes left. tt);
     }
 
-module _ (accepts : Accepts) (processors : Processors) (task : Task) (list : Option (List ℕ)) (before : Outside) (held : End Files) where
+module _ (accepts : Accepts) (signing : Signing) (processors : Processors) (task : Task) (list batches : Option (List ℕ)) (before : Outside)
+    (held : End Files) where
   abbrev wish : Option Wish
-  wish = Some (record { task = task; list = list })
+  wish = Some (record { task = task; list = list; batches = batches })
 
   abbrev asked : Outside
   asked = record before { shelf = held }
 
-  abbrev ready_by : Files → Result Prepared RunFault
-  ready_by files = prepared_with accepts files list
+  abbrev ready_in : Files → Result Prepared RunFault
+  ready_in files = prepared_in accepts signing list batches files
+
+  -- why a fetch failed
+  abbrev why : Type 0
+  why = ((is_some list || is_some batches) ≡ true) × Rose before.shelf.faults held.faults
+
+  abbrev Carried : RunFault → Type 0
+  Carried fault = CarriesOut (world_with accepts signing processors) wish before asked (Err fault)
 
   -- nothing was prepared
-  pub unprepared : (fault : RunFault) → Prepares accepts list before.shelf held (Err fault)
-      → CarriesOut (world_with accepts processors) wish before asked (Err fault)
+  pub unprepared : (fault : RunFault) → Prepares accepts signing list batches before.shelf held (Err fault) → Carried fault
   unprepared fault prepares = by_fault fault prepares.by
     where
-      carried : (fault : RunFault) → (fault ≡ runs.Words → ⊥) → (fault ≡ runs.FileFailed → is_some list ≡ true)
-          → Does processors task (ready_by prepares.files) before asked (Err fault) → CarriesOut (world_with accepts processors) wish before asked (Err fault)
+      carried : (fault : RunFault) → (fault ≡ runs.Words → ⊥) → (fault ≡ runs.FileFailed → (is_some list || is_some batches) ≡ true)
+          → Does processors task (ready_in prepares.files) before asked (Err fault) → Carried fault
       carried fault other named does = record {
         files = prepares.files;
         held = prepares.held;
@@ -138,40 +151,48 @@ module _ (accepts : Accepts) (processors : Processors) (task : Task) (list : Opt
         does = does;
       }
 
-      of_list : (fault : RunFault) → (fault ≡ runs.Words → ⊥) → (fault ≡ runs.FileFailed → is_some list ≡ true) → ready_by prepares.files ≡ Err fault
+      of_file : (fault : RunFault) → (fault ≡ runs.Words → ⊥) → (fault ≡ runs.FileFailed → (is_some list || is_some batches) ≡ true)
+          → ready_in prepares.files ≡ Err fault
           → HasCause processors task (Err fault) before asked (Err fault)
           → ((bytes : List ℕ) (left : Option (List ℕ)) → EndsBy (faulty fault) bytes left (sides_of before asked) (Err fault))
-          → CarriesOut (world_with accepts processors) wish before asked (Err fault)
-      of_list fault other named is cause ends = carried fault other named
+          → Carried fault
+      of_file fault other named is cause ends = carried fault other named
           (subst (λ (r : Result Prepared RunFault). Does processors task r before asked (Err fault)) (sym is)
           (faulted processors before held task fault cause ends))
 
-      by_fault : (fault : RunFault) → PreparesBy accepts list before.shelf held (ready_by prepares.files) (Err fault)
-          → CarriesOut (world_with accepts processors) wish before asked (Err fault)
-      by_fault runs.FileMissing by = of_list runs.FileMissing (λ same. cc) (λ same. absurd cc) by.0 (refl, refl) (whole runs.FileMissing _ _)
-      by_fault runs.FileTooLong by = of_list runs.FileTooLong (λ same. cc) (λ same. absurd cc) by.0 (refl, refl) (whole runs.FileTooLong _ _)
-      by_fault (runs.BadLine line) by = of_list (runs.BadLine line) (λ same. cc) (λ same. absurd cc) by.0 (refl, refl) (whole (runs.BadLine line) _ _)
+      by_fault : (fault : RunFault) → ComesBy why (ready_in prepares.files) (Err fault) → Carried fault
+      by_fault runs.FileMissing by = of_file runs.FileMissing (λ same. cc) (λ same. absurd cc) by.0 (refl, refl) (whole runs.FileMissing _ _)
+      by_fault runs.FileTooLong by = of_file runs.FileTooLong (λ same. cc) (λ same. absurd cc) by.0 (refl, refl) (whole runs.FileTooLong _ _)
+      by_fault (runs.BadLine line) by = of_file (runs.BadLine line) (λ same. cc) (λ same. absurd cc) by.0 (refl, refl) (whole (runs.BadLine line) _ _)
+      by_fault runs.BadList by = of_file runs.BadList (λ same. cc) (λ same. absurd cc) by.0 (refl, refl) (whole runs.BadList _ _)
       by_fault runs.FileFailed by = carried runs.FileFailed (λ same. cc) (λ same. by.0)
-          (nothing processors before held task (ready_by prepares.files) (Err runs.FileFailed) (by.1, refl) (λ bytes left. tt))
+          (nothing processors before held task (ready_in prepares.files) (Err runs.FileFailed) (by.1, refl) (λ bytes left. tt))
       by_fault runs.Memory by = carried runs.Memory (λ same. cc) (λ same. absurd cc)
-          (nothing processors before held task (ready_by prepares.files) (Err runs.Memory) tt (λ bytes left. tt))
+          (nothing processors before held task (ready_in prepares.files) (Err runs.Memory) tt (λ bytes left. tt))
       by_fault fault by = absurd cc
 
-  module _ (made : Accepts) (prepares : Prepares accepts list before.shelf held (Ok made)) where
+  module _ (made : Prepared) (prepares : Prepares accepts signing list batches before.shelf held (Ok made)) where
     -- memory was refused for the desks
-    pub deskless : CarriesOut (world_with accepts processors) wish before asked (Err runs.Memory)
+    pub deskless : Carried runs.Memory
     deskless = record {
       files = prepares.files;
       held = prepares.held;
       words = (λ same. absurd cc, λ none. absurd cc);
       named = λ same. absurd cc;
-      does = nothing processors before held task (prepared_with accepts prepares.files list) (Err runs.Memory) tt (λ bytes left. tt);
+      does = nothing processors before held task (ready_in prepares.files) (Err runs.Memory) tt (λ bytes left. tt);
     }
+
+    -- by a shelf that nothing is asked of
+    abbrev quiet : End Files
+    quiet = record { tells = None; faults = 0 }
+
+    abbrev Causes : Outside → Outside → Result ℕ RunFault → Type 0
+    Causes from to came = HasCause processors task (Ok made) (record from { shelf = quiet }) (record to { shelf = quiet }) came
 
     -- the task was done; no fetch failed any more, since none was needed
     pub with_ready : (after : Outside) (came : Result ℕ RunFault) → after.shelf ≡ held
-        → ((from to : End Files) → Does processors task (vouched made) (record before { shelf = from }) (record after { shelf = to }) came)
-        → CarriesOut (world_with accepts processors) wish before after came
+        → ((from to : End Files) → Does processors task (Ok made) (record before { shelf = from }) (record after { shelf = to }) came)
+        → CarriesOut (world_with accepts signing processors) wish before after came
     with_ready after came same does = record {
       files = prepares.files;
       held = prepares.held;
@@ -180,22 +201,17 @@ module _ (accepts : Accepts) (processors : Processors) (task : Task) (list : Opt
       does = subst (λ (r : Result Prepared RunFault). Does processors task r before after came) (sym prepares.by) (does before.shelf after.shelf);
     }
       where
-        quiet : End Files
-        quiet = record { tells = None; faults = 0 }
-
-        causes : HasCause processors task (vouched made) (record before { shelf = quiet }) (record after { shelf = quiet }) came
+        causes : Causes before after came
         causes = (does quiet quiet).cause
 
         never_words : came ≡ Err runs.Words → ⊥
         never_words is =
-            let early : HasCause processors task (vouched made) (record before { shelf = quiet }) (record after { shelf = quiet }) (Err runs.Words) =
-            subst (HasCause processors task (vouched made) (record before { shelf = quiet }) (record after { shelf = quiet })) is causes in
+            let early : Causes before after (Err runs.Words) = subst (Causes before after) is causes in
             cc early.0
 
         never_failed : came ≡ Err runs.FileFailed → ⊥
         never_failed is =
-            let failed : HasCause processors task (vouched made) (record before { shelf = quiet }) (record after { shelf = quiet }) (Err runs.FileFailed) =
-            subst (HasCause processors task (vouched made) (record before { shelf = quiet }) (record after { shelf = quiet })) is causes in
+            let failed : Causes before after (Err runs.FileFailed) = subst (Causes before after) is causes in
             omega (arith, failed.0)
 
 -- without processors elsewhere

@@ -1,5 +1,5 @@
 -- Desks with equal offers, whose processors tell their actions.
-use Rattle.std.proofs.Common.{◌≡◌, ◌⊎◌, ◌<◌, inl, inr, ℕ, Bool, true, false, List, [], ◌∷◌, ◌++◌, length, length-append, Option, Some, None, refl, ap}
+use Rattle.std.proofs.Common.{◌≡◌, ◌⊎◌, ◌<◌, ◌≤◌, inl, inr, ℕ, Bool, true, false, List, [], ◌∷◌, ◌++◌, length, length-append, Option, Some, None, refl, ap}
 use Rattle.std.proofs.Common.{subst, arith}
 use Rattle.std.specs.Prelude.{is_some}
 use Rattle.std.proofs.Math.Path.{fun_ext}
@@ -52,6 +52,30 @@ module _ {R : Type 0} (faults : R → ℕ) (offered : R → List Offer) where
   failed_rose (old ∷ olds) (new ∷ news) keeps (inl rose) = counted old.remote new.remote old.offers new.offers olds news keeps.0.remote (inl rose)
   failed_rose (old ∷ olds) (new ∷ news) keeps (inr failed) =
       counted old.remote new.remote old.offers new.offers olds news keeps.0.remote (inr (failed_rose olds news keeps.1 failed))
+
+-- ---- a count that rose since a later time
+
+module _ {R : Type 0} (faults : R → ℕ) (offered : R → List Offer) where
+  since_one : (before after : Option R) (one other : List Offer) (olds mids : List (Place R)) (news : List ℕ) → is_some after ≡ is_some before
+      → faults_by faults before ≤ faults_by faults after
+      → ((news : List ℕ) → SomeRose (counts_of faults mids) news → SomeRose (counts_of faults olds) news)
+      → SomeRose (counts_of faults (record { remote = after; offers = other } ∷ mids)) news
+      → SomeRose (counts_of faults (record { remote = before; offers = one } ∷ olds)) news
+  since_one None None one other olds mids news same later others rose = others news rose
+  since_one None (Some remote) one other olds mids news same later others rose = absurd cc
+  since_one (Some remote) None one other olds mids news same later others rose = absurd cc
+  since_one (Some remote) (Some next) one other olds mids [] same later others rose = absurd rose
+  since_one (Some remote) (Some next) one other olds mids (new ∷ news) same later others (inl rose) = inl (omega (arith, later, rose))
+  since_one (Some remote) (Some next) one other olds mids (new ∷ news) same later others (inr rose) = inr (others news rose)
+
+  -- it rose since an earlier time too
+  pub rose_since : (olds mids : List (Place R)) (news : List ℕ) → KeepsDesks faults offered olds mids → SomeRose (counts_of faults mids) news
+      → SomeRose (counts_of faults olds) news
+  rose_since [] [] news keeps rose = rose
+  rose_since [] (mid ∷ mids) news keeps rose = absurd keeps
+  rose_since (old ∷ olds) [] news keeps rose = absurd keeps
+  rose_since (old ∷ olds) (mid ∷ mids) news keeps rose =
+      since_one old.remote mid.remote old.offers mid.offers olds mids news keeps.0.remote keeps.0.later (λ ns. rose_since olds mids ns keeps.1) rose
 
 -- ---- the built-in processors alone
 
@@ -109,22 +133,27 @@ module _ (processors : Processors) (told : TellsAll processors) where
   batches_told [] = refl
   batches_told (txs ∷ batches) = rw (txs_told txs) (batches_told batches)
 
+  -- so there is one way to run batches
+  pub one_way : (runs : Runs) → RunsBy processors runs → runs ≡ (λ m batches. serial processors m batches)
+  one_way runs by =
+      fun_ext (λ m. fun_ext (λ batches. from_told processors [] m batches (runs m batches) (batches_told batches) (by.serial m batches)))
+
 module _ (processors : Processors) (told : TellsAll processors) (accepts : Accepts) (old : Ledger) (content : List ℕ) (runs : Runs)
     (by : RunsBy processors runs) where
-  one_way : runs ≡ (λ m batches. serial processors m batches)
-  one_way = fun_ext (λ m. fun_ext (λ batches. from_told processors [] m batches (runs m batches) (batches_told processors told batches) (by.serial m batches)))
+  same_runs : runs ≡ (λ m batches. serial processors m batches)
+  same_runs = one_way processors told runs by
 
   pub says_told : (verdict : Verdict) (new : Ledger) → Says (rules_with first_half accepts runs) old content verdict new
       → Says (rules_by accepts processors) old content verdict new
-  says_told verdict new says = subst (λ (runs : Runs). Says (rules_with first_half accepts runs) old content verdict new) one_way says
+  says_told verdict new says = subst (λ (runs : Runs). Says (rules_with first_half accepts runs) old content verdict new) same_runs says
 
   pub clash_told : (kept given : Node) → Clashes (rules_with first_half accepts runs) old.states old.blocks content kept given
       → Clashes (rules_by accepts processors) old.states old.blocks content kept given
   clash_told kept given clash =
-      subst (λ (runs : Runs). Clashes (rules_with first_half accepts runs) old.states old.blocks content kept given) one_way clash
+      subst (λ (runs : Runs). Clashes (rules_with first_half accepts runs) old.states old.blocks content kept given) same_runs clash
 
   pub full_told : IsFull (rules_with first_half accepts runs) old content → IsFull (rules_by accepts processors) old content
-  full_told full = subst (λ (runs : Runs). IsFull (rules_with first_half accepts runs) old content) one_way full
+  full_told full = subst (λ (runs : Runs). IsFull (rules_with first_half accepts runs) old content) same_runs full
 
 grown_some : (blocks : List BlockRecord) (block : BlockRecord) (more : List BlockRecord) → more ≡ blocks ++ block ∷ [] → 0 < length more
 grown_some blocks block more is = omega (arith, ap (λ (l : List BlockRecord). length l) is, length-append blocks (block ∷ []))

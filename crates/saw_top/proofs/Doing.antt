@@ -1,7 +1,7 @@
 -- What a task does, by how the judging of the stream ended and what was written behind it.
-use Rattle.std.proofs.Common.{◌≡◌, ◌⊎◌, ◌≤◌, inl, inr, ℕ, Bool, true, false, List, [], ◌++◌, length, take, Option, Some, None, Result, Ok, Err, refl}
+use Rattle.std.proofs.Common.{◌≡◌, ◌⊎◌, ◌≤◌, inl, inr, ℕ, Bool, true, false, List, [], ◌++◌, Option, Some, None, Result, Ok, Err, refl}
 use Rattle.std.proofs.Common.{sym, ap, subst, ◌∙◌, append_assoc, arith}
-use Rattle.std.specs.Prelude.{IfErr, IfOk, IfSome, IsErrOf, OnErr, if◌then◌else◌, ◌==◌}
+use Rattle.std.specs.Prelude.{IfErr, IfOk, IfSome, IsErrOf, if◌then◌else◌}
 use Rattle.std.specs.FinMap as finite
 use Rattle.std.specs.Io.KnownBytes.{Appends}
 use Rattle.std.specs.List.{AllByRecursion}
@@ -11,41 +11,51 @@ use Rattle.saw_context.specs.Outcome.{Processors}
 use Rattle.saw_faults.specs.Counts.{Rose}
 use Rattle.saw_io.specs.Shelf.{Files}
 use Rattle.saw_receipts.specs.Heads.{head_branch, head_of}
-use Rattle.saw_queries.specs.Queries.{block_with, branch_receipts}
 use Rattle.saw_journal.specs.Judgement.{Kept, Rules}
 use Rattle.saw_journal.specs.Ledger.{Ledger, map_under}
 use Rattle.saw_merkle.specs.States.{States}
 use Rattle.saw_node.specs.Hashes.{first_half}
-use Rattle.saw_node.specs.Nodes.{shape_of}
+use Rattle.saw_node.specs.Nodes.{Shape, shape_of}
 use Rattle.saw_node.specs.Trees.{IsNodeOf}
 use Rattle.saw_node.specs.declared.node.Node.{Node}
 use Rattle.saw_receipts.specs.declared.block.BlockRecord.{BlockRecord}
 use Rattle.saw_report.specs.Lines.{head_line}
 use Rattle.saw_report.specs.declared.run_fault.RunFault.TheVariants as runs
 use Rattle.saw_report.specs.declared.run_fault.RunFault.{RunFault}
-use Rattle.saw_top.specs.Answers.{vouched}
+use Rattle.saw_top.specs.Answers.{Prepared, ready_with}
 use Rattle.saw_top.specs.Clashing.{TellsAlike}
-use Rattle.saw_top.specs.Ends.{code_at, text_at}
+use Rattle.saw_top.specs.Ends.{ClashesAt, Finishes, IsOfEnd, WritesBy, WritesEnd, draft_in, end_at, plain_end}
+use Rattle.saw_top.specs.Publishing.{Waiting, candidate_status, candidate_text, draft_at, losses_text, parent_at}
+use Rattle.saw_publish.specs.Building.{map_before}
+use Rattle.saw_publish.specs.Candidates.{Signing}
+use Rattle.saw_publish.specs.Drafts.{Draft, draft_of}
+use Rattle.saw_receipts.specs.Branches.{ids_in}
+use Rattle.saw_messages.specs.declared.batch.Batch.{Batch as BatchMessage}
+use Rattle.saw_address.specs.Maps.{StateMap, no_entries}
+use Rattle.saw_merkle.specs.Clashes.{IsNodeOfBoth}
 use Rattle.saw_top.specs.EndingFaults.{IsOfStream}
-use Rattle.saw_top.specs.Headline.{Does, EndsBy, GoesOn, HasCause, HasFault, IsDone, KeepsUp, MeetsClash, Shows}
-use Rattle.saw_top.specs.History.{History, map_behind, records_of}
+use Rattle.saw_top.specs.Headline.{Does, EndsBy, GoesOn, HasCause, HasFault, IsDone, KeepsUp, MeetsClash, MeetsClashBehind, Shows}
+use Rattle.saw_top.specs.History.{History, IsAmong, map_behind, maps_of, records_of, some_refused}
 use Rattle.saw_top.specs.StreamJudging.{JudgesFor}
 use Rattle.saw_top.specs.StreamJudging.{IsPrompt, IsUpToDate, Judges, JudgesAll, JudgesBy, JudgesTo, StopsAtClash}
-use Rattle.saw_top.specs.Listing.{batch_status, batch_text, entries_under, found_status, listing, listing_status, receipts_status, receipts_text}
+use Rattle.saw_top.specs.Listing.{batch_status, batch_text, listing, listing_status, receipts_status, receipts_text}
 use Rattle.saw_top.specs.Outside.{End, Outside, Sides, SomeRose, WritesFront, lines_side, other_side, sides_of}
 use Rattle.saw_top.specs.Reports.{report}
 use Rattle.saw_top.specs.Run.{Answer, AtEnd, end_by, ending_of, fault_of, history_of, noted_by, run_of, status_by, task_answer, written_by}
-use Rattle.saw_top.specs.KeptBlocks.{IsKept}
+use Rattle.saw_top.specs.KeptBlocks.{IsAfter, IsKept}
 use Rattle.saw_top.specs.World.{Accepts, TellsAll, rules_by}
 use Rattle.saw_top.specs.declared.task.Ending.{Ending}
-use Rattle.saw_top.specs.declared.task.Ending.TheVariants.{Batch, Head, Entries, Receipts}
+use Rattle.saw_top.specs.declared.task.Ending.TheVariants.{Batch, Candidate, Head, Entries, Receipts}
 use Rattle.saw_top.specs.declared.task.Lines.{Lines}
 use Rattle.saw_top.specs.declared.task.Lines.TheVariants.{All, Refused}
 use Rattle.saw_top.specs.declared.task.Task.{Task}
+use Rattle.saw_top.specs.Limits.{max_frames}
+use Rattle.saw_top.specs.Stream.{stream_of}
+use Rattle.saw_top.proofs.BehindHead.{map_is}
 use Rattle.saw_top.proofs.Judgements.{IsRight, all_right}
 use Rattle.saw_top.proofs.Listed.{of_head}
-use Rattle.saw_top.proofs.Standings.{front_cut, nothing_judged}
-use Rattle.saw_top.proofs.Wholes.{part_of_whole}
+use Rattle.saw_top.proofs.Standings.{nothing_judged}
+use Rattle.saw_top.proofs.Streams.{whole_read}
 
 -- nothing was written of a text
 pub no_front : (text : List ℕ) (old : Option (List ℕ)) → WritesFront text old old
@@ -54,6 +64,16 @@ no_front text old = ([], text, refl, Appends-nil old)
 -- what is written behind a text that is a front
 front_more : (text more : List ℕ) (old new : Option (List ℕ)) → WritesFront text old new → WritesFront (text ++ more) old new
 front_more text more old new (written, rest, is, wrote) = (written, rest ++ more, ap (λ (l : List ℕ). l ++ more) is ∙ append_assoc written rest more, wrote)
+
+-- a front of what stands behind a text that was written
+front_behind : (all : List ℕ) (old mid new : Option (List ℕ)) (text more : List ℕ) → all ≡ text ++ more → Appends old mid text
+    → WritesFront more mid new → WritesFront all old new
+front_behind all old mid new text more is first (written, rest, same, wrote) = (
+  text ++ written,
+  rest,
+  is ∙ ap (λ (l : List ℕ). text ++ l) same ∙ sym (append_assoc text written rest),
+  Appends-trans old mid new text written first wrote,
+)
 
 -- ---- where the lines of a task stand
 
@@ -87,25 +107,21 @@ module _ (before middle : Outside) (run : History) where
 
 -- ---- what the task shows
 
--- this text was written and this status came of it, or a part of it was
-pub record Finishes (middle out : End (List ℕ)) (text : List ℕ) (code : ℕ) (result : Result ℕ RunFault) : Type 0 where
-  pub wrote : IfOk result (λ status. Appends middle.tells out.tells text)
-  pub same : IfOk result (λ status. status ≡ code)
-  pub cut : OnErr result ((n : ℕ) × Appends middle.tells out.tells (take n text))
-  pub which : IfErr result (λ e. (e ≡ runs.Write) ⊎ (e ≡ runs.Memory))
-  pub rose : IsErrOf result runs.Write → Rose middle.faults out.faults
+none_in : (is_full : Bool) (fault : Option RunFault) → (if is_full then Some runs.Blocks else fault) ≡ None → fault ≡ None
+none_in true fault none = absurd cc
+none_in false fault none = none
 
--- no ending tells more on the notes
-none_noted : (rules : Rules) (ending : Ending) (run : History) → (ending_of rules ending run).noted ≡ []
-none_noted rules Head run = refl
-none_noted rules (Entries prefix) run = refl
-none_noted rules Receipts run = refl
-none_noted rules (Batch id) run = refl
+-- a node of a known map is one of the empty map or of an accepted block's
+kept_in : (rules : Rules) (accepted : List Kept) (ledger : Ledger) → IsAfter rules accepted ledger → (m : StateMap) (node : Shape)
+    → IsNodeOfBoth first_half ledger.states m node
+    → (of : StateMap) × ((of ≡ m) ⊎ ((of ≡ no_entries) ⊎ IsAmong of (maps_of accepted))) × IsNodeOf first_half (finite.entries of) node
+kept_in rules accepted ledger after m node (inl known) = (known.m, inr (after.known known.root known.m known.known), known.is)
+kept_in rules accepted ledger after m node (inr is) = (m, inl refl, is)
 
-module _ (rules : Rules) (task : Task) (bytes : List ℕ) (left : Option (List ℕ)) (before middle : Outside)
+module _ (rules : Rules) (waiting : Waiting) (task : Task) (bytes : List ℕ) (left : Option (List ℕ)) (before middle : Outside)
     (aside : other_side task.lines middle ≡ other_side task.lines before) where
   abbrev answer : Answer
-  answer = task_answer rules task bytes
+  answer = task_answer rules waiting task bytes
 
   abbrev run : History
   run = run_of rules bytes
@@ -147,11 +163,11 @@ module _ (rules : Rules) (task : Task) (bytes : List ℕ) (left : Option (List �
   shows_to fault judged =
       let there = placed_all before middle run task.lines aside judged.1 in
       let end : AtEnd → Type 0 = λ e. (on_output ++ e.output ≡ on_output) × (on_notes ++ e.noted ≡ on_notes) in
-      let none = subst end (sym (ap (end_by rules task.ending run) judged.0)) (append-nil on_output, append-nil on_notes) in (
+      let none = subst end (sym (ap (end_by rules waiting task.ending run) judged.0)) (append-nil on_output, append-nil on_notes) in (
         record {
           output = subst (Appends at.old at.new) (sym none.0) there.0;
           notes = subst (Appends at.told_old at.told_new) (sym none.1) there.1;
-          code = sym (ap (λ (f : Option RunFault). (end_by rules task.ending run f).status) judged.0);
+          code = sym (ap (λ (f : Option RunFault). (end_by rules waiting task.ending run f).status) judged.0);
         },
         judged.0,
       )
@@ -186,19 +202,22 @@ module _ (rules : Rules) (task : Task) (bytes : List ℕ) (left : Option (List �
   shows_by same ledger runs.Read judged = keeps_up judged
   shows_by same ledger runs.Write judged = tt
   shows_by same ledger runs.Peer judged = tt
-  shows_by same ledger (runs.Collision kept given) judged = meets_clash same kept given judged
+  shows_by same ledger (runs.Collision kept given) judged = inl (meets_clash same kept given judged)
   shows_by same ledger runs.Memory judged = tt
   shows_by same ledger runs.FileFailed judged = tt
   shows_by same ledger e judged = shows_to e judged
 
-  -- more was written behind what was judged
-  module _ (out : End (List ℕ)) (more : List ℕ) (wrote : Appends middle.output.tells out.tells more) where
+  -- more was written and told behind what was judged
+  module _ (out told : End (List ℕ)) (more lines : List ℕ) (wrote : Appends middle.output.tells out.tells more)
+      (noted : Appends middle.notes.tells told.tells lines) where
     abbrev behind : Sides
-    behind = sides_of before (record middle { output = out })
+    behind = sides_of before (record middle { output = out; notes = told })
 
     goes_on : IsPrompt rules task.lines bytes left old mid → GoesOn answer bytes left behind
     goes_on prompt =
         let there = placed before middle (history_of rules prompt.frames) task.lines aside prompt.part prompt.written in
+        let output = answer.output_for prompt.frames in
+        let on_side = answer.noted_for prompt.frames in
         record {
           frames = prompt.frames;
           rest = prompt.rest;
@@ -206,70 +225,84 @@ module _ (rules : Rules) (task : Task) (bytes : List ℕ) (left : Option (List �
           told = prompt.told;
           next = prompt.next;
           more = there.0.0 ++ more;
-          output = subst (Appends at.old out.tells) (append_assoc (answer.output_for prompt.frames) there.0.0 more)
-              (Appends-trans at.old at.new out.tells (answer.output_for prompt.frames ++ there.0.0) more there.0.1 wrote);
-          noted = there.1.0;
-          notes = there.1.1;
+          output = subst (Appends at.old out.tells) (append_assoc output there.0.0 more)
+              (Appends-trans at.old at.new out.tells (output ++ there.0.0) more there.0.1 wrote);
+          noted = there.1.0 ++ lines;
+          notes = subst (Appends at.told_old told.tells) (append_assoc on_side there.1.0 lines)
+              (Appends-trans at.told_old at.told_new told.tells (on_side ++ there.1.0) lines there.1.1 noted);
         }
 
   -- nothing was
   pub shows_fault : rules.hash ≡ first_half → (ledger : Ledger) (e : RunFault) → Judges rules task.lines bytes left old mid ledger (Err e) → Shows answer bytes left at (Err e)
   shows_fault same ledger e judged =
       let front = placed_front before middle run task.lines aside judged.front in
-      let end = end_by rules task.ending run (fault_of rules bytes) in
+      let end = end_by rules waiting task.ending run (fault_of rules bytes) in
       record {
         output = front_more on_output end.output at.old at.new front.0;
         notes = front_more on_notes end.noted at.told_old at.told_new front.1;
-        prompt = goes_on middle.output [] (Appends-nil middle.output.tells) judged.prompt;
+        prompt = goes_on middle.output middle.notes [] [] (Appends-nil middle.output.tells) (Appends-nil middle.notes.tells) judged.prompt;
         ends = shows_by same ledger e judged.ends;
       }
 
-  -- all blocks were judged, and then a part of the text at the end was written, or all of it
-  module _ (out : End (List ℕ)) (refused : Bool) (ledger : Ledger) (judged : Judges rules task.lines bytes left old mid ledger (Ok refused))
-      (text : List ℕ) (code : ℕ)
-      (is : ((ending_of rules task.ending run).output ≡ text) × ((ending_of rules task.ending run).status ≡ code)) where
+  -- all blocks were judged, and then the end was written, or a front of it
+  module _ (out told : End (List ℕ)) (refused : Bool) (ledger : Ledger) (judged : Judges rules task.lines bytes left old mid ledger (Ok refused))
+      (end : AtEnd) (is : ending_of rules waiting task.ending run ≡ end) where
     abbrev last : Sides
-    last = sides_of before (record middle { output = out })
+    last = sides_of before (record middle { output = out; notes = told })
 
-    end_is : end_by rules task.ending run (fault_of rules bytes) ≡ ending_of rules task.ending run
-    end_is = ap (end_by rules task.ending run) judged.ends.fine
+    end_is : end_by rules waiting task.ending run (fault_of rules bytes) ≡ end
+    end_is = ap (end_by rules waiting task.ending run) judged.ends.fine ∙ is
 
-    output_is : answer.output ≡ on_output ++ text
-    output_is = ap (λ (e : AtEnd). on_output ++ e.output) end_is ∙ ap (λ (l : List ℕ). on_output ++ l) is.0
+    output_is : answer.output ≡ on_output ++ end.output
+    output_is = ap (λ (e : AtEnd). on_output ++ e.output) end_is
 
-    noted_is : answer.noted ≡ on_notes
-    noted_is = ap (λ (e : AtEnd). on_notes ++ e.noted) end_is ∙ ap (λ (l : List ℕ). on_notes ++ l) (none_noted rules task.ending run) ∙ append-nil on_notes
+    noted_is : answer.noted ≡ on_notes ++ end.noted
+    noted_is = ap (λ (e : AtEnd). on_notes ++ e.noted) end_is
 
-    shown : (came : Result ℕ RunFault) (n : ℕ) → Appends middle.output.tells out.tells (take n text) → EndsBy answer bytes left last came
-        → Shows answer bytes left last came
-    shown came n cut ends =
-        let there = placed_all before middle run task.lines aside judged.ends.written in
-        let whole = output_is ∙ ap (λ (l : List ℕ). on_output ++ l) (sym (append-nil text)) in
-        record {
-          output = front_cut answer.output at.old at.new out.tells on_output text [] n whole there.0 cut;
-          notes = (on_notes, [], noted_is ∙ sym (append-nil on_notes), there.1);
-          prompt = goes_on out (take n text) cut judged.prompt;
-          ends = ends;
-        }
+    there : Appends at.old at.new on_output × Appends at.told_old at.told_new on_notes
+    there = placed_all before middle run task.lines aside judged.ends.written
 
-    pub finished : (result : Result ℕ RunFault) → Finishes middle.output out text code result → Shows answer bytes left last result
-    finished (Ok status) finish =
-        let there = placed_all before middle run task.lines aside judged.ends.written in
-        let part = part_of_whole middle.output.tells out.tells text finish.wrote in
-        shown (Ok status) part.0 part.1 (
-          record {
-            output = subst (Appends at.old out.tells) (sym output_is) (Appends-trans at.old at.new out.tells on_output text there.0 finish.wrote);
-            notes = subst (Appends at.told_old at.told_new) (sym noted_is) there.1;
-            code = finish.same ∙ sym is.1 ∙ sym (ap (λ (e : AtEnd). e.status) end_is);
-          },
-          judged.ends.fine,
-        )
-    finished (Err e) finish =
-        elim finish.which [
-          | inl h ↦ rw h (shown (Err runs.Write) finish.cut.0 finish.cut.1 tt)
-          | inr h ↦ rw h
-              (shown (Err runs.Memory) finish.cut.0 finish.cut.1 tt)
-        ]
+    -- the nodes are of the map that a candidate would leave and of known ones
+    meets_behind : rules.hash ≡ first_half → (kept given : Node) → ClashesAt end ledger middle.output out middle.notes told kept given
+        → MeetsClashBehind answer bytes left last kept given
+    meets_behind same kept given met = record {
+      frames = (stream_of bytes).frames;
+      reads = whole_read max_frames bytes (none_in run.is_full (stream_of bytes).fault judged.ends.fine);
+      ended = judged.ends.ended;
+      m = met.m;
+      made = ap (λ (e : AtEnd). e.made) end_is ∙ met.made;
+      output = subst (λ (new : Option (List ℕ)). Appends at.old new on_output) (sym met.still) there.0;
+      notes = subst (λ (new : Option (List ℕ)). Appends at.told_old new on_notes) (sym met.quiet) there.1;
+      given_of = met.clash.0;
+      kept_of = kept_in rules run.accepted ledger judged.ends.after met.m (shape_of kept) met.clash.1;
+      alike = (met.clash.2, met.clash.3);
+    }
+
+    ends_by : rules.hash ≡ first_half → (came : Result ℕ RunFault) → WritesBy end ledger middle.output out middle.notes told came → IfErr came IsOfEnd
+        → EndsBy answer bytes left last came
+    ends_by same (Ok status) by kind = (
+      record {
+        output = subst (Appends at.old out.tells) (sym output_is) (Appends-trans at.old at.new out.tells on_output end.output there.0 by.0);
+        notes = subst (Appends at.told_old told.tells) (sym noted_is)
+            (Appends-trans at.told_old at.told_new told.tells on_notes end.noted there.1 by.1);
+        code = by.2 ∙ sym (ap (λ (e : AtEnd). e.status) end_is);
+      },
+      judged.ends.fine,
+    )
+    ends_by same (Err runs.Write) by kind = tt
+    ends_by same (Err runs.Peer) by kind = tt
+    ends_by same (Err (runs.Collision kept given)) by kind = inr (meets_behind same kept given by)
+    ends_by same (Err runs.Memory) by kind = tt
+    ends_by same (Err e) by kind = absurd kind
+
+    pub finished : rules.hash ≡ first_half → (result : Result ℕ RunFault) → WritesEnd end ledger middle.output out middle.notes told result
+        → IfErr result IsOfEnd → Shows answer bytes left last result
+    finished same result wrote kind = record {
+      output = front_behind answer.output at.old at.new out.tells on_output end.output output_is there.0 wrote.output;
+      notes = front_behind answer.noted at.told_old at.told_new told.tells on_notes end.noted noted_is there.1 wrote.notes;
+      prompt = goes_on out told wrote.output.0 wrote.notes.0 wrote.output.3 wrote.notes.3 judged.prompt;
+      ends = ends_by same result wrote.by kind;
+    }
 
 -- ---- what a journal with all blocks has at the end
 
@@ -280,40 +313,46 @@ right_head rules accepted states kept None is = refl
 right_head rules accepted states kept (Some block) is = of_head (IsRight rules accepted states) (records_of accepted) block (sym is)
     (all_right rules accepted states accepted kept)
 
-end_at : (rules : Rules) (lines : Lines) (ending : Ending) (bytes : List ℕ) (old mid : Option (List ℕ)) (refused : Bool) (ledger : Ledger)
-    → JudgesAll rules lines bytes old mid refused ledger
-    → ((ending_of rules ending (run_of rules bytes)).output ≡ text_at ending ledger)
-    × ((ending_of rules ending (run_of rules bytes)).status ≡ code_at ending ledger refused)
-end_at rules lines Head bytes first last refused ledger judged =
-    (ap (λ (blocks : List BlockRecord). head_line (head_of blocks)) (sym judged.after.blocks), sym (ap status_by judged.some))
-end_at rules lines (Entries prefix) bytes first last refused ledger judged =
+-- the draft behind the accepted blocks is that behind the head of the journal
+same_draft : (rules : Rules) (accepted : List Kept) (ledger : Ledger) → IsAfter rules accepted ledger → (batches : List BatchMessage)
+    → draft_at rules accepted batches ≡ draft_in rules ledger batches
+same_draft rules accepted ledger after batches =
+    let head = head_of (records_of accepted) in
+    let same : map_behind rules accepted head ≡ map_before ledger.states (parent_at (records_of accepted)) =
+    sym (right_head rules accepted ledger.states after.kept head refl) ∙ map_is ledger.states head in
+    ap (λ (m : StateMap). draft_of rules.accepts rules.runs m (ids_in (head_branch (records_of accepted))) batches) same
+    ∙ ap (λ (blocks : List BlockRecord). draft_of rules.accepts rules.runs (map_before ledger.states (parent_at blocks)) (ids_in (head_branch blocks)) batches)
+    (sym after.blocks)
+
+end_same : (rules : Rules) (waiting : Waiting) (lines : Lines) (ending : Ending) (bytes : List ℕ) (left old mid : Option (List ℕ)) (refused : Bool)
+    (ledger : Ledger) → JudgesAll rules lines bytes left old mid refused ledger
+    → ending_of rules waiting ending (run_of rules bytes) ≡ end_at rules waiting ending ledger refused
+end_same rules waiting lines Head bytes left first others refused ledger judged =
+    ap (λ (blocks : List BlockRecord). plain_end (head_line (head_of blocks)) (status_by (some_refused (run_of rules bytes).said))) (sym judged.after.blocks)
+    ∙ ap (λ (some : Bool). plain_end (head_line (head_of ledger.blocks)) (status_by some)) (sym judged.some)
+end_same rules waiting lines (Entries prefix) bytes left first others refused ledger judged =
     let blocks = records_of (run_of rules bytes).accepted in
     let same : map_behind rules (run_of rules bytes).accepted (head_of blocks) ≡ map_under ledger.states (head_of ledger.blocks) =
     sym (right_head rules (run_of rules bytes).accepted ledger.states judged.after.kept (head_of blocks) refl)
     ∙ ap (λ (all : List BlockRecord). map_under ledger.states (head_of all)) (sym judged.after.blocks) in
-    (ap (listing prefix) same, ap (listing_status prefix) same)
-end_at rules lines Receipts bytes first last refused ledger judged =
-    (ap receipts_text (sym judged.after.blocks), ap receipts_status (sym judged.after.blocks))
-end_at rules lines (Batch id) bytes first last refused ledger judged =
-    (ap (batch_text id) (sym judged.after.blocks), ap (batch_status id) (sym judged.after.blocks))
+    ap (λ (m : StateMap). plain_end (listing prefix m) (listing_status prefix m)) same
+end_same rules waiting lines Receipts bytes left first others refused ledger judged =
+    ap (λ (blocks : List BlockRecord). plain_end (receipts_text blocks) (receipts_status blocks)) (sym judged.after.blocks)
+end_same rules waiting lines (Batch id) bytes left first others refused ledger judged =
+    ap (λ (blocks : List BlockRecord). plain_end (batch_text id blocks) (batch_status id blocks)) (sym judged.after.blocks)
+end_same rules waiting lines Candidate bytes left first others refused ledger judged =
+    let accepted = (run_of rules bytes).accepted in
+    let end : List BlockRecord → Bool → Draft → AtEnd = λ blocks some draft. record {
+      output = candidate_text rules.hash waiting.signing (parent_at blocks) draft;
+      noted = losses_text draft;
+      status = candidate_status some draft;
+      made = Some draft.left;
+    } in
+    ap (end (records_of accepted) (some_refused (run_of rules bytes).said)) (same_draft rules accepted ledger judged.after waiting.batches)
+    ∙ ap (λ (blocks : List BlockRecord). end blocks (some_refused (run_of rules bytes).said) (draft_in rules ledger waiting.batches)) (sym judged.after.blocks)
+    ∙ ap (λ (some : Bool). end ledger.blocks some (draft_in rules ledger waiting.batches)) (sym judged.some)
 
 -- ---- what was done
-
--- nothing to list, or something
-by_test : (none : Bool) (status : ℕ) → status ≡ (if none then 8 else 0) → (status ≡ 0) ⊎ (status ≡ 8)
-by_test true status is = inr is
-by_test false status is = inl is
-
-by_found : (found : Option BlockRecord) (status : ℕ) → status ≡ found_status found → (status ≡ 0) ⊎ (status ≡ 8)
-by_found None status is = inr is
-by_found (Some block) status is = inl is
-
-done_at : (ending : Ending) (ledger : Ledger) (refused : Bool) (status : ℕ) → status ≡ code_at ending ledger refused → IsDone ending status
-done_at Head ledger true status is = inr is
-done_at Head ledger false status is = inl is
-done_at (Entries prefix) ledger refused status is = by_test (length (entries_under prefix (map_under ledger.states (head_of ledger.blocks))) == 0) status is
-done_at Receipts ledger refused status is = by_test (length (branch_receipts (head_branch ledger.blocks)) == 0) status is
-done_at (Batch id) ledger refused status is = by_found (block_with id (head_branch ledger.blocks)) status is
 
 -- the lines on the notes, by whether the task has them there
 noted_by_lines : (lines : Lines) (before after : Outside) → other_side lines after ≡ other_side lines before → (written : List ℕ)
@@ -337,31 +376,37 @@ either_side : (lines : Lines) (before after : Outside) → Rose (lines_side line
 either_side All before after rose = inl rose
 either_side Refused before after rose = inr rose
 
-module _ (processors : Processors) (task : Task) (accepts : Accepts) (before : Outside) where
+both_none : (first others : List ℕ) → first ≡ [] → others ≡ [] → first ++ others ≡ []
+both_none first others none nothing = rw (none, nothing) refl
+
+module _ (processors : Processors) (task : Task) (accepts : Accepts) (signing : Signing) (batches : List BatchMessage) (before : Outside) where
   abbrev rules : Rules
   rules = rules_by accepts processors
+
+  abbrev ready : Prepared
+  ready = ready_with accepts signing batches
 
   cause_of : (after : Outside) (e : RunFault) → IsOfStream e → TellsAlike e → (e ≡ runs.Read → Rose before.input.faults after.input.faults)
       → (e ≡ runs.Write → Rose before.output.faults after.output.faults ⊎ Rose before.notes.faults after.notes.faults)
       → (e ≡ runs.Peer → SomeRose before.remotes after.remotes)
-      → HasCause processors task (vouched accepts) before after (Err e)
+      → HasCause processors task (Ok ready) before after (Err e)
   cause_of after runs.Words kind alike read write peer = absurd cc
   cause_of after runs.FileMissing kind alike read write peer = absurd cc
   cause_of after runs.FileTooLong kind alike read write peer = absurd cc
   cause_of after runs.FileFailed kind alike read write peer = absurd cc
   cause_of after (runs.BadLine line) kind alike read write peer = absurd cc
   cause_of after runs.BadList kind alike read write peer = absurd cc
-  cause_of after runs.Read kind alike read write peer = ((record { accepts = accepts }, refl), read refl)
-  cause_of after runs.Write kind alike read write peer = ((record { accepts = accepts }, refl), write refl)
-  cause_of after runs.Peer kind alike read write peer = ((record { accepts = accepts }, refl), peer refl)
-  cause_of after (runs.Collision kept given) kind alike read write peer = ((record { accepts = accepts }, refl), alike)
+  cause_of after runs.Read kind alike read write peer = ((ready, refl), read refl)
+  cause_of after runs.Write kind alike read write peer = ((ready, refl), write refl)
+  cause_of after runs.Peer kind alike read write peer = ((ready, refl), peer refl)
+  cause_of after (runs.Collision kept given) kind alike read write peer = ((ready, refl), alike)
   cause_of after runs.Memory kind alike read write peer = tt
-  cause_of after e kind alike read write peer = (record { accepts = accepts }, refl)
+  cause_of after e kind alike read write peer = (ready, refl)
 
   -- what is shown where the premises hold
   abbrev ShownTo : Outside → Result ℕ RunFault → List ℕ → Type 0
   ShownTo after came bytes = TellsAll processors
-      → Shows (task_answer rules task bytes) bytes after.input.tells (sides_of before after) came
+      → Shows (task_answer rules ready.waiting task bytes) bytes after.input.tells (sides_of before after) came
 
   module _ (middle : Outside) (ledger : Ledger) where
     abbrev JudgedBy : Result Bool RunFault → List ℕ → Type 0
@@ -373,60 +418,77 @@ module _ (processors : Processors) (task : Task) (accepts : Accepts) (before : O
         → (TellsAll processors → IfSome first (JudgedBy result))
         → ((bytes : List ℕ) → Judges rules task.lines bytes middle.input.tells (lines_side task.lines before).tells
         (lines_side task.lines middle).tells ledger result
-        → Shows (task_answer rules task bytes) bytes after.input.tells (sides_of before after) came) → IfSome first (ShownTo after came)
+        → Shows (task_answer rules ready.waiting task bytes) bytes after.input.tells (sides_of before after) came) → IfSome first (ShownTo after came)
     shown_to result after came None judged shows = tt
     shown_to result after came (Some bytes) judged shows = λ rests. shows bytes (judged rests)
 
     -- the judging ended it
     pub does_to : (e : RunFault) → JudgesFor processors accepts task.lines before middle ledger (Err e)
-        → Does processors task (vouched accepts) before middle (Err e)
+        → Does processors task (Ok ready) before middle (Err e)
     does_to e judged =
         let noted = noted_by_lines task.lines before middle judged.aside judged.wrote.0 judged.wrote.1 in
         record {
           cause = cause_of middle e judged.kind judged.nodes (λ is. judged.input (ap Err is))
               (λ is. either_side task.lines before middle (judged.output (ap Err is))) (λ is. judged.peer (ap Err is));
           lines = noted.0;
-          aside = noted.1;
+          aside = λ is. noted.1 is.0;
           noted = noted.2;
           later = later_notes task.lines before middle judged.aside judged.later;
           shows = shown_to (Err e) middle (Err e) before.input.tells judged.judges
-              (λ bytes. shows_fault rules task bytes middle.input.tells before middle judged.aside refl ledger e);
+              (λ bytes. shows_fault rules ready.waiting task bytes middle.input.tells before middle judged.aside refl ledger e);
         }
 
-    -- the end was written behind all blocks, or a part of it
-    pub does_all : (refused : Bool) → JudgesFor processors accepts task.lines before middle ledger (Ok refused)
-        → (out : End (List ℕ)) (result : Result ℕ RunFault)
-        → Finishes middle.output out (text_at task.ending ledger) (code_at task.ending ledger refused) result
-        → Does processors task (vouched accepts) before (record middle { output = out }) result
-    does_all refused judged out result finish =
-        let noted = noted_by_lines task.lines before middle judged.aside judged.wrote.0 judged.wrote.1 in
-        record {
-          cause = by_result result finish;
-          lines = noted.0;
-          aside = noted.1;
-          noted = noted.2;
-          later = later_notes task.lines before middle judged.aside judged.later;
-          shows = shown_to (Ok refused) (record middle { output = out }) result before.input.tells judged.judges (λ bytes j.
-              finished rules task bytes middle.input.tells before middle judged.aside out refused ledger j (text_at task.ending ledger)
-              (code_at task.ending ledger refused)
-              (end_at rules task.lines task.ending bytes (lines_side task.lines before).tells
-              (lines_side task.lines middle).tells refused ledger j.ends) result finish);
-        }
-      where
-        by_result : (result : Result ℕ RunFault) → Finishes middle.output out (text_at task.ending ledger) (code_at task.ending ledger refused) result
-            → HasCause processors task (vouched accepts) before (record middle { output = out }) result
-        by_result (Ok status) finish = ((record { accepts = accepts }, refl), done_at task.ending ledger refused status finish.same)
-        by_result (Err e) finish =
-            let first : before.output.faults ≤ middle.output.faults = later_output task.lines before middle judged.aside judged.later in
-            elim finish.which [
-              | inl is ↦
-                  let rise : Rose middle.output.faults out.faults = finish.rose (ap Err is) in
-                  rw is ((record { accepts = accepts }, refl), inl (omega (arith, first, rise)))
-              | inr is ↦ rw is tt
-            ]
+    -- the end was written behind all blocks, or a front of it
+    module _ (refused : Bool) (judged : JudgesFor processors accepts task.lines before middle ledger (Ok refused)) (out told : End (List ℕ))
+        (counts : List ℕ) (since : SomeRose middle.remotes counts → SomeRose before.remotes counts) (result : Result ℕ RunFault)
+        (finish : Finishes processors accepts ready.waiting task.ending ledger refused middle.output out middle.notes told middle.remotes counts result) where
+      abbrev after : Outside
+      after = record middle { output = out; notes = told; remotes = counts }
+
+      cause_by : (result : Result ℕ RunFault) → IfOk result (IsDone task.ending) → IfErr result IsOfEnd
+          → (IsErrOf result runs.Write → Rose middle.output.faults out.faults ⊎ Rose middle.notes.faults told.faults)
+          → (IsErrOf result runs.Peer → SomeRose middle.remotes counts) → HasCause processors task (Ok ready) before after result
+      cause_by (Ok status) done kind write peer = ((ready, refl), done)
+      cause_by (Err runs.Write) done kind write peer = ((ready, refl), since_middle (write refl))
+        where
+          since_middle : Rose middle.output.faults out.faults ⊎ Rose middle.notes.faults told.faults
+              → Rose before.output.faults out.faults ⊎ Rose before.notes.faults told.faults
+          since_middle (inl rose) =
+              let first : before.output.faults ≤ middle.output.faults = later_output task.lines before middle judged.aside judged.later in
+              inl (omega (arith, first, rose))
+          since_middle (inr rose) =
+              let first : before.notes.faults ≤ middle.notes.faults = later_notes task.lines before middle judged.aside judged.later in
+              inr (omega (arith, first, rose))
+      cause_by (Err runs.Peer) done kind write peer = ((ready, refl), since (peer refl))
+      cause_by (Err (runs.Collision kept given)) done kind write peer = ((ready, refl), kind)
+      cause_by (Err runs.Memory) done kind write peer = tt
+      cause_by (Err e) done kind write peer = absurd kind
+
+      -- what is shown of the bytes, where they are told and the premises hold
+      shown_at : (first : Option (List ℕ)) → (TellsAll processors → IfSome first (JudgedBy (Ok refused))) → IfSome first (ShownTo after result)
+      shown_at None judges = tt
+      shown_at (Some bytes) judges = λ rests.
+          let j = judges rests in
+          finished rules ready.waiting task bytes middle.input.tells before middle judged.aside out told refused ledger j
+          (end_at rules ready.waiting task.ending ledger refused)
+          (end_same rules ready.waiting task.lines task.ending bytes middle.input.tells (lines_side task.lines before).tells
+          (lines_side task.lines middle).tells refused ledger j.ends) refl result (finish.writes rests) finish.kind
+
+      pub does_all : Does processors task (Ok ready) before after result
+      does_all =
+          let noted = noted_by_lines task.lines before middle judged.aside judged.wrote.0 judged.wrote.1 in
+          let first : before.notes.faults ≤ middle.notes.faults = later_notes task.lines before middle judged.aside judged.later in
+          record {
+            cause = cause_by result finish.done finish.kind finish.rose finish.peer;
+            lines = noted.0 ++ finish.lines;
+            aside = λ is. both_none noted.0 finish.lines (noted.1 is.0) (finish.aside is.1);
+            noted = Appends-trans before.notes.tells middle.notes.tells told.tells noted.0 finish.lines noted.2 finish.noted;
+            later = omega (arith, first, finish.later);
+            shows = shown_at before.input.tells judged.judges;
+          }
 
   -- nothing was judged, since memory was refused
-  pub does_nothing : (held : End Files) → Does processors task (vouched accepts) before (record before { shelf = held }) (Err runs.Memory)
+  pub does_nothing : (held : End Files) → Does processors task (Ok ready) before (record before { shelf = held }) (Err runs.Memory)
   does_nothing held = does_to (record before { shelf = held }) none runs.Memory (judges task.lines)
     where
       none : Ledger

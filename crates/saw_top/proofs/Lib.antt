@@ -1,6 +1,7 @@
 pub mod Histories
 pub mod Branching
 pub mod Judgements
+pub mod BehindHead
 pub mod Steps
 pub mod Streams
 pub mod Standings
@@ -8,6 +9,8 @@ pub mod Desks
 pub mod OneByOne
 pub mod Listed
 pub mod Wholes
+pub mod Makings
+pub mod Tellings
 pub mod Doing
 pub mod OptionWords
 pub mod OptionOrder
@@ -17,6 +20,5 @@ pub mod Prepares
 pub mod Carrying
 pub mod Endings
 pub mod Frames
-pub mod BehindHead
 pub mod NextBlocks
 pub mod Candidates

@@ -1,25 +1,48 @@
--- Who vouches, by what the shelf gave.
-use Rattle.std.proofs.Common.{◌≡◌, ◌⊎◌, inl, inr, ℕ, zero, suc, ◌<◌, ◌≤◌, true, false, List, [], ◌∷◌, length, Option, Some, None, Result, Ok, Err}
-use Rattle.std.proofs.Common.{refl, sym, ap, ◌∙◌, arith}
-use Rattle.std.specs.Prelude.{IfOk, IfSome, nat_lt, option_map}
+-- Who vouches and what may be published, by what the shelf gave.
+use Rattle.std.proofs.Common.{◌≡◌, ◌⊎◌, inl, inr, ℕ, zero, suc, ◌<◌, ◌≤◌, Bool, true, false, List, [], ◌∷◌, length, cond, Option, Some, None, Result, Ok, Err}
+use Rattle.std.proofs.Common.{refl, sym, ap, subst, ◌∙◌, arith}
+use Rattle.std.specs.Prelude.{◌||◌, IfOk, IfSome, is_some, nat_lt, option_map}
 use Rattle.std.specs.Global.{Vec}
+use Rattle.std.specs.Str.{bytes_eq}
 use Rattle.std.proofs.lemmas.Bool.Decides.{nat_tests}
+use Rattle.std.proofs.lemmas.Slice.Eq.{bytes_eq-Decides}
 use Rattle.std.proofs.Math.Path.{fun_ext}
 use Rattle.saw_faults.specs.Counts.{Rose}
 use Rattle.saw_io.specs.Shelf.{Files, FileGives, Fetches}
 use Rattle.saw_io.specs.declared.fault.ShelfFault.{ShelfFault}
 use Rattle.saw_io.specs.declared.fault.ShelfFault.TheVariants as shelves
+use Rattle.saw_messages.specs.declared.batch.Batch.{Batch}
+use Rattle.saw_publish.specs.Candidates.{Signing}
 use Rattle.saw_report.specs.RunFaults.{fault_of_list, fault_of_shelf}
 use Rattle.saw_report.specs.declared.run_fault.RunFault.{RunFault}
 use Rattle.saw_report.specs.declared.run_fault.RunFault.TheVariants as runs
 use Rattle.saw_verify.specs.Lists.{attests, first_bad_line}
 use Rattle.saw_verify.specs.declared.attest.AttestFault.{AttestFault}
 use Rattle.saw_verify.specs.declared.attest.AttestFault.TheVariants as lists
-use Rattle.saw_top.specs.Answers.{attested, listed, vouched}
-use Rattle.saw_top.specs.Limits.{max_list}
+use Rattle.saw_top.specs.Answers.{attested, batches_of, batches_with, listed, prepared_by, ready_by, ready_with, vouching_with}
+use Rattle.saw_top.specs.Limits.{max_batches, max_list}
 use Rattle.saw_top.specs.Outside.{End}
-use Rattle.saw_top.specs.Vouching.{Prepares, PreparesBy}
+use Rattle.saw_top.specs.Vouching.{ComesBy, FetchesBy, File, HoldsKnown, IsOf, NamedBy, Prepares, ReadsBy}
 use Rattle.saw_top.specs.World.{Accepts}
+
+-- ---- what came of it
+
+-- a fault of a part is that of the whole
+passed : {A B : Type 0} (f : Result A RunFault → Result B RunFault) → ((fault : RunFault) → f (Err fault) ≡ Err fault)
+    → (failed other : Type 0) → (failed → other) → (right : Result A RunFault) (fault : RunFault)
+    → ComesBy failed right (Err fault) → ComesBy other (f right) (Err fault)
+passed f passes failed other may right runs.FileFailed by = may by
+passed f passes failed other may right runs.Memory by = tt
+passed f passes failed other may right runs.FileMissing by = (ap f by.0 ∙ passes runs.FileMissing, refl)
+passed f passes failed other may right runs.FileTooLong by = (ap f by.0 ∙ passes runs.FileTooLong, refl)
+passed f passes failed other may right (runs.BadLine line) by = (ap f by.0 ∙ passes (runs.BadLine line), refl)
+passed f passes failed other may right runs.BadList by = (ap f by.0 ∙ passes runs.BadList, refl)
+passed f passes failed other may right fault by = absurd cc
+
+-- where no fetch fails, whatever a failed one says
+widened : {A : Type 0} (other : Type 0) (right came : Result A RunFault) → ComesBy ⊥ right came → ComesBy other right came
+widened other right (Ok made) by = by
+widened other right (Err fault) by = passed (λ r. r) (λ fault. refl) ⊥ other (λ none. absurd none) right fault by
 
 -- ---- files that are told, or some
 
@@ -37,15 +60,48 @@ some_file max (Err shelves.TooLong) within = (Some (some_list (suc max)).0, ((so
 some_file max (Err shelves.Failed) within = (None, tt)
 some_file max (Err shelves.OutOfMemory) within = (None, tt)
 
-some_files : (result : Result (Vec ℕ) ShelfFault) (held : Option Files) (name : List ℕ) → IfOk result (λ list. length list.items ≤ max_list)
-    → Fetches held name max_list result
-    → (files : Files) × IfSome held (λ told. files ≡ told) × FileGives max_list (files name) result
-some_files result None name within fetched = let file = some_file max_list result within in (λ any. file.0, tt, file.1)
-some_files result (Some files) name within fetched = (files, refl, fetched)
+-- the file of a name, where it is told, or else some file
+file_at : (result : Result (Vec ℕ) ShelfFault) (held : Option Files) (name : List ℕ) (max : ℕ) → IfOk result (λ list. length list.items ≤ max)
+    → Fetches held name max result
+    → (file : Option (List ℕ)) × IfSome held (λ told. told name ≡ file) × FileGives max file result
+file_at result None name max within fetched = let file = some_file max result within in (file.0, tt, file.1)
+file_at result (Some files) name max within fetched = (files name, refl, fetched)
+
+-- all of them
+all_files : (held : Option Files) (name : List ℕ) (file : Option (List ℕ)) → IfSome held (λ told. told name ≡ file)
+    → (files : Files) × IfSome held (λ told. files ≡ told) × (files name ≡ file)
+all_files None name file is = (λ any. file, tt, refl)
+all_files (Some files) name file is = (files, refl, is)
 
 pub files_in : (held : Option Files) → (files : Files) × IfSome held (λ told. files ≡ told)
 files_in None = (λ any. None, tt)
 files_in (Some files) = (files, refl)
+
+-- the one that is known among others
+abbrev known_among : Option File → Files → Files
+known_among None files = files
+known_among (Some file) files = λ name. cond (bytes_eq name file.0) (Some file.1) (files name)
+
+has_known : (known : Option File) (files : Files) → IsOf known (known_among known files)
+has_known None files = tt
+has_known (Some file) files = rw ((bytes_eq-Decides file.0 file.0).1 refl) refl
+
+has_others : (known : Option File) (files : Files) (name : List ℕ) → IfSome known (λ file. bytes_eq name file.0 ≡ false)
+    → known_among known files name ≡ files name
+has_others None files name other = refl
+has_others (Some file) files name other = rw other refl
+
+-- files with the known one, and with another one
+files_with : (held : Option Files) (known : Option File) → IfSome held (IsOf known) → (name : List ℕ) (file : Option (List ℕ))
+    → IfSome held (λ told. told name ≡ file) → IfSome known (λ file. bytes_eq name file.0 ≡ false)
+    → (files : Files) × IfSome held (λ told. files ≡ told) × IsOf known files × (files name ≡ file)
+files_with None known has name file is other = (known_among known (λ any. file), tt, has_known known (λ any. file), has_others known (λ any. file) name other)
+files_with (Some told) known has name file is other = (told, refl, has, is)
+
+files_of : (held : Option Files) (known : Option File) → IfSome held (IsOf known)
+    → (files : Files) × IfSome held (λ told. files ≡ told) × IsOf known files
+files_of None known has = (known_among known (λ any. None), tt, has_known known (λ any. None))
+files_of (Some told) known has = (told, refl, has)
 
 -- ---- what the file of a list prepares
 
@@ -55,68 +111,197 @@ not_over n max fits = grind (arith, nat_tests)
 over : (n max : ℕ) → max < n → nat_lt max n ≡ true
 over n max more = grind (arith, nat_tests)
 
-list_is : (file : Option (List ℕ)) (list : Vec ℕ) → FileGives max_list file (Ok list) → listed file ≡ attested list.items (first_bad_line list.items)
-list_is file list gives = ap listed gives.0 ∙ fits
+list_is : (file : Option (List ℕ)) (list : List ℕ) → file ≡ Some list → length list ≤ max_list → listed file ≡ attested list (first_bad_line list)
+list_is file list is within = ap listed is ∙ fits
   where
-    fits : listed (Some list.items) ≡ attested list.items (first_bad_line list.items)
-    fits = rw (not_over (length list.items) max_list gives.1) refl
+    fits : listed (Some list) ≡ attested list (first_bad_line list)
+    fits = rw (not_over (length list) max_list within) refl
 
-too_long : (list : List ℕ) → max_list < length list → listed (Some list) ≡ Err runs.FileTooLong
-too_long list more = rw (over (length list) max_list more) refl
+long_list : (list : List ℕ) → max_list < length list → listed (Some list) ≡ Err runs.FileTooLong
+long_list list more = rw (over (length list) max_list more) refl
+
+long_batches : (list : List ℕ) → max_batches < length list → batches_of (Some list) ≡ Err runs.FileTooLong
+long_batches list more = rw (over (length list) max_batches more) refl
 
 -- two verifiers that answer alike are one
 same_verifier : (accepts others : Accepts) → ((key message signature : List ℕ) → accepts key message signature ≡ others key message signature)
     → accepts ≡ others
 same_verifier accepts others same = fun_ext (λ key. fun_ext (λ message. fun_ext (λ signature. same key message signature)))
 
--- no list is named
-pub given : (accepts : Accepts) (before : End Files) → Prepares accepts None before before (Ok accepts)
-given accepts before = let at = files_in before.tells in record { files = at.0; held = at.1; by = refl }
+-- a fetch had a fault
+unfetched : {A : Type 0} (of : Option (List ℕ) → Result A RunFault) (max : ℕ) → of None ≡ Err runs.FileMissing
+    → ((list : List ℕ) → max < length list → of (Some list) ≡ Err runs.FileTooLong)
+    → (failed : Type 0) (e : ShelfFault) (file : Option (List ℕ)) → FileGives max file (Err e) → (e ≡ shelves.Failed → failed)
+    → ComesBy failed (of file) (Err (fault_of_shelf e))
+unfetched of max missing long failed shelves.Missing file gives cause = (ap of gives ∙ missing, refl)
+unfetched of max missing long failed shelves.TooLong file gives cause = (ap of gives.1 ∙ long gives.0 gives.2, refl)
+unfetched of max missing long failed shelves.Failed file gives cause = cause refl
+unfetched of max missing long failed shelves.OutOfMemory file gives cause = tt
 
-module _ (accepts : Accepts) (name : List ℕ) (before after : End Files) where
-  abbrev Listed : Result Accepts RunFault → Type 0
-  Listed = Prepares accepts (Some name) before after
+-- ---- the batches
 
-  -- no list was fetched
-  pub unlisted : (e : ShelfFault) → Fetches before.tells name max_list (Err e) → (e ≡ shelves.Failed → Rose before.faults after.faults)
-      → Listed (Err (fault_of_shelf e))
-  unlisted e fetched failed =
-      let at = some_files (Err e) before.tells name tt fetched in
-      record { files = at.0; held = at.1; by = by_fault e at.0 at.2 failed }
+module _ (name : List ℕ) (before after : End Files) where
+  pub no_batches : (e : ShelfFault) → Fetches before.tells name max_batches (Err e) → (e ≡ shelves.Failed → Rose before.faults after.faults)
+      → FetchesBy batches_of name before after (Err (fault_of_shelf e))
+  no_batches e fetched failed =
+      let at = file_at (Err e) before.tells name max_batches tt fetched in
+      record {
+        file = at.0;
+        held = at.1;
+        by = unfetched batches_of max_batches refl long_batches (Rose before.faults after.faults) e at.0 at.2 failed;
+      }
+
+  pub batches_read : (list : Vec ℕ) → Fetches before.tells name max_batches (Ok list) → length list.items ≤ max_batches
+      → (came : Result (List Batch) RunFault) → ReadsBy batches_of list.items came → FetchesBy batches_of name before after came
+  batches_read list fetched within came reads =
+      let at = file_at (Ok list) before.tells name max_batches within fetched in
+      record {
+        file = at.0;
+        held = at.1;
+        by = widened (Rose before.faults after.faults) (batches_of at.0) came
+            (subst (λ (file : Option (List ℕ)). ComesBy ⊥ (batches_of file) came) (sym at.2.0) reads);
+      }
+
+module _ (known : Option File) (before after : End Files) (has : HoldsKnown before known) where
+  -- no list is named
+  pub unnamed : NamedBy known None before before (Ok [])
+  unnamed = let at = files_of before.tells known has in record { files = at.0; held = at.1; has = at.2; by = refl }
+
+  -- another one than the known file
+  pub named_other : (name : List ℕ) (came : Result (List Batch) RunFault) → IfSome known (λ file. bytes_eq name file.0 ≡ false)
+      → FetchesBy batches_of name before after came → NamedBy known (Some name) before after came
+  named_other name came other fetches =
+      let at = files_with before.tells known has name fetches.file fetches.held other in
+      record {
+        files = at.0;
+        held = at.1;
+        has = at.2;
+        by = by_came _ came (subst (λ (file : Option (List ℕ)). ComesBy (Rose before.faults after.faults) (batches_of file) came) (sym at.3) fetches.by);
+      }
     where
-      by_fault : (e : ShelfFault) (files : Files) → FileGives max_list (files name) (Err e) → (e ≡ shelves.Failed → Rose before.faults after.faults)
-          → PreparesBy accepts (Some name) before after (listed (files name)) (Err (fault_of_shelf e))
-      by_fault shelves.Missing files gives failed = (ap listed gives, refl)
-      by_fault shelves.TooLong files gives failed = (ap listed gives.1 ∙ too_long gives.0 gives.2, refl)
-      by_fault shelves.Failed files gives failed = (refl, failed refl)
-      by_fault shelves.OutOfMemory files gives failed = tt
+      by_came : (right came : Result (List Batch) RunFault) → ComesBy (Rose before.faults after.faults) right came
+          → ComesBy ((true ≡ true) × Rose before.faults after.faults) right came
+      by_came right (Ok made) by = by
+      by_came right (Err fault) by = passed (λ r. r) (λ fault. refl) _ _ (λ rose. (refl, rose)) right fault by
 
-  module _ (list : Vec ℕ) (fetched : Fetches before.tells name max_list (Ok list)) (within : length list.items ≤ max_list) where
-    -- a list that is none
-    pub bad_list : (e : AttestFault) → (e ≡ lists.OutOfMemory) ⊎ (option_map lists.BadLine (first_bad_line list.items) ≡ Some e)
-        → Listed (Err (fault_of_list e))
-    bad_list e why =
-        let at = some_files (Ok list) before.tells name within fetched in
-        record { files = at.0; held = at.1; by = by_why at.0 (list_is (at.0 name) list at.2) why }
-      where
-        by_line : (files : Files) (found : Option ℕ) → listed (files name) ≡ attested list.items found → option_map lists.BadLine found ≡ Some e
-            → PreparesBy accepts (Some name) before after (listed (files name)) (Err (fault_of_list e))
-        by_line files None same bad = absurd cc
-        by_line files (Some line) same bad = let which : e ≡ lists.BadLine line = cc in rw which (same, refl)
+-- the known file
+pub named_known : (file : File) (before : End Files) → HoldsKnown before (Some file) → (name : List ℕ) → file.0 ≡ name
+    → (came : Result (List Batch) RunFault) → ReadsBy batches_of file.1 came → NamedBy (Some file) (Some name) before before came
+named_known file before has name same came reads =
+    let at = files_of before.tells (Some file) has in
+    record {
+      files = at.0;
+      held = at.1;
+      has = at.2;
+      by = widened _ (batches_of (at.0 name)) came
+          (subst (λ (found : Option (List ℕ)). ComesBy ⊥ (batches_of found) came) (sym at.2 ∙ ap at.0 same) reads);
+    }
 
-        by_why : (files : Files) → listed (files name) ≡ attested list.items (first_bad_line list.items)
-            → (e ≡ lists.OutOfMemory) ⊎ (option_map lists.BadLine (first_bad_line list.items) ≡ Some e)
-            → PreparesBy accepts (Some name) before after (listed (files name)) (Err (fault_of_list e))
-        by_why files same (inl none) = rw none tt
-        by_why files same (inr bad) = by_line files (first_bad_line list.items) same bad
+-- ---- both
 
-    -- the triples of a list
-    pub with_list : (made : Accepts) → first_bad_line list.items ≡ None
-        → ((key message signature : List ℕ) → made key message signature ≡ attests list.items key message signature) → Listed (Ok made)
-    with_list made good alike =
-        let at = some_files (Ok list) before.tells name within fetched in
+module _ (accepts : Accepts) (signing : Signing) (batches : Option (List ℕ)) (before : End Files) where
+  -- a fault of the batches is that of both, and the batches are ready with who vouches
+  fault_behind : (made : Accepts) (failed other : Type 0) → (failed → other) → (right : Result (List Batch) RunFault) (fault : RunFault)
+      → ComesBy failed right (Err fault) → ComesBy other (prepared_by signing right (Ok made)) (Err fault)
+  fault_behind made failed other may right fault by = passed (ready_by signing made) (λ fault. refl) failed other may right fault by
+
+  -- no list is named
+  pub given_fault : (after : End Files) (fault : RunFault) → NamedBy None batches before after (Err fault)
+      → Prepares accepts signing None batches before after (Err fault)
+  given_fault after fault named = record {
+    files = named.files;
+    held = named.held;
+    by = fault_behind accepts _ _ (λ (why : (is_some batches ≡ true) × Rose before.faults after.faults). why) (batches_with named.files batches) fault named.by;
+  }
+
+  pub given_ready : (after : End Files) (found : List Batch) → NamedBy None batches before after (Ok found)
+      → Prepares accepts signing None batches before after (Ok (ready_with accepts signing found))
+  given_ready after found named = record { files = named.files; held = named.held; by = ap (ready_by signing accepts) named.by }
+
+  module _ (name : List ℕ) where
+    -- a fault of the list is that of both
+    fault_first : (after : End Files) (files : Files) (failed : Type 0) → (failed → Rose before.faults after.faults) → (fault : RunFault)
+        → ComesBy failed (listed (files name)) (Err fault)
+        → ComesBy ((true ≡ true) × Rose before.faults after.faults) (prepared_by signing (batches_with files batches) (listed (files name))) (Err fault)
+    fault_first after files failed may fault by =
+        passed (prepared_by signing (batches_with files batches)) (λ fault. refl) failed ((true ≡ true) × Rose before.faults after.faults)
+        (λ why. (refl, may why)) (listed (files name)) fault by
+
+    -- no list was fetched
+    pub unlisted : (after : End Files) (e : ShelfFault) → Fetches before.tells name max_list (Err e) → (e ≡ shelves.Failed → Rose before.faults after.faults)
+        → Prepares accepts signing (Some name) batches before after (Err (fault_of_shelf e))
+    unlisted after e fetched failed =
+        let file = file_at (Err e) before.tells name max_list tt fetched in
+        let at = all_files before.tells name file.0 file.1 in
         record {
           files = at.0;
           held = at.1;
-          by = list_is (at.0 name) list at.2 ∙ ap (attested list.items) good ∙ ap vouched (sym (same_verifier made (attests list.items) alike));
+          by = fault_first after at.0 (Rose before.faults after.faults) (λ rose. rose) (fault_of_shelf e)
+              (unfetched listed max_list refl long_list (Rose before.faults after.faults) e (at.0 name)
+              (subst (λ (found : Option (List ℕ)). FileGives max_list found (Err e)) (sym at.2) file.2) failed);
+        }
+
+    module _ (list : Vec ℕ) (fetched : Fetches before.tells name max_list (Ok list)) (within : length list.items ≤ max_list) where
+      -- a list that is none
+      pub bad_list : (after : End Files) (e : AttestFault) → (e ≡ lists.OutOfMemory) ⊎ (option_map lists.BadLine (first_bad_line list.items) ≡ Some e)
+          → Prepares accepts signing (Some name) batches before after (Err (fault_of_list e))
+      bad_list after e why =
+          let file = file_at (Ok list) before.tells name max_list within fetched in
+          let at = all_files before.tells name file.0 file.1 in
+          record {
+            files = at.0;
+            held = at.1;
+            by = fault_first after at.0 ⊥ (λ none. absurd none) (fault_of_list e)
+                (by_why at.0 (list_is (at.0 name) list.items (at.2 ∙ file.2.0) within) why);
+          }
+        where
+          by_line : (files : Files) (found : Option ℕ) → listed (files name) ≡ attested list.items found → option_map lists.BadLine found ≡ Some e
+              → ComesBy ⊥ (listed (files name)) (Err (fault_of_list e))
+          by_line files None same bad = absurd cc
+          by_line files (Some line) same bad = let which : e ≡ lists.BadLine line = cc in rw which (same, refl)
+
+          by_why : (files : Files) → listed (files name) ≡ attested list.items (first_bad_line list.items)
+              → (e ≡ lists.OutOfMemory) ⊎ (option_map lists.BadLine (first_bad_line list.items) ≡ Some e)
+              → ComesBy ⊥ (listed (files name)) (Err (fault_of_list e))
+          by_why files same (inl none) = rw none tt
+          by_why files same (inr bad) = by_line files (first_bad_line list.items) same bad
+
+      -- the list is known
+      pub holds_list : (middle : End Files) → middle.tells ≡ before.tells → HoldsKnown middle (Some (name, list.items))
+      holds_list middle same = subst (λ (held : Option Files). IfSome held (IsOf (Some (name, list.items)))) (sym same) (here before.tells fetched)
+        where
+          here : (held : Option Files) → Fetches held name max_list (Ok list) → IfSome held (IsOf (Some (name, list.items)))
+          here None fetched = tt
+          here (Some files) fetched = fetched.0
+
+      module _ (middle after : End Files) (same : middle.tells ≡ before.tells) (made : Accepts) (good : first_bad_line list.items ≡ None)
+          (alike : (key message signature : List ℕ) → made key message signature ≡ attests list.items key message signature) where
+        -- who vouches by files with this list
+        vouched_by : (files : Files) → IsOf (Some (name, list.items)) files → listed (files name) ≡ Ok made
+        vouched_by files is = list_is (files name) list.items is within ∙ ap (attested list.items) good
+            ∙ ap Ok (sym (same_verifier made (attests list.items) alike))
+
+        told_before : (files : Files) → IfSome middle.tells (λ told. files ≡ told) → IfSome before.tells (λ told. files ≡ told)
+        told_before files held = subst (λ (held : Option Files). IfSome held (λ told. files ≡ told)) same held
+
+        pub listed_fault : before.faults ≤ middle.faults → (fault : RunFault) → NamedBy (Some (name, list.items)) batches middle after (Err fault)
+            → Prepares accepts signing (Some name) batches before after (Err fault)
+        listed_fault later fault named = record {
+          files = named.files;
+          held = told_before named.files named.held;
+          by = subst (λ (r : Result Accepts RunFault). ComesBy ((true ≡ true) × Rose before.faults after.faults)
+              (prepared_by signing (batches_with named.files batches) r) (Err fault)) (sym (vouched_by named.files named.has))
+              (fault_behind made ((is_some batches ≡ true) × Rose middle.faults after.faults) ((true ≡ true) × Rose before.faults after.faults)
+              (λ why. (refl, since why.1)) (batches_with named.files batches) fault named.by);
+        }
+          where
+            since : Rose middle.faults after.faults → Rose before.faults after.faults
+            since rose = omega (arith, later, rose)
+
+        pub listed_ready : (found : List Batch) → NamedBy (Some (name, list.items)) batches middle after (Ok found)
+            → Prepares accepts signing (Some name) batches before after (Ok (ready_with made signing found))
+        listed_ready found named = record {
+          files = named.files;
+          held = told_before named.files named.held;
+          by = ap (prepared_by signing (batches_with named.files batches)) (vouched_by named.files named.has) ∙ ap (ready_by signing made) named.by;
         }

@@ -4,7 +4,7 @@ use Rattle.std.proofs.Common.{Some, None, Result, Ok, Err, refl, sym, ap, subst,
 use Rattle.std.specs.Prelude.{IfSome, ◌||◌, slice_get}
 use Rattle.std.specs.FinMap as finite
 use Rattle.std.specs.Global.{Vec}
-use Rattle.std.specs.Io.KnownBytes.{Appends, Consumes}
+use Rattle.std.specs.Io.KnownBytes.{Appends, Consumes, IsAtEnd}
 use Rattle.std.proofs.KnownBytes.{Appends-trans, Appends-nil, Consumes-nil}
 use Rattle.std.proofs.lemmas.List.{append-nil, length-append, take-append-drop}
 use Rattle.std.proofs.lemmas.List.Folds.{list_any-append}
@@ -39,7 +39,7 @@ use Rattle.saw_journal.proofs.OneByOne.{RunsOneByOne}
 use Rattle.saw_top.proofs.Histories.{after, history_behind, length-said, report-behind, tried_at}
 use Rattle.saw_top.proofs.Judgements.{left_same}
 use Rattle.saw_top.proofs.Steps.{Steps, no_room, steps}
-use Rattle.saw_top.proofs.Streams.{Reads-push, all_before, stream_ended, stream_faulty, stream_full, stream_goes_on, stream_some, stream_too_many}
+use Rattle.saw_top.proofs.Streams.{Reads-push, all_before, at_end, nothing_at, stream_ended, stream_faulty, stream_full, stream_goes_on, stream_some, stream_too_many}
 
 -- ---- fronts of a text
 
@@ -286,11 +286,13 @@ module _ (rules : Rules) (lines : Lines) where
 
     -- ---- the end of the stream
 
-    ended_all : (next : Option (List ℕ)) → place ≤ max_frames → TakesNext place at.rest next → GoesOn (no_frames None) → Ends next ledger (Ok refused)
-    ended_all next fits taken is =
+    ended_all : (next : Option (List ℕ)) → place ≤ max_frames → TakesNext place at.rest next → IsAtEnd next → GoesOn (no_frames None)
+        → Ends next ledger (Ok refused)
+    ended_all next fits taken ended is =
         let run = run_last None is in
         ends_here next ledger (Ok refused) fits taken (record {
           fine = fault_last None is;
+          ended = ended;
           written = written_last None is;
           some = at.some ∙ sym (ap (λ (h : History). some_refused h.said) run);
           after = subst (λ (h : History). IsAfter rules h.accepted ledger) (sym run) at.stands;
@@ -300,6 +302,7 @@ module _ (rules : Rules) (lines : Lines) where
     no_more next below told =
         let read = rw at.left at told in
         ended_all next (omega arith) (inl (below, inr (None, read.0, read.2, read.1)))
+        (subst IsAtEnd (sym read.1) (nothing_at max_length at.rest read.0 read.2).1)
         (stream_ended max_frames at.frames bytes at.rest at.reads (omega (arith, at.count)) read.0 read.2)
 
     -- behind as many frames as may be
@@ -309,6 +312,7 @@ module _ (rules : Rules) (lines : Lines) where
     all_there next fits over none taken consumed few =
         let test : true ≡ (length at.rest == 0) = rw at.left at none in
         ended_all next fits (inr (omega arith, taken, rest_taken next taken consumed, few))
+        (at_end at.rest next taken test (rest_taken next taken consumed))
         (stream_full max_frames at.frames bytes at.rest at.reads (omega (arith, at.count)) (omega (arith, at.count)) (sym test))
 
     -- ---- a frame that was read

@@ -1,8 +1,12 @@
 -- Whole frames at the front of a stream.
-use Rattle.std.proofs.Common.{◌≡◌, ℕ, suc, ◌+◌, ◌-◌, ◌<◌, ◌≤◌, ◌==◌, true, false, cond, List, [], ◌∷◌, ◌++◌, length, Option, Some, None, Ok, Err}
+use Rattle.std.proofs.Common.{◌≡◌, ℕ, zero, suc, ◌+◌, ◌-◌, ◌<◌, ◌≤◌, ◌==◌, Bool, true, false, cond, List, [], ◌∷◌, ◌++◌, drop, length, take, Option, Some, None, Ok, Err}
 use Rattle.std.proofs.Common.{refl, sym, ap, ◌∙◌, arith}
-use Rattle.saw_io.specs.Frame.{frame_at}
+use Rattle.std.specs.Prelude.{if◌then◌else◌, nat_lt}
+use Rattle.std.specs.Int.{from_be_bytes, w32}
+use Rattle.std.specs.Io.KnownBytes.{Consumes, IsAtEnd}
+use Rattle.saw_io.specs.Frame.{Reading, content_at, frame_at}
 use Rattle.saw_io.specs.declared.fault.FrameFault.{FrameFault}
+use Rattle.saw_io.specs.declared.fault.FrameFault.TheVariants as frames
 use Rattle.saw_report.specs.RunFaults.{fault_of_frame}
 use Rattle.saw_top.specs.Stream.{Stream, no_frames, before, by_reading, stream_from, Reads}
 use Rattle.saw_report.specs.declared.run_fault.RunFault.{RunFault}
@@ -75,3 +79,68 @@ module _ (max : ℕ) (frames : List (List ℕ)) (bytes rest : List ℕ) (reads :
   stream_some fits =
       let more = stream_from (max - length frames) rest in
       (more.frames, more.fault, stands_behind (max - length frames) (omega arith))
+
+-- ---- the end of the bytes
+
+empty : (bytes : List ℕ) → true ≡ (length bytes == 0) → bytes ≡ []
+empty [] none = refl
+empty (first ∷ others) none = absurd (grind (arith, none))
+
+-- whether there is a frame, or a fault
+abbrev has_some : Reading → Bool
+has_some (Ok (Some content, rest)) = true
+has_some (Ok (None, rest)) = false
+has_some (Err e) = true
+
+-- what stands behind a frame
+abbrev left_of : Reading → List ℕ
+left_of (Ok (next, rest)) = rest
+left_of (Err e) = []
+
+some_at : (limit n : ℕ) (bytes : List ℕ) → has_some (content_at limit n bytes) ≡ true
+unfolding content_at
+some_at limit n bytes = by_tests (nat_lt limit n) (nat_lt (length bytes) n)
+  where
+    by_tests : (long cut : Bool) → (let whole : Reading = Ok (Some (take n bytes), drop n bytes) in
+        has_some (if long then Err (frames.TooLong n) else (if cut then Err (frames.Truncated (length bytes) n) else whole)) ≡ true)
+    by_tests true cut = refl
+    by_tests false true = refl
+    by_tests false false = refl
+
+-- where there is no frame there are no bytes
+pub nothing_at : (limit : ℕ) (bytes behind : List ℕ) → frame_at limit bytes ≡ Ok (None, behind) → (bytes ≡ []) × (behind ≡ [])
+unfolding frame_at
+nothing_at limit bytes behind is =
+    by_tests (length bytes == 0) (nat_lt (length bytes) 4) (content_at limit (from_be_bytes w32 (take 4 bytes)) (drop 4 bytes)) refl
+    (some_at limit (from_be_bytes w32 (take 4 bytes)) (drop 4 bytes)) is
+  where
+    by_tests : (none cut : Bool) (at : Reading) → none ≡ (length bytes == 0) → has_some at ≡ true → (let nothing : Reading = Ok (None, []) in
+        let ended : Reading = Ok (None, behind) in
+        (if none then nothing else (if cut then Err (frames.Truncated (length bytes) 4) else at)) ≡ ended)
+        → (bytes ≡ []) × (behind ≡ [])
+    by_tests true cut at none some is = (empty bytes none, sym (ap left_of is))
+    by_tests false true at none some is = let never : true ≡ false = ap has_some is in absurd cc
+    by_tests false false at none some is = let never : true ≡ false = sym some ∙ ap has_some is in absurd cc
+
+-- behind the last of the bytes is their end
+pub at_end : (rest : List ℕ) (next : Option (List ℕ)) (taken : List ℕ) → true ≡ (length rest == 0) → Consumes (Some rest) next taken → IsAtEnd next
+at_end rest None taken none consumed = absurd consumed
+at_end rest (Some others) [] none consumed = sym consumed ∙ empty rest none
+at_end rest (Some others) (first ∷ taken) none consumed = let nothing = empty rest none in absurd cc
+
+-- a stream without fault is whole frames
+pub whole_read : (more : ℕ) (bytes : List ℕ) → (stream_from more bytes).fault ≡ None → Reads (stream_from more bytes).frames bytes []
+unfolding stream_from
+whole_read zero bytes fine = by_test (length bytes == 0) refl fine
+  where
+    by_test : (none : Bool) → none ≡ (length bytes == 0) → (if none then None else Some Frames) ≡ None → bytes ≡ []
+    by_test true none fine = empty bytes none
+    by_test false none fine = absurd cc
+whole_read (suc more) bytes fine = by_front (whole_read more) (frame_at max_length bytes) refl fine
+  where
+    by_front : ((rest : List ℕ) → (stream_from more rest).fault ≡ None → Reads (stream_from more rest).frames rest [])
+        → (reading : Reading) → frame_at max_length bytes ≡ reading → (by_reading (stream_from more) reading).fault ≡ None
+        → Reads (by_reading (stream_from more) reading).frames bytes []
+    by_front others (Ok (None, rest)) is fine = (nothing_at max_length bytes rest is).0
+    by_front others (Ok (Some content, rest)) is fine = (rest, is, others rest fine)
+    by_front others (Err e) is fine = absurd cc

@@ -1,43 +1,77 @@
 -- What a run answers to words, files and a stream.
-use Rattle.std.specs.Prelude.{ℕ, List, length, Option, Some, None, Result, Ok, Err, nat_lt, if◌then◌else◌}
+use Rattle.std.specs.Prelude.{ℕ, List, [], length, Option, Some, None, Result, Ok, Err, nat_lt, if◌then◌else◌}
 use Rattle.saw_context.specs.Outcome.{Processors}
 use Rattle.saw_io.specs.Shelf.{Files}
+use Rattle.saw_messages.specs.Batches.{batch_list}
+use Rattle.saw_messages.specs.declared.batch.Batch.{Batch}
+use Rattle.saw_messages.specs.declared.batch.BatchList.{BatchList}
+use Rattle.saw_publish.specs.Candidates.{Signing}
 use Rattle.saw_report.specs.declared.run_fault.RunFault.{RunFault}
-use Rattle.saw_report.specs.declared.run_fault.RunFault.TheVariants.{Words, FileMissing, FileTooLong, BadLine}
+use Rattle.saw_report.specs.declared.run_fault.RunFault.TheVariants.{Words, FileMissing, FileTooLong, BadLine, BadList}
 use Rattle.saw_verify.specs.Lists.{attests, first_bad_line}
+use Rattle.saw_wire.specs.declared.fault.MessageFault.{MessageFault}
 use Rattle.saw_top.specs.Command.{Wish, wish_of}
-use Rattle.saw_top.specs.Limits.{max_list}
+use Rattle.saw_top.specs.Limits.{max_batches, max_list}
+use Rattle.saw_top.specs.Publishing.{Waiting}
 use Rattle.saw_top.specs.Run.{Answer, faulty, task_answer}
 use Rattle.saw_top.specs.World.{Accepts, World, rules_by}
 use Rattle.saw_top.specs.declared.task.Ending.TheVariants.{Head}
 use Rattle.saw_top.specs.declared.task.Lines.TheVariants.{All}
 use Rattle.saw_top.specs.declared.task.Task.{Task}
 
--- what words and files prepare: who vouches
+-- what words and files prepare: who vouches, and what may be published
 pub record Prepared : Type 0 where
   pub accepts : Accepts
-
-abbrev pub vouched : Accepts → Result Prepared RunFault
-vouched accepts = Ok (record { accepts = accepts })
+  pub waiting : Waiting
 
 -- the triples of a list, unless a line is bad
-abbrev pub attested : List ℕ → Option ℕ → Result Prepared RunFault
+abbrev pub attested : List ℕ → Option ℕ → Result Accepts RunFault
 attested list (Some line) = Err (BadLine line)
-attested list None = vouched (attests list)
+attested list None = Ok (attests list)
 
 -- those of the list that the file is, if there is one and it is not too long
-abbrev pub listed : Option (List ℕ) → Result Prepared RunFault
+abbrev pub listed : Option (List ℕ) → Result Accepts RunFault
 listed None = Err FileMissing
 listed (Some list) = if nat_lt max_list (length list) then Err FileTooLong else attested list (first_bad_line list)
 
-abbrev pub prepared_with : Accepts → Files → Option (List ℕ) → Result Prepared RunFault
-prepared_with accepts files None = vouched accepts
-prepared_with accepts files (Some name) = listed (files name)
+-- who vouches: the triples of the list of this name, if one is named
+abbrev pub vouching_with : Accepts → Files → Option (List ℕ) → Result Accepts RunFault
+vouching_with accepts files None = Ok accepts
+vouching_with accepts files (Some name) = listed (files name)
+
+-- the batches that bytes say
+abbrev pub batches_in : Result BatchList MessageFault → Result (List Batch) RunFault
+batches_in (Ok list) = Ok list.batches
+batches_in (Err fault) = Err BadList
+
+-- those of the list that the file is, if there is one and it is not too long
+abbrev pub batches_of : Option (List ℕ) → Result (List Batch) RunFault
+batches_of None = Err FileMissing
+batches_of (Some list) = if nat_lt max_batches (length list) then Err FileTooLong else batches_in (batch_list list)
+
+-- the batches of the list of this name; without a name there are none
+abbrev pub batches_with : Files → Option (List ℕ) → Result (List Batch) RunFault
+batches_with files None = Ok []
+batches_with files (Some name) = batches_of (files name)
+
+-- what both prepare
+abbrev pub ready_with : Accepts → Signing → List Batch → Prepared
+ready_with accepts signing batches = record { accepts = accepts; waiting = record { signing = signing; batches = batches } }
+
+abbrev pub ready_by : Signing → Accepts → Result (List Batch) RunFault → Result Prepared RunFault
+ready_by signing accepts (Ok batches) = Ok (ready_with accepts signing batches)
+ready_by signing accepts (Err fault) = Err fault
+
+-- the fault of the attestation list comes before that of the batch list
+abbrev pub prepared_by : Signing → Result (List Batch) RunFault → Result Accepts RunFault → Result Prepared RunFault
+prepared_by signing batches (Ok accepts) = ready_by signing accepts batches
+prepared_by signing batches (Err fault) = Err fault
 
 -- what words and files prepare, or the fault that they have
 abbrev pub prepared : World → Option Wish → Result Prepared RunFault
 prepared world None = Err Words
-prepared world (Some wish) = prepared_with world.accepts world.files wish.list
+prepared world (Some wish) =
+    prepared_by world.signing (batches_with world.files wish.batches) (vouching_with world.accepts world.files wish.list)
 
 -- words that are of no form ask for nothing
 abbrev pub task_by : Option Wish → Task
@@ -47,7 +81,7 @@ task_by (Some wish) = wish.task
 -- the answer to a stream, by what is prepared
 abbrev pub answer_for : Processors → Task → Result Prepared RunFault → List ℕ → Answer
 answer_for processors task (Err fault) bytes = faulty fault
-answer_for processors task (Ok ready) bytes = task_answer (rules_by ready.accepts processors) task bytes
+answer_for processors task (Ok ready) bytes = task_answer (rules_by ready.accepts processors) ready.waiting task bytes
 
 -- the answer to words, files and a stream
 abbrev pub answer_of : World → List (List ℕ) → List ℕ → Answer

@@ -1,25 +1,117 @@
--- What a journal with all blocks has at the end.
-use Rattle.std.specs.Prelude.{ℕ, Bool, List}
+-- What a journal with all blocks has at the end, and what was written of it.
+use Rattle.std.specs.Prelude.{◌≡◌, ◌≢◌, ◌⊎◌, ◌≤◌, ℕ, Bool, List, [], Option, Some, None, Result, Ok, Err, IfErr, IfOk, IsErrOf}
+use Rattle.std.specs.Io.KnownBytes.{Appends}
 use Rattle.saw_address.specs.Maps.{StateMap}
-use Rattle.saw_receipts.specs.Heads.{head_of}
+use Rattle.saw_context.specs.Outcome.{Processors}
+use Rattle.saw_faults.specs.Counts.{Rose}
+use Rattle.saw_journal.specs.Judgement.{Rules}
 use Rattle.saw_journal.specs.Ledger.{Ledger, map_under}
+use Rattle.saw_merkle.specs.Clashes.{IsClashFor}
+use Rattle.saw_messages.specs.declared.batch.Batch.{Batch as BatchMessage}
+use Rattle.saw_node.specs.Hashes.{first_half}
+use Rattle.saw_node.specs.declared.node.Node.{Node}
+use Rattle.saw_publish.specs.Building.{map_before}
+use Rattle.saw_publish.specs.Drafts.{Draft, draft_of}
+use Rattle.saw_receipts.specs.Branches.{ids_in}
+use Rattle.saw_receipts.specs.Heads.{head_branch, head_of}
 use Rattle.saw_report.specs.Lines.{head_line}
+use Rattle.saw_report.specs.declared.run_fault.RunFault.{RunFault}
+use Rattle.saw_report.specs.declared.run_fault.RunFault.TheVariants as runs
+use Rattle.saw_store.specs.declared.fault.StoreFault.TheVariants as stores
+use Rattle.saw_top.specs.Clashing.{AreAlike}
+use Rattle.saw_top.specs.Headline.{IsDone}
 use Rattle.saw_top.specs.Listing.{batch_status, batch_text, listing, listing_status, receipts_status, receipts_text}
-use Rattle.saw_top.specs.Run.{status_by}
+use Rattle.saw_top.specs.Outside.{End, SomeRose, WritesFront}
+use Rattle.saw_top.specs.Publishing.{Waiting, candidate_status, candidate_text, losses_text, parent_at}
+use Rattle.saw_top.specs.Run.{AtEnd, status_by}
+use Rattle.saw_top.specs.World.{Accepts, TellsAll, rules_by}
 use Rattle.saw_top.specs.declared.task.Ending.{Ending}
-use Rattle.saw_top.specs.declared.task.Ending.TheVariants.{Batch, Head, Entries, Receipts}
+use Rattle.saw_top.specs.declared.task.Ending.TheVariants.{Batch, Candidate, Head, Entries, Receipts}
 
 abbrev pub state_of_head : Ledger → StateMap
 state_of_head ledger = map_under ledger.states (head_of ledger.blocks)
 
-abbrev pub text_at : Ending → Ledger → List ℕ
-text_at Head ledger = head_line (head_of ledger.blocks)
-text_at (Entries prefix) ledger = listing prefix (state_of_head ledger)
-text_at Receipts ledger = receipts_text ledger.blocks
-text_at (Batch id) ledger = batch_text id ledger.blocks
+-- the draft of batches behind the head
+abbrev pub draft_in : Rules → Ledger → List BatchMessage → Draft
+draft_in rules ledger batches =
+    draft_of rules.accepts rules.runs (map_before ledger.states (parent_at ledger.blocks)) (ids_in (head_branch ledger.blocks)) batches
 
-abbrev pub code_at : Ending → Ledger → Bool → ℕ
-code_at Head ledger refused = status_by refused
-code_at (Entries prefix) ledger refused = listing_status prefix (state_of_head ledger)
-code_at Receipts ledger refused = receipts_status ledger.blocks
-code_at (Batch id) ledger refused = batch_status id ledger.blocks
+-- an end that tells nothing on the notes
+abbrev pub plain_end : List ℕ → ℕ → AtEnd
+plain_end output status = record { output = output; noted = []; status = status; made = None }
+
+-- that of a candidate
+abbrev pub end_of_draft : Rules → Waiting → Ledger → Bool → Draft → AtEnd
+end_of_draft rules waiting ledger refused draft = record {
+  output = candidate_text rules.hash waiting.signing (parent_at ledger.blocks) draft;
+  noted = losses_text draft;
+  status = candidate_status refused draft;
+  made = Some draft.left;
+}
+
+-- what is written and told at the end, and the status
+abbrev pub end_at : Rules → Waiting → Ending → Ledger → Bool → AtEnd
+end_at rules waiting Head ledger refused = plain_end (head_line (head_of ledger.blocks)) (status_by refused)
+end_at rules waiting (Entries prefix) ledger refused =
+    plain_end (listing prefix (state_of_head ledger)) (listing_status prefix (state_of_head ledger))
+end_at rules waiting Receipts ledger refused = plain_end (receipts_text ledger.blocks) (receipts_status ledger.blocks)
+end_at rules waiting (Batch id) ledger refused = plain_end (batch_text id ledger.blocks) (batch_status id ledger.blocks)
+end_at rules waiting Candidate ledger refused = end_of_draft rules waiting ledger refused (draft_in rules ledger waiting.batches)
+
+-- ---- what was written
+
+-- a text was written and lines were told, and this status came of it; or a front of both, since writing failed or memory was
+-- refused
+pub record Tells (text lines : List ℕ) (code : ℕ) (old new told_old told_new : End (List ℕ)) (result : Result ℕ RunFault) : Type 0 where
+  pub output : WritesFront text old.tells new.tells
+  pub notes : WritesFront lines told_old.tells told_new.tells
+  pub all : IfOk result (λ status. Appends old.tells new.tells text × Appends told_old.tells told_new.tells lines)
+  pub same : IfOk result (λ status. status ≡ code)
+  pub which : IfErr result (λ e. (e ≡ runs.Write) ⊎ (e ≡ runs.Memory))
+  pub later : told_old.faults ≤ told_new.faults
+  pub rose : IsErrOf result runs.Write → Rose old.faults new.faults ⊎ Rose told_old.faults told_new.faults
+
+-- a fault of the end: writing or a processor failed, two nodes of one hash, or want of memory
+abbrev pub IsOfEnd : RunFault → Type 0
+IsOfEnd runs.Write = Unit {0}
+IsOfEnd runs.Peer = Unit {0}
+IsOfEnd (runs.Collision kept given) = AreAlike kept given
+IsOfEnd runs.Memory = Unit {0}
+IsOfEnd fault = ⊥
+
+module _ (end : AtEnd) (ledger : Ledger) (old new told_old told_new : End (List ℕ)) where
+  -- two nodes clash, of which one is of the map that a candidate would leave; nothing was written or told
+  pub record ClashesAt (kept given : Node) : Type 0 where
+    pub m : StateMap
+    pub made : end.made ≡ Some m
+    pub clash : IsClashFor first_half ledger.states m (stores.Collision kept given)
+    pub still : new.tells ≡ old.tells
+    pub quiet : told_new.tells ≡ told_old.tells
+
+  -- all of an end was written, by how it came
+  abbrev pub WritesBy : Result ℕ RunFault → Type 0
+  WritesBy (Ok status) = Appends old.tells new.tells end.output × Appends told_old.tells told_new.tells end.noted
+      × (status ≡ end.status)
+  WritesBy (Err (runs.Collision kept given)) = ClashesAt kept given
+  WritesBy (Err fault) = Unit {0}
+
+  -- all of it, or a front
+  pub record WritesEnd (result : Result ℕ RunFault) : Type 0 where
+    pub output : WritesFront end.output old.tells new.tells
+    pub notes : WritesFront end.noted told_old.tells told_new.tells
+    pub by : WritesBy result
+
+-- What was done behind all blocks: the end was written where the processors tell their actions, or a front of it.
+module _ (processors : Processors) (accepts : Accepts) (waiting : Waiting) (ending : Ending) (ledger : Ledger) (refused : Bool)
+    (old new told_old told_new : End (List ℕ)) (counts new_counts : List ℕ) where
+  pub record Finishes (result : Result ℕ RunFault) : Type 0 where
+    pub writes : TellsAll processors
+        → WritesEnd (end_at (rules_by accepts processors) waiting ending ledger refused) ledger old new told_old told_new result
+    pub lines : List ℕ
+    pub aside : ending ≢ Candidate → lines ≡ []
+    pub noted : Appends told_old.tells told_new.tells lines
+    pub later : told_old.faults ≤ told_new.faults
+    pub done : IfOk result (IsDone ending)
+    pub kind : IfErr result IsOfEnd
+    pub rose : IsErrOf result runs.Write → Rose old.faults new.faults ⊎ Rose told_old.faults told_new.faults
+    pub peer : IsErrOf result runs.Peer → SomeRose counts new_counts

@@ -1,5 +1,5 @@
 -- What a run does: it gives the answer, or a front of it and the fault that ended it.
-use Rattle.std.specs.Prelude.{◌≡◌, ◌⊎◌, ◌↔◌, ◌<◌, ◌≤◌, ℕ, true, List, [], ◌∷◌, ◌++◌, length, slice_get, take, is_some, Option, Some, None, Result, Ok, Err, IfSome, if◌then◌else◌}
+use Rattle.std.specs.Prelude.{◌≡◌, ◌≢◌, ◌⊎◌, ◌↔◌, ◌<◌, ◌≤◌, ◌||◌, ℕ, Bool, true, false, List, [], ◌∷◌, ◌++◌, length, slice_get, take, is_some, Option, Some, None, Result, Ok, Err, IfSome, if◌then◌else◌}
 use Rattle.std.specs.Io.KnownBytes.{Appends, Consumes, IsAtEnd}
 use Rattle.std.specs.FinMap as finite
 use Rattle.saw_address.specs.Maps.{StateMap, no_entries}
@@ -26,7 +26,7 @@ use Rattle.saw_top.specs.Run.{Answer, notes_of}
 use Rattle.saw_top.specs.Stream.{Reads}
 use Rattle.saw_top.specs.World.{TellsAll, World}
 use Rattle.saw_top.specs.declared.task.Ending.{Ending}
-use Rattle.saw_top.specs.declared.task.Ending.TheVariants.{Batch, Head, Entries, Receipts}
+use Rattle.saw_top.specs.declared.task.Ending.TheVariants.{Batch, Candidate, Head, Entries, Receipts}
 use Rattle.saw_top.specs.declared.task.Lines.TheVariants.{All}
 use Rattle.saw_top.specs.declared.task.Task.{Task}
 
@@ -89,6 +89,21 @@ module _ (answer : Answer) (bytes : List ℕ) (left : Option (List ℕ)) (writte
         × IsNodeOf first_half (finite.entries of) (shape_of kept)
     pub alike : AreAlike kept given
 
+  -- The same of a candidate: one of the map that it would leave, and one of that map, of the empty one, or of one that an
+  -- accepted block leaves. All blocks have their lines, and nothing else was written or told.
+  pub record MeetsClashBehind (kept given : Node) : Type 0 where
+    pub frames : List (List ℕ)
+    pub reads : Reads frames bytes []
+    pub ended : IsAtEnd left
+    pub m : StateMap
+    pub made : answer.made ≡ Some m
+    pub output : Appends written.old written.new (answer.output_for frames)
+    pub notes : Appends written.told_old written.told_new (answer.noted_for frames)
+    pub given_of : IsNodeOf first_half (finite.entries m) (shape_of given)
+    pub kept_of : (of : StateMap) × ((of ≡ m) ⊎ ((of ≡ no_entries) ⊎ IsAmong of (answer.maps_for frames)))
+        × IsNodeOf first_half (finite.entries of) (shape_of kept)
+    pub alike : AreAlike kept given
+
   -- all of it, and its one fault
   abbrev pub HasFault : RunFault → Type 0
   HasFault fault = IsWhole (status_of fault) × (answer.fault ≡ Some fault)
@@ -102,7 +117,7 @@ module _ (answer : Answer) (bytes : List ℕ) (left : Option (List ℕ)) (writte
   EndsBy (Err Read) = KeepsUp
   EndsBy (Err Write) = Unit {0}
   EndsBy (Err Peer) = Unit {0}
-  EndsBy (Err (Collision kept given)) = MeetsClash kept given
+  EndsBy (Err (Collision kept given)) = MeetsClash kept given ⊎ MeetsClashBehind kept given
   EndsBy (Err Memory) = Unit {0}
   EndsBy (Err FileFailed) = Unit {0}
   EndsBy (Err fault) = HasFault fault
@@ -122,6 +137,7 @@ IsDone Head status = (status ≡ 0) ⊎ (status ≡ 1)
 IsDone (Entries prefix) status = (status ≡ 0) ⊎ (status ≡ 8)
 IsDone Receipts status = (status ≡ 0) ⊎ (status ≡ 8)
 IsDone (Batch id) status = (status ≡ 0) ⊎ (status ≡ 8)
+IsDone Candidate status = (status ≡ 0) ⊎ (status ≡ 1)
 
 module _ (processors : Processors) (task : Task) (ready : Result Prepared RunFault) (before after : Outside) where
   abbrev pub IsReady : Type 0
@@ -156,15 +172,16 @@ module _ (processors : Processors) (task : Task) (ready : Result Prepared RunFau
   pub record Does (came : Result ℕ RunFault) : Type 0 where
     pub cause : HasCause came
     pub lines : List ℕ
-    pub aside : task.lines ≡ All → lines ≡ []
+    pub aside : (task.lines ≡ All) × (task.ending ≢ Candidate) → lines ≡ []
     pub noted : Appends before.notes.tells after.notes.tells lines
     pub later : before.notes.faults ≤ after.notes.faults
     pub shows : IfSome before.input.tells (λ bytes. let answer = answer_for processors task ready bytes in
         TellsAll processors → Shows answer bytes after.input.tells (sides_of before after) came)
 
-abbrev pub list_in : Option Wish → Option (List ℕ)
-list_in None = None
-list_in (Some wish) = wish.list
+-- whether a file is named
+abbrev pub names_file : Option Wish → Bool
+names_file None = false
+names_file (Some wish) = is_some wish.list || is_some wish.batches
 
 -- What was done of what was asked. Files that are not told are some files.
 pub record CarriesOut (given : Files → World) (wish : Option Wish) (before after : Outside)
@@ -172,7 +189,7 @@ pub record CarriesOut (given : Files → World) (wish : Option Wish) (before aft
   pub files : Files
   pub held : IfSome before.shelf.tells (λ told. files ≡ told)
   pub words : (came ≡ Err Words) ↔ (wish ≡ None)
-  pub named : came ≡ Err FileFailed → is_some (list_in wish) ≡ true
+  pub named : came ≡ Err FileFailed → names_file wish ≡ true
   pub does : Does (given files).processors (task_by wish) (prepared (given files) wish) before after came
 
 -- ---- what is told of it

@@ -10,13 +10,15 @@ pub mod Options
 pub mod Wishes
 pub mod EndingFaults
 pub mod Stream
+pub mod Publishing
 pub mod Run
-pub mod Ends
 pub mod Answers
 pub mod Outside
 pub mod StreamJudging
 pub mod Vouching
 pub mod Headline
+pub mod Ends
+pub mod Making
 pub mod Laws
 pub mod OptionLaws
 pub mod BuiltInLaws

@@ -9,16 +9,17 @@ use Rattle.saw_report.specs.declared.run_fault.RunFault.{RunFault}
 use Rattle.saw_report.specs.declared.run_fault.RunFault.TheVariants.{Blocks}
 use Rattle.saw_top.specs.History.{History, history, map_behind, maps_of, records_of, some_refused, tried}
 use Rattle.saw_top.specs.Listing.{batch_status, batch_text, listing, listing_status, receipts_status, receipts_text}
+use Rattle.saw_top.specs.Publishing.{Waiting, candidate_status, candidate_text, draft_at, losses_text, parent_at}
 use Rattle.saw_top.specs.Reports.{report}
 use Rattle.saw_top.specs.Stream.{stream_of}
 use Rattle.saw_top.specs.declared.task.Ending.{Ending}
-use Rattle.saw_top.specs.declared.task.Ending.TheVariants.{Batch, Head, Entries, Receipts}
+use Rattle.saw_top.specs.declared.task.Ending.TheVariants.{Batch, Candidate, Head, Entries, Receipts}
 use Rattle.saw_top.specs.declared.task.Lines.{Lines}
 use Rattle.saw_top.specs.declared.task.Lines.TheVariants.{All, Refused}
 use Rattle.saw_top.specs.declared.task.Task.{Task}
 
 -- What a run writes, what it tells on the notes, the fault whose line follows there, and its status. Besides, the maps that
--- all its blocks would leave; of how many blocks it tells a verdict, and of the first frames what of output and notes their
+-- all its blocks would leave, and the one that a candidate would; of how many blocks it tells a verdict, and of the first frames what of output and notes their
 -- lines are alone, and the maps that the accepted ones of them leave.
 pub record Answer : Type 0 where
   pub output : List ℕ
@@ -26,6 +27,7 @@ pub record Answer : Type 0 where
   pub fault : Option RunFault
   pub status : ℕ
   pub tried : List (Option StateMap)
+  pub made : Option StateMap
   pub judged : ℕ
   pub output_for : List (List ℕ) → List ℕ
   pub noted_for : List (List ℕ) → List ℕ
@@ -39,6 +41,7 @@ faulty fault = record {
   fault = Some fault;
   status = status_of fault;
   tried = [];
+  made = None;
   judged = 0;
   output_for = λ frames. [];
   noted_for = λ frames. [];
@@ -70,53 +73,24 @@ noted_by Refused run = report Refused 0 run.said
 
 -- ---- the end
 
--- what is written and told at the end, and the status
+-- what is written and told at the end, the status, and the map that a candidate would leave
 pub record AtEnd : Type 0 where
   pub output : List ℕ
   pub noted : List ℕ
   pub status : ℕ
+  pub made : Option StateMap
 
 -- whether a block was refused
 abbrev pub status_by : Bool → ℕ
 status_by refused = if refused then 1 else 0
 
 abbrev pub nothing_more : RunFault → AtEnd
-nothing_more fault = record { output = []; noted = []; status = status_of fault }
+nothing_more fault = record { output = []; noted = []; status = status_of fault; made = None }
 
 module _ (rules : Rules) where
   -- the map behind the head
   abbrev pub head_map : History → StateMap
   head_map run = map_behind rules run.accepted (head_of (records_of run.accepted))
-
-  -- the head's line, the entries of its state, the receipts of its branch, or where a batch is
-  abbrev pub ending_of : Ending → History → AtEnd
-  ending_of Head run = record {
-    output = head_line (head_of (records_of run.accepted));
-    noted = [];
-    status = status_by (some_refused run.said);
-  }
-  ending_of (Entries prefix) run = record {
-    output = listing prefix (head_map run);
-    noted = [];
-    status = listing_status prefix (head_map run);
-  }
-  ending_of Receipts run = record {
-    output = receipts_text (records_of run.accepted);
-    noted = [];
-    status = receipts_status (records_of run.accepted);
-  }
-  ending_of (Batch id) run = record {
-    output = batch_text id (records_of run.accepted);
-    noted = [];
-    status = batch_status id (records_of run.accepted);
-  }
-
-  -- unless there is a fault
-  abbrev pub end_by : Ending → History → Option RunFault → AtEnd
-  end_by ending run None = ending_of ending run
-  end_by ending run (Some fault) = nothing_more fault
-
-  -- ---- both
 
   -- what frames come to
   abbrev pub history_of : List (List ℕ) → History
@@ -129,16 +103,58 @@ module _ (rules : Rules) where
   abbrev pub fault_of : List ℕ → Option RunFault
   fault_of bytes = fault_in (run_of bytes) (stream_of bytes).fault
 
-  -- the answer to a stream, by what is done with it
-  abbrev pub task_answer : Task → List ℕ → Answer
-  task_answer task bytes = let end = end_by task.ending (run_of bytes) (fault_of bytes) in record {
-    output = written_by task.lines (run_of bytes) ++ end.output;
-    noted = noted_by task.lines (run_of bytes) ++ end.noted;
-    fault = fault_of bytes;
-    status = end.status;
-    tried = tried rules (stream_of bytes).frames [];
-    judged = length (run_of bytes).said;
-    output_for = λ frames. written_by task.lines (history_of frames);
-    noted_for = λ frames. noted_by task.lines (history_of frames);
-    maps_for = λ frames. maps_of (history_of frames).accepted;
-  }
+  -- ---- both
+
+  module _ (waiting : Waiting) where
+    -- the head's line, the entries of its state, the receipts of its branch, where a batch is, or a candidate behind it
+    abbrev pub ending_of : Ending → History → AtEnd
+    ending_of Head run = record {
+      output = head_line (head_of (records_of run.accepted));
+      noted = [];
+      status = status_by (some_refused run.said);
+      made = None;
+    }
+    ending_of (Entries prefix) run = record {
+      output = listing prefix (head_map run);
+      noted = [];
+      status = listing_status prefix (head_map run);
+      made = None;
+    }
+    ending_of Receipts run = record {
+      output = receipts_text (records_of run.accepted);
+      noted = [];
+      status = receipts_status (records_of run.accepted);
+      made = None;
+    }
+    ending_of (Batch id) run = record {
+      output = batch_text id (records_of run.accepted);
+      noted = [];
+      status = batch_status id (records_of run.accepted);
+      made = None;
+    }
+    ending_of Candidate run = let draft = draft_at rules run.accepted waiting.batches in record {
+      output = candidate_text rules.hash waiting.signing (parent_at (records_of run.accepted)) draft;
+      noted = losses_text draft;
+      status = candidate_status (some_refused run.said) draft;
+      made = Some draft.left;
+    }
+
+    -- unless there is a fault
+    abbrev pub end_by : Ending → History → Option RunFault → AtEnd
+    end_by ending run None = ending_of ending run
+    end_by ending run (Some fault) = nothing_more fault
+
+    -- the answer to a stream, by what is done with it
+    abbrev pub task_answer : Task → List ℕ → Answer
+    task_answer task bytes = let end = end_by task.ending (run_of bytes) (fault_of bytes) in record {
+      output = written_by task.lines (run_of bytes) ++ end.output;
+      noted = noted_by task.lines (run_of bytes) ++ end.noted;
+      fault = fault_of bytes;
+      status = end.status;
+      tried = tried rules (stream_of bytes).frames [];
+      made = end.made;
+      judged = length (run_of bytes).said;
+      output_for = λ frames. written_by task.lines (history_of frames);
+      noted_for = λ frames. noted_by task.lines (history_of frames);
+      maps_for = λ frames. maps_of (history_of frames).accepted;
+    }

@@ -89,9 +89,10 @@ module _ (rules : Rules) (lines : Lines) where
   abbrev pub report_in : List ℕ → List ℕ
   report_in bytes = report lines 0 (run_of rules bytes).said
 
-  -- all blocks were judged
-  pub record JudgesAll (bytes : List ℕ) (old new : Option (List ℕ)) (refused : Bool) (ledger : Ledger) : Type 0 where
+  -- all blocks were judged, and nothing is left
+  pub record JudgesAll (bytes : List ℕ) (left old new : Option (List ℕ)) (refused : Bool) (ledger : Ledger) : Type 0 where
     pub fine : fault_of rules bytes ≡ None
+    pub ended : IsAtEnd left
     pub written : Appends old new (report_in bytes)
     pub some : refused ≡ some_refused (run_of rules bytes).said
     pub after : IsAfter rules (run_of rules bytes).accepted ledger
@@ -103,7 +104,7 @@ module _ (rules : Rules) (lines : Lines) where
   -- what was judged of a stream, by how it ended
   abbrev pub JudgesBy : List ℕ → Option (List ℕ) → Option (List ℕ) → Option (List ℕ) → Ledger
       → Result Bool RunFault → Type 0
-  JudgesBy bytes left old new ledger (Ok refused) = JudgesAll bytes old new refused ledger
+  JudgesBy bytes left old new ledger (Ok refused) = JudgesAll bytes left old new refused ledger
   JudgesBy bytes left old new ledger (Err (Truncated have want)) = JudgesTo bytes old new (Truncated have want) × IsAtEnd left
   JudgesBy bytes left old new ledger (Err (TooLong size)) = JudgesTo bytes old new (TooLong size) × StopsAtLength bytes left
   JudgesBy bytes left old new ledger (Err Read) = IsUpToDate bytes left old new

@@ -5,20 +5,23 @@ use Rattle.saw_context.specs.Serial.{serial}
 use Rattle.saw_io.specs.Shelf.{Files}
 use Rattle.saw_journal.specs.Judgement.{Rules, rules_with}
 use Rattle.saw_node.specs.Hashes.{first_half}
+use Rattle.saw_publish.specs.Candidates.{Signing}
 
 -- who vouches for signatures
 abbrev pub Accepts : Type 0
 Accepts = List ℕ → List ℕ → List ℕ → Bool
 
--- who vouches, what transactions are answered by, and the files
+-- who vouches and who signs, what transactions are answered by, and the files
 pub record World : Type 0 where
   pub accepts : Accepts
+  pub signing : Signing
   pub processors : Processors
   pub files : Files
 
 -- the same, whatever the files are
-abbrev pub world_with : Accepts → Processors → Files → World
-world_with accepts processors files = record { accepts = accepts; processors = processors; files = files }
+abbrev pub world_with : Accepts → Signing → Processors → Files → World
+world_with accepts signing processors files =
+    record { accepts = accepts; signing = signing; processors = processors; files = files }
 
 -- by what blocks are judged: batches run one after another
 abbrev pub rules_by : Accepts → Processors → Rules

@@ -1,6 +1,6 @@
-//! What is written behind the lines of blocks: the head's line, the entries of its state, or what its branch tells.
+//! What is written behind the lines of blocks: the head's line, the entries of its state, what its branch tells, or a candidate.
 
-ghost use Rattle.std.specs.Prelude.{◌≡◌, ◌≤◌, ◌⊎◌, ℕ, take, IfOk, IfErr, OnErr, OnOk, IsErrOf};
+ghost use Rattle.std.specs.Prelude.{◌≡◌, ◌≤◌, ◌<◌, ◌⊎◌, ℕ, length, take, IfOk, IfErr, OnErr, OnOk, IsErrOf};
 ghost use Rattle.std.specs.Io.KnownBytes.{Appends};
 ghost use Rattle.std.specs.List.{flat_map};
 ghost use Rattle.saw_faults.specs.Counts.{Rose};
@@ -9,41 +9,62 @@ ghost use Rattle.saw_journal.specs.Ledger.{map_under};
 ghost use Rattle.saw_report.specs.Lines.{head_line, listed_line};
 ghost use Rattle.saw_top.specs.Listing.{listing, listing_status};
 ghost use Rattle.saw_top.specs.Run.{status_by};
-ghost use Rattle.saw_top.specs.Ends.{code_at, text_at};
+ghost use Rattle.saw_crew.specs.Desks.{HaveSameOffers, KeepsDesks, offers_at};
+ghost use Rattle.saw_publish.specs.Candidates.{Signing};
+ghost use Rattle.saw_station.specs.Serving.{processors_at};
+ghost use Rattle.saw_top.specs.Ends.{Finishes};
+ghost use Rattle.saw_top.specs.Outside.{counts_of, sink_end};
+ghost use Rattle.saw_top.specs.Publishing.{Waiting};
 
 use crate::Status;
 use crate::branch::{list_receipts, tell_batch};
+use crate::publishing::publish;
 use crate::task::Ending;
 use saw_address::Prefix;
 use saw_io::{Sink, write_all};
 use saw_journal::Journal;
 use saw_merkle::{Listed, Tree};
+use saw_messages::Batch;
 use saw_node::Sha512Half;
 use saw_report::{RunFault, head_line, listed_line};
+use saw_station::{Desk, Station};
+use saw_verify::{Signer, Verifier};
 use std::alloc::Global;
+use std::thread::Threads;
 
-/// Writes the end, and gives the status. After a fault a part of it was written.
-pub(crate) fn finish<O: Sink>(
+/// Writes the end, and gives the status. After a fault a part of it was written. The desks keep their offers and their
+/// remotes.
+pub(crate) fn finish<T: Threads + Sync, O: Sink, N: Sink, V: Verifier, G: Signer, R: Station>(
+    rt: &T,
     alloc: Global,
     output: &mut O,
+    notes: &mut N,
     ending: &Ending,
     journal: &Journal<Sha512Half>,
     refused: bool,
+    verifier: &V,
+    signer: &G,
+    batches: &[Batch],
+    desks: &mut [Desk<R>],
 ) -> Result<Status, RunFault>
-    ensures ok { IfOk result (λ status. Appends (O.written output.old) (O.written output.new)
-        (text_at ending.now journal.now)) }
-    ensures status { IfOk result (λ status. status ≡ code_at ending.now journal.now refused) }
-    ensures err { OnErr result ((n : ℕ) × Appends (O.written output.old) (O.written output.new)
-        (take n (text_at ending.now journal.now))) }
-    ensures fault { IfErr result (λ e. (e ≡ RunFault.Write) ⊎ (e ≡ RunFault.Memory)) }
-    ensures later { O.faults output.old ≤ O.faults output.new }
-    ensures cause { IsErrOf result RunFault.Write → Rose (O.faults output.old) (O.faults output.new) }
+    requires some { 0 < length desks.old }
+    requires alike { HaveSameOffers desks.old }
+    ensures finishes { let signing : Signing = record { key = G.key_text signer.now; signature = G.signature signer.now } in
+        let waiting : Waiting = record { signing = signing; batches = batches.now } in
+        Finishes (processors_at R.next R.tells (offers_at desks.old)) (V.accepts verifier.now) waiting ending.now
+        journal.now refused (sink_end O.Sink output.old) (sink_end O.Sink output.new)
+        (sink_end N.Sink notes.old) (sink_end N.Sink notes.new) (counts_of R.faults desks.old)
+        (counts_of R.faults desks.new) result }
+    ensures desks { KeepsDesks R.faults R.offered desks.old desks.new }
 {
     match ending {
         Ending::Head => tell_head(alloc, output, journal, refused),
         Ending::Entries { prefix } => list_head(alloc, output, journal, prefix),
         Ending::Receipts => list_receipts(alloc, output, journal),
         Ending::Batch { id } => tell_batch(alloc, output, journal, id),
+        Ending::Candidate => publish(
+            rt, alloc, output, notes, journal, refused, verifier, signer, batches, desks,
+        ),
     }
 }
 

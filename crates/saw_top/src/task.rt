@@ -21,6 +21,8 @@ pub(crate) enum Ending {
     Receipts,
     /// Which block of the head's branch holds the batch of this id.
     Batch { id: Text },
+    /// A new block of waiting batches; those that it leaves out on the notes.
+    Candidate,
 }
 
 /// The lines of the blocks, and then the end.

@@ -1,6 +1,6 @@
 //! A task over the blocks of a stream.
 
-ghost use Rattle.std.specs.Prelude.{◌≡◌, ◌<◌, [], length};
+ghost use Rattle.std.specs.Prelude.{◌≡◌, ◌<◌, [], Ok, length};
 ghost use Rattle.std.specs.FinMap as finite;
 ghost use Rattle.saw_address.specs.Maps.{no_entries};
 ghost use Rattle.saw_crew.specs.Desks.{HaveSameOffers, KeepsDesks, offers_at};
@@ -8,7 +8,8 @@ ghost use Rattle.saw_io.specs.Shelf.{Files};
 ghost use Rattle.saw_merkle.specs.States.{knows};
 ghost use Rattle.saw_node.specs.Hashes.{first_half};
 ghost use Rattle.saw_station.specs.Serving.{processors_at};
-ghost use Rattle.saw_top.specs.Answers.{vouched};
+ghost use Rattle.saw_publish.specs.Candidates.{Signing};
+ghost use Rattle.saw_top.specs.Answers.{ready_with};
 ghost use Rattle.saw_top.specs.Headline.{Does};
 ghost use Rattle.saw_top.specs.StreamJudging.{JudgesFor};
 ghost use Rattle.saw_top.specs.Limits.{max_blocks};
@@ -20,10 +21,11 @@ use crate::stream::{MAX_BLOCKS, judge_stream};
 use crate::task::{Lines, Task};
 use saw_io::{Sink, Source};
 use saw_journal::Journal;
+use saw_messages::Batch;
 use saw_node::Sha512Half;
 use saw_report::RunFault;
 use saw_station::{Desk, Station};
-use saw_verify::Verifier;
+use saw_verify::{Signer, Verifier};
 use std::alloc::Global;
 use std::thread::Threads;
 
@@ -76,7 +78,15 @@ fn judge_lines<T: Threads + Sync, S: Source, O: Sink, N: Sink, V: Verifier, R: S
 }
 
 /// Does a task over the blocks of the input. The desks keep their offers and their remotes.
-pub(crate) fn do_task<T: Threads + Sync, S: Source, O: Sink, N: Sink, V: Verifier, R: Station>(
+pub(crate) fn do_task<
+    T: Threads + Sync,
+    S: Source,
+    O: Sink,
+    N: Sink,
+    V: Verifier,
+    G: Signer,
+    R: Station,
+>(
     rt: &T,
     alloc: Global,
     task: &Task,
@@ -84,13 +94,16 @@ pub(crate) fn do_task<T: Threads + Sync, S: Source, O: Sink, N: Sink, V: Verifie
     output: &mut O,
     notes: &mut N,
     verifier: &V,
+    signer: &G,
+    batches: &[Batch],
     desks: &mut [Desk<R>],
 ) -> Result<Status, RunFault>
     requires some { 0 < length desks.old }
     requires alike { HaveSameOffers desks.old }
     ensures does { let processors = processors_at R.next R.tells (offers_at desks.old) in
         let world = outside_with S.Source O.Sink N.Sink in
-        (held new_held : End Files) → Does processors task.now (vouched (V.accepts verifier.now))
+        let signing : Signing = record { key = G.key_text signer.now; signature = G.signature signer.now } in
+        (held new_held : End Files) → Does processors task.now (Ok (ready_with (V.accepts verifier.now) signing batches.now))
         (world input.old output.old notes.old held (counts_of R.faults desks.old))
         (world input.new output.new notes.new new_held (counts_of R.faults desks.new)) result }
     ensures desks { KeepsDesks R.faults R.offered desks.old desks.new }
@@ -107,5 +120,17 @@ pub(crate) fn do_task<T: Threads + Sync, S: Source, O: Sink, N: Sink, V: Verifie
         desks,
         &mut journal,
     )?;
-    finish(alloc, output, &task.ending, &journal, refused)
+    finish(
+        rt,
+        alloc,
+        output,
+        notes,
+        &task.ending,
+        &journal,
+        refused,
+        verifier,
+        signer,
+        batches,
+        desks,
+    )
 }

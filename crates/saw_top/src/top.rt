@@ -1,6 +1,7 @@
 //! The top call.
 
 ghost use Rattle.std.specs.Prelude.{◌≡◌, [], None, map, string_bytes, IfOk};
+ghost use Rattle.saw_publish.specs.Candidates.{Signing};
 ghost use Rattle.saw_station.specs.Serving.{alone};
 ghost use Rattle.saw_top.specs.Command.{wish_of};
 ghost use Rattle.saw_top.specs.Headline.{CarriesOut, HasEnded, IsAnswered};
@@ -15,7 +16,7 @@ use crate::tasks::do_task;
 use saw_io::{Shelf, Sink, Source};
 use saw_report::RunFault;
 use saw_station::{Desk, NoStation};
-use saw_verify::Verifier;
+use saw_verify::{Signer, Verifier};
 use std::alloc::{AllocError, Global};
 use std::sync::Arc;
 use std::thread::Threads;
@@ -30,7 +31,7 @@ fn lone_desk(alloc: Global) -> Result<Desk<NoStation>, AllocError>
 }
 
 // Does what the words ask for.
-fn carry_out<T: Threads + Sync, S: Source, O: Sink, N: Sink, F: Shelf, V: Verifier>(
+fn carry_out<T: Threads + Sync, S: Source, O: Sink, N: Sink, F: Shelf, V: Verifier, G: Signer>(
     rt: &T,
     alloc: Global,
     words: &[String],
@@ -39,20 +40,35 @@ fn carry_out<T: Threads + Sync, S: Source, O: Sink, N: Sink, F: Shelf, V: Verifi
     notes: &mut N,
     shelf: &mut F,
     verifier: &V,
+    signer: &G,
 ) -> Result<Status, RunFault>
-    ensures carries { let world = outside S.Source O.Sink N.Sink F.Shelf in
-        CarriesOut (world_with (V.accepts verifier.now) (alone [])) (wish_of (map string_bytes words.now))
+    ensures carries { let signing : Signing = record { key = G.key_text signer.now; signature = G.signature signer.now } in
+        let world = outside S.Source O.Sink N.Sink F.Shelf in
+        CarriesOut (world_with (V.accepts verifier.now) signing (alone [])) (wish_of (map string_bytes words.now))
         (world input.old output.old notes.old shelf.old)
         (world input.new output.new notes.new shelf.new) result }
 {
     let Some(command) = read_command(alloc, words)? else {
         return Err(RunFault::Words);
     };
-    let Command { task, attest } = command;
-    let vouching = prepare(alloc, attest, shelf, verifier)?;
+    let Command {
+        task,
+        attest,
+        batches,
+    } = command;
+    let ready = prepare(alloc, attest, batches, shelf, verifier)?;
     let mut desks = [lone_desk(alloc)?];
     do_task(
-        rt, alloc, &task, input, output, notes, &vouching, &mut desks,
+        rt,
+        alloc,
+        &task,
+        input,
+        output,
+        notes,
+        &ready.vouching,
+        signer,
+        ready.batches.as_slice(),
+        &mut desks,
     )
 }
 
@@ -61,13 +77,16 @@ fn carry_out<T: Threads + Sync, S: Source, O: Sink, N: Sink, F: Shelf, V: Verifi
 ///
 /// `apply` writes a line for each block and then the head's. The others tell the refused blocks on the notes: `state` writes
 /// the entries of the head's state, `receipts` the receipts of the head's branch, a line each, and `status --batch ID` the
-/// block of that branch that holds the batch, or `UNKNOWN`. Each takes `--attest NAME`, and `state` takes `--prefix P`.
+/// block of that branch that holds the batch, or `UNKNOWN`. `publish --batches NAME` tells which batches of that list it leaves
+/// out, and writes a frame with the block of the others behind the head, if one is applied. Each takes `--attest NAME`, and
+/// `state` takes `--prefix P`. The attestation list is fetched before the batch list, and a file that both name once.
 ///
-/// The status is 0 where all was done, and of `apply` 1 where a block was refused; 2 for words of no form; 3 for a stream
+/// The status is 0 where all was done, and of `apply` and `publish` 1 where a block was refused, of `publish` also where no
+/// batch is applied; 2 for words of no form; 3 for a stream
 /// that is none; 4 where reading failed, 5 where writing failed, 7 where memory was refused; 8 where there is nothing to
 /// list, or no block that holds the batch; 9 where two different nodes of one hash were met; 10 where no more blocks can be
-/// accepted; 11 for an attestation list that is missing, too long, not read or bad.
-pub fn run<T: Threads + Sync, S: Source, O: Sink, N: Sink, F: Shelf, V: Verifier>(
+/// accepted; 11 for a list that is missing, too long, not read or bad.
+pub fn run<T: Threads + Sync, S: Source, O: Sink, N: Sink, F: Shelf, V: Verifier, G: Signer>(
     rt: &T,
     alloc: Global,
     words: &[String],
@@ -76,21 +95,26 @@ pub fn run<T: Threads + Sync, S: Source, O: Sink, N: Sink, F: Shelf, V: Verifier
     notes: &mut N,
     shelf: &mut F,
     verifier: &V,
+    signer: &G,
 ) -> Status
     // Unless memory was refused (7), two different nodes of one hash were met (9) or a call failed, output,
-    // notes and status are the answer, where input and output tell their bytes and the verifier is a function,
-    // as its trait says. It rests on nothing more. Files that are not told are some files.
-    ensures answered { let world = outside S.Source O.Sink N.Sink F.Shelf in
-        IsAnswered (world_with (V.accepts verifier.now) (alone [])) (map string_bytes words.now)
+    // notes and status are the answer, where input and output tell their bytes, and verifier and signer are
+    // functions, as their traits say. It rests on nothing more. Files that are not told are some files.
+    ensures answered { let signing : Signing = record { key = G.key_text signer.now; signature = G.signature signer.now } in
+        let world = outside S.Source O.Sink N.Sink F.Shelf in
+        IsAnswered (world_with (V.accepts verifier.now) signing (alone [])) (map string_bytes words.now)
         (world input.old output.old notes.old shelf.old)
         (world input.new output.new notes.new shelf.new) result }
     // However it ended: a front of the answer, each line in time, and on the notes why.
-    ensures ended { let world = outside S.Source O.Sink N.Sink F.Shelf in
-        HasEnded (world_with (V.accepts verifier.now) (alone [])) (map string_bytes words.now)
+    ensures ended { let signing : Signing = record { key = G.key_text signer.now; signature = G.signature signer.now } in
+        let world = outside S.Source O.Sink N.Sink F.Shelf in
+        HasEnded (world_with (V.accepts verifier.now) signing (alone [])) (map string_bytes words.now)
         (world input.old output.old notes.old shelf.old)
         (world input.new output.new notes.new shelf.new) result }
 {
-    match carry_out(rt, alloc, words, input, output, notes, shelf, verifier) {
+    match carry_out(
+        rt, alloc, words, input, output, notes, shelf, verifier, signer,
+    ) {
         Ok(status) => status,
         Err(fault) => tell(alloc, notes, &fault),
     }

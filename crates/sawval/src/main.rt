@@ -3,7 +3,8 @@
 
 use saw_io::{DirShelf, StdSink, StdSource};
 use saw_top::run;
-use saw_verify::DevVerifier;
+use saw_verify::{DevSigner, DevVerifier};
+use saw_wire::Text;
 use std::alloc::Global;
 use std::io::ErrorKind;
 use std::process::ExitCode;
@@ -12,8 +13,17 @@ use std::{env, io};
 /// The status of want of memory.
 const MEMORY: u8 = 7;
 
+/// The key of development.
+const KEY: &str = "020000000000000000000000000000000000000000000000000000000000000000";
+
 fn words(rt: &HostRuntime, alloc: Global) -> io::Result<Vec<String>> {
     Ok(env::args(rt)?.skip(1).collect(alloc)?)
+}
+
+// Who signs candidates. The key has the form of one, so only want of memory refuses it.
+fn signer(alloc: Global) -> Option<DevSigner> {
+    let key = Text::from_str(alloc, KEY).ok()?;
+    DevSigner::new(key)
 }
 
 fn main(rt: HostRuntime) -> ExitCode {
@@ -23,6 +33,9 @@ fn main(rt: HostRuntime) -> ExitCode {
         Err(e) if e.kind() == ErrorKind::OutOfMemory => return ExitCode::from(MEMORY),
         // Words that are no text are of no form, as no words are.
         Err(_) => Vec::new(alloc),
+    };
+    let Some(signer) = signer(alloc) else {
+        return ExitCode::from(MEMORY);
     };
     let mut input = StdSource::new(rt.reader());
     let mut output = StdSink::new(io::writer(&rt));
@@ -37,6 +50,7 @@ fn main(rt: HostRuntime) -> ExitCode {
         &mut notes,
         &mut shelf,
         &DevVerifier,
+        &signer,
     );
     ExitCode::from(status.code())
 }

@@ -6,54 +6,61 @@ use Rattle.saw_messages.specs.declared.talk.Action.TheVariants as actions
 use Rattle.saw_station.specs.Serving.{alone, processors_at}
 use Rattle.saw_station.specs.declared.station.NoStation.{NoStation}
 use Rattle.saw_top.specs.Outside.{outside, outside_with, shelf_end}
-use Rattle.saw_top.proofs.Carrying.{deskless, unasked, unprepared, unread, with_ready, without_remotes}
+use Rattle.saw_top.proofs.Carrying.{deskless, signs, unasked, unprepared, unread, with_ready, without_remotes}
 use Rattle.saw_top.proofs.Desks.{lone_counts}
 use Rattle.saw_top.proofs.top.carry_out.Goals as goal
 
 pub returns-in_err-command : goal.returns-in_err-command
 returns-in_err-command g c =
+    let signing = signs (g.G.Signer.key_text c.args.signer.now) (g.G.Signer.signature c.args.signer.now) in
     let p = err_from_is_err_and c.from_residual.result c.from_residual.ensures.1 in
     record {
       carries = rw (p.1, p.2)
-          (unread (g.V.Verifier.accepts c.args.verifier.now) (alone []) _
+          (unread (g.V.Verifier.accepts c.args.verifier.now) signing (alone []) _
           (outside g.S.Source g.O.Sink g.N.Sink g.F.Shelf c.args.input.now c.args.output.now c.args.notes.now c.args.shelf.now)
           c.in_err-command.ensures.memory);
     }
 
 pub returns-in_default : goal.returns-in_default
 returns-in_default g c =
+    let signing = signs (g.G.Signer.key_text c.args.signer.now) (g.G.Signer.signature c.args.signer.now) in
     let none = rw c.in_default.is at c.in_ok-command.ensures.ok in
     record {
-      carries = unasked (g.V.Verifier.accepts c.args.verifier.now) (alone []) _
+      carries = unasked (g.V.Verifier.accepts c.args.verifier.now) signing (alone []) _
           (outside g.S.Source g.O.Sink g.N.Sink g.F.Shelf c.args.input.now c.args.output.now c.args.notes.now c.args.shelf.now) (sym none);
     }
 
-pub returns-in_err-vouching : goal.returns-in_err-vouching
-returns-in_err-vouching g c =
-    let p = err_from_is_err_and c.from_residual-in_err-vouching.result c.from_residual-in_err-vouching.ensures.1 in
+pub returns-in_err-ready : goal.returns-in_err-ready
+returns-in_err-ready g c =
+    let signing = signs (g.G.Signer.key_text c.args.signer.now) (g.G.Signer.signature c.args.signer.now) in
+    let p = err_from_is_err_and c.from_residual-in_err-ready.result c.from_residual-in_err-ready.ensures.1 in
     let command = c.in-Some.command in
     let asked = rw c.in-Some.is at c.in_ok-command.ensures.ok in
     record {
       carries = rw (p.1, p.2, ← asked)
-          (unprepared (g.V.Verifier.accepts c.args.verifier.now) (alone []) command.task (option_map (λ name. name.now) command.attest)
+          (unprepared (g.V.Verifier.accepts c.args.verifier.now) signing (alone []) command.task (option_map (λ name. name.now) command.attest)
+          (option_map (λ name. name.now) command.batches)
           (outside g.S.Source g.O.Sink g.N.Sink g.F.Shelf c.args.input.now c.args.output.now c.args.notes.now c.args.shelf.now)
-          (shelf_end g.F.Shelf c.prepare.new.shelf) c.in_err-vouching.field-0.0 c.in_err-vouching.ensures.prepares);
+          (shelf_end g.F.Shelf c.prepare.new.shelf) c.in_err-ready.field-0.0 (c.in_err-ready.ensures.prepares signing));
     }
 
 pub returns-in_err-lone_desk : goal.returns-in_err-lone_desk
 returns-in_err-lone_desk g c =
+    let signing = signs (g.G.Signer.key_text c.args.signer.now) (g.G.Signer.signature c.args.signer.now) in
     let p = err_from_is_err_and c.from_residual-in_err-lone_desk.result c.from_residual-in_err-lone_desk.ensures.1 in
     let command = c.in-Some.command in
     let asked = rw c.in-Some.is at c.in_ok-command.ensures.ok in
     record {
       carries = rw (p.1, p.2, ← asked)
-          (deskless (g.V.Verifier.accepts c.args.verifier.now) (alone []) command.task (option_map (λ name. name.now) command.attest)
+          (deskless (g.V.Verifier.accepts c.args.verifier.now) signing (alone []) command.task (option_map (λ name. name.now) command.attest)
+          (option_map (λ name. name.now) command.batches)
           (outside g.S.Source g.O.Sink g.N.Sink g.F.Shelf c.args.input.now c.args.output.now c.args.notes.now c.args.shelf.now)
-          (shelf_end g.F.Shelf c.prepare.new.shelf) _ c.in_ok-vouching.ensures.prepares);
+          (shelf_end g.F.Shelf c.prepare.new.shelf) _ (c.in_ok-ready.ensures.prepares signing));
     }
 
 pub returns : goal.returns
 returns g c =
+    let signing = signs (g.G.Signer.key_text c.args.signer.now) (g.G.Signer.signature c.args.signer.now) in
     let command = c.in-Some.command in
     let asked = rw c.in-Some.is at c.in_ok-command.ensures.ok in
     let at = processors_at (λ tx turns. actions.Invalid Remote) true in
@@ -61,13 +68,14 @@ returns g c =
     c.in_ok-lone_desk.ensures.remote c.do_task.ensures.desks in
     record {
       carries = rw (← asked)
-          (with_ready (g.V.Verifier.accepts c.args.verifier.now) (alone []) command.task (option_map (λ name. name.now) command.attest)
+          (with_ready (g.V.Verifier.accepts c.args.verifier.now) signing (alone []) command.task (option_map (λ name. name.now) command.attest)
+          (option_map (λ name. name.now) command.batches)
           (outside g.S.Source g.O.Sink g.N.Sink g.F.Shelf c.args.input.now c.args.output.now c.args.notes.now c.args.shelf.now)
-          (shelf_end g.F.Shelf c.prepare.new.shelf) _ c.in_ok-vouching.ensures.prepares
+          (shelf_end g.F.Shelf c.prepare.new.shelf) _ (c.in_ok-ready.ensures.prepares signing)
           (outside g.S.Source g.O.Sink g.N.Sink g.F.Shelf c.do_task.new.input c.do_task.new.output c.do_task.new.notes c.prepare.new.shelf)
           c.do_task.result refl
           (λ from to. without_remotes at c.in_ok-lone_desk.field-0.offers c.in_ok-lone_desk.ensures.offers _ _ counts.0 counts.1 command.task _
           (outside_with g.S.Source g.O.Sink g.N.Sink c.args.input.now c.args.output.now c.args.notes.now from [])
           (outside_with g.S.Source g.O.Sink g.N.Sink c.do_task.new.input c.do_task.new.output c.do_task.new.notes to []) c.do_task.result
-          (c.do_task.ensures.does from to)));
+          (rw c.as_slice.ensures at (c.do_task.ensures.does from to))));
     }

@@ -1,0 +1,183 @@
+//! What is published behind the head: a candidate of waiting batches, and those that it leaves out on the notes.
+
+ghost use Rattle.std.specs.Prelude.{◌≡◌, ◌≤◌, ◌<◌, ◌^◌, ◌⊎◌, ℕ, length, take, IfOk, IfErr, IfSome, OnErr, OnOk, IsErrOf};
+ghost use Rattle.std.specs.Int.{to_be_bytes, w32};
+ghost use Rattle.std.specs.Io.KnownBytes.{Appends};
+ghost use Rattle.std.specs.List.{flat_map};
+ghost use Rattle.saw_crew.specs.Desks.{Failed, HaveSameOffers, KeepsDesks, offers_at};
+ghost use Rattle.saw_faults.specs.Counts.{Rose};
+ghost use Rattle.saw_io.specs.Frame.{frame};
+ghost use Rattle.saw_publish.specs.Candidates.{Signing};
+ghost use Rattle.saw_report.specs.Lines.{loss_line};
+ghost use Rattle.saw_station.specs.Serving.{processors_at};
+ghost use Rattle.saw_top.specs.Ends.{Finishes, Tells};
+ghost use Rattle.saw_top.specs.Making.{Makes, block_in, code_with, text_with};
+ghost use Rattle.saw_top.specs.Outside.{counts_of, sink_end};
+ghost use Rattle.saw_top.specs.Publishing.{Waiting};
+ghost use Rattle.saw_top.specs.declared.task.Ending.TheVariants.{Candidate};
+
+use crate::Status;
+use saw_io::{Sink, write_all};
+use saw_journal::Journal;
+use saw_messages::Batch;
+use saw_node::Sha512Half;
+use saw_publish::{PublishFault, build};
+use saw_receipts::Loss;
+use saw_report::{RunFault, loss_line};
+use saw_station::{Desk, Station};
+use saw_verify::{Signer, Verifier};
+use saw_wire::Items;
+use std::alloc::Global;
+use std::thread::Threads;
+
+/// A candidate's block, if a batch is applied, and the batches that are left out.
+#[derive(Drop)]
+struct Made {
+    block: Option<Vec<u8>>,
+    dropped: Items<Loss>,
+}
+
+// There are few accepted blocks.
+fn few(journal: &Journal<Sha512Half>)
+    ensures { length journal.now.blocks < 2 ^ 63 }
+{
+    let _ = journal.blocks().len();
+}
+
+// Builds a candidate behind the head.
+fn make<T: Threads + Sync, V: Verifier, G: Signer, R: Station>(
+    rt: &T,
+    alloc: Global,
+    journal: &Journal<Sha512Half>,
+    verifier: &V,
+    signer: &G,
+    batches: &[Batch],
+    desks: &mut [Desk<R>],
+) -> Result<Made, RunFault>
+    requires some { 0 < length desks.old }
+    requires alike { HaveSameOffers desks.old }
+    ensures makes { let signing : Signing = record { key = G.key_text signer.now; signature = G.signature signer.now } in
+        Makes (processors_at R.next R.tells (offers_at desks.old)) (V.accepts verifier.now) signing journal.now
+        batches.now result }
+    ensures desks { KeepsDesks R.faults R.offered desks.old desks.new }
+    ensures cause { IsErrOf result RunFault.Peer → Failed R.faults desks.old desks.new }
+{
+    few(journal);
+    let parent = journal.parent()?;
+    let known = journal.known()?;
+    match build(
+        rt,
+        alloc,
+        parent.as_ref(),
+        &known,
+        journal.state(),
+        batches,
+        verifier,
+        signer,
+        desks,
+    ) {
+        Ok(made) => Ok(Made {
+            block: Some(made.block),
+            dropped: made.dropped,
+        }),
+        Err(PublishFault::NothingValid { dropped }) => Ok(Made {
+            block: None,
+            dropped,
+        }),
+        Err(PublishFault::PeerFailed) => Err(RunFault::Peer),
+        Err(PublishFault::Collision { kept, given }) => Err(RunFault::Collision { kept, given }),
+        Err(PublishFault::OutOfMemory) => Err(RunFault::Memory),
+    }
+}
+
+// After a fault a part of the lines was written.
+fn write_losses<N: Sink>(alloc: Global, notes: &mut N, losses: &[Loss]) -> Result<(), RunFault>
+    ensures ok { OnOk result (Appends (N.written notes.old) (N.written notes.new)
+        (flat_map loss_line losses.now)) }
+    ensures err { OnErr result ((n : ℕ) × Appends (N.written notes.old) (N.written notes.new)
+        (take n (flat_map loss_line losses.now))) }
+    ensures fault { IfErr result (λ e. (e ≡ RunFault.Write) ⊎ (e ≡ RunFault.Memory)) }
+    ensures later { N.faults notes.old ≤ N.faults notes.new }
+    ensures cause { IsErrOf result RunFault.Write → Rose (N.faults notes.old) (N.faults notes.new) }
+{
+    for loss in losses {
+        let line = loss_line(alloc, loss)?;
+        write_all(notes, &line)?;
+    }
+    Ok(())
+}
+
+// The length of a frame's content. `None`: 32 bits do not count it.
+fn length_of(content: &[u8]) -> Option<[u8; 4]>
+    ensures { IfSome result (λ bytes. bytes ≡ to_be_bytes w32 (length content.now)) }
+{
+    match u32::try_from(content.len()) {
+        Ok(length) => Some(length.to_be_bytes()),
+        Err(_) => None,
+    }
+}
+
+// A content that 32 bits do not count is want of memory. After a fault a part of the frame was written.
+fn write_frame<O: Sink>(output: &mut O, content: &[u8]) -> Result<(), RunFault>
+    ensures ok { OnOk result (Appends (O.written output.old) (O.written output.new) (frame content.now)) }
+    ensures err { OnErr result ((n : ℕ) × Appends (O.written output.old) (O.written output.new)
+        (take n (frame content.now))) }
+    ensures fault { IfErr result (λ e. (e ≡ RunFault.Write) ⊎ (e ≡ RunFault.Memory)) }
+    ensures later { O.faults output.old ≤ O.faults output.new }
+    ensures cause { IsErrOf result RunFault.Write → Rose (O.faults output.old) (O.faults output.new) }
+{
+    let Some(length) = length_of(content) else {
+        return Err(RunFault::Memory);
+    };
+    write_all(output, &length)?;
+    write_all(output, content)?;
+    Ok(())
+}
+
+// Tells what was made, and gives the status: the losses on the notes, and then the block on the output.
+fn tell<O: Sink, N: Sink>(
+    alloc: Global,
+    output: &mut O,
+    notes: &mut N,
+    refused: bool,
+    made: &Made,
+) -> Result<Status, RunFault>
+    ensures tells { Tells (text_with (block_in made.now)) (flat_map loss_line made.now.dropped)
+        (code_with refused (block_in made.now)) (sink_end O.Sink output.old) (sink_end O.Sink output.new)
+        (sink_end N.Sink notes.old) (sink_end N.Sink notes.new) result }
+{
+    write_losses(alloc, notes, made.dropped.as_slice())?;
+    let Some(block) = &made.block else {
+        return Ok(Status::new(1));
+    };
+    write_frame(output, block)?;
+    Ok(Status::new(if refused { 1 } else { 0 }))
+}
+
+/// Publishes a candidate of waiting batches behind the head, tells those that it leaves out, and gives the status. The
+/// desks keep their offers and their remotes.
+pub(crate) fn publish<T: Threads + Sync, O: Sink, N: Sink, V: Verifier, G: Signer, R: Station>(
+    rt: &T,
+    alloc: Global,
+    output: &mut O,
+    notes: &mut N,
+    journal: &Journal<Sha512Half>,
+    refused: bool,
+    verifier: &V,
+    signer: &G,
+    batches: &[Batch],
+    desks: &mut [Desk<R>],
+) -> Result<Status, RunFault>
+    requires some { 0 < length desks.old }
+    requires alike { HaveSameOffers desks.old }
+    ensures finishes { let signing : Signing = record { key = G.key_text signer.now; signature = G.signature signer.now } in
+        let waiting : Waiting = record { signing = signing; batches = batches.now } in
+        Finishes (processors_at R.next R.tells (offers_at desks.old)) (V.accepts verifier.now) waiting Candidate
+        journal.now refused (sink_end O.Sink output.old) (sink_end O.Sink output.new)
+        (sink_end N.Sink notes.old) (sink_end N.Sink notes.new) (counts_of R.faults desks.old)
+        (counts_of R.faults desks.new) result }
+    ensures desks { KeepsDesks R.faults R.offered desks.old desks.new }
+{
+    let made = make(rt, alloc, journal, verifier, signer, batches, desks)?;
+    tell(alloc, output, notes, refused, &made)
+}

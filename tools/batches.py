@@ -1,0 +1,194 @@
+"""Makes a list of batches for `sawval publish`: one `BatchList`, signed with the development mark.
+
+Usage: python3 -B tools/batches.py [--key HEX] [--nonce TEXT] FILE BATCH [BATCH ..]
+
+Each BATCH is one argument: its transactions with `;` between them, each of words with spaces between them. So no word
+has a space or a `;`. The words are:
+
+    intkey set NAME VALUE         sets a new name to a number; with `inc` or `dec` for `set` changes one that is there
+    xo create GAME                makes a game; with `delete` for `create` takes it away
+    xo take GAME SPACE            takes a space, from 1 to 9, of a game
+    settings propose KEY VALUE [NONCE]
+    settings vote PROPOSAL KEY accept|reject
+
+FILE `-` is standard output. For each `propose` a line `proposal ID KEY VALUE` is written to standard error. ID is the
+PROPOSAL of a vote on it, and depends on KEY, VALUE and NONCE alone.
+
+Options:
+--key HEX       the key that signs batches and transactions, 66 hex digits; without it `02` and 64 times `0`
+--nonce TEXT    makes other transactions of the same words. A branch takes no transaction twice, so each list for it
+                needs a TEXT of its own; the first needs none.
+
+For example, a list of two batches, a first block that is made of it, and what is said of that block:
+
+    python3 -B tools/batches.py list "intkey set a 5; intkey inc a 2" "xo create g; xo take g 5"
+    sawval publish --batches list < /dev/null > block
+    sawval apply < block
+
+Lists of several keys or nonces are joined with `cat`. Words that a family refuses whatever the state end the tool with
+status 2 and one line, which counts batches and transactions from 0 as `sawval` does; then nothing is written. Status 1
+says that FILE cannot be written.
+"""
+
+import argparse
+import re
+import sys
+
+import counters
+from applied import values
+from counters import record
+from families import ACCEPT, KEYS, PROPOSALS, PROPOSE, REJECT, THRESHOLD, VOTE
+from families import Transaction, act, is_number, keys_in, last, move, number, proposed, sha256, written_batch
+
+KEY = "02" + "0" * 64
+LONGEST_NAME = 20
+CHOICES = {"accept": ACCEPT, "reject": REJECT}
+
+
+class Wrong(Exception):
+    """What is wrong with the words."""
+
+
+def demand(holds, wrong):
+    if not holds:
+        raise Wrong(wrong)
+
+
+def is_utf8(word):
+    """Whether the bytes of a word of the command line are UTF-8."""
+    try:
+        word.encode()
+    except UnicodeEncodeError:
+        return False
+    return True
+
+
+# Transactions of each family. What is refused here the family refuses in every state.
+
+
+def counter(signer, verb, name, value):
+    demand(len(name) <= LONGEST_NAME, f"name {name!r} has {len(name)} characters, of at most {LONGEST_NAME}")
+    fits = re.fullmatch("[0-9]{1,10}", value) and int(value) <= counters.LIMIT
+    demand(fits, f"value {value!r} is no number of up to ten digits from 0 to {counters.LIMIT}")
+    own = [counters.address(name)]
+    return Transaction("intkey", signer, counters.operation(verb, name, int(value)), own, own)
+
+
+def game(signer, action, name, space=""):
+    demand("," not in name and "|" not in name, f"name {name!r} of a game has a comma or a bar")
+    demand(action != "take" or space in list("123456789"), f"space {space!r} is no digit from 1 to 9")
+    return move(signer, f"{name},{action},{space}")
+
+
+def propose(signer, _, key, value, nonce=""):
+    demand(key != PROPOSALS, f"{PROPOSALS} is written by votes alone")
+    demand(key != KEYS or keys_in(value), f"value {value!r} names no key")
+    demand(key != THRESHOLD or is_number(value), f"threshold {value!r} is not 1 to 9 digits")
+    data = proposed(key, value) + record(3, nonce)
+    return act(signer, number(1, PROPOSE) + record(2, data), key)
+
+
+def vote(signer, _, proposal, key, choice):
+    demand(re.fullmatch("[0-9a-f]{64}", proposal), f"proposal {proposal!r} is not 64 hex digits")
+    demand(choice in CHOICES, f"vote {choice!r} is neither accept nor reject")
+    data = record(1, proposal) + number(2, CHOICES[choice])
+    return act(signer, number(1, VOTE) + record(2, data), key)
+
+
+# What makes a transaction of a family and an action, and the words that it takes.
+FORMS = {
+    "intkey set": (counter, "NAME VALUE"),
+    "intkey inc": (counter, "NAME VALUE"),
+    "intkey dec": (counter, "NAME VALUE"),
+    "xo create": (game, "GAME"),
+    "xo take": (game, "GAME SPACE"),
+    "xo delete": (game, "GAME"),
+    "settings propose": (propose, "KEY VALUE [NONCE]"),
+    "settings vote": (vote, "PROPOSAL KEY accept|reject"),
+}
+
+
+def transaction(signer, words):
+    demand(words, "there are no words")
+    demand(all(map(is_utf8, words)), "the words are not UTF-8")
+    name, rest = " ".join(words[:2]), words[2:]
+    demand(name in FORMS, f"{name!r} is none of: {', '.join(FORMS)}")
+    make, form = FORMS[name]
+    most, least = len(form.split()), len(re.sub(r"\[.*\]", "", form).split())
+    demand(least <= len(rest) <= most, f"{name} wants {form}, and has {len(rest)} words behind it")
+    return make(signer, words[1], *rest)
+
+
+# Lists.
+
+
+def batch(signer, nonce, place, text):
+    """The transactions of a batch. The nonce of each is the text of the option, if any, and its place."""
+    front, made = f"{nonce}/" if nonce else "", []
+    for at, part in enumerate(text.split(";")):
+        try:
+            tx = transaction(signer, part.split())
+        except Wrong as wrong:
+            raise Wrong(f"batch {place} transaction {at}: {wrong}") from None
+        tx.nonce = f"{front}{place}/{at}"
+        made.append(tx)
+    return made
+
+
+def proposal_line(tx):
+    """What is told of a transaction that proposes, and nothing of any other."""
+    if tx.family != "sawtooth_settings" or values(tx.payload, 1) != [PROPOSE]:
+        return ""
+    (data,) = values(tx.payload, 2)
+    return f"proposal {sha256(data)} {last(data, 1)} {last(data, 2)}\n"
+
+
+def batch_list(key, nonce, texts):
+    """The list of these batches, and the lines of its proposals."""
+    demand(re.fullmatch("[0-9a-f]{66}", key), f"key {key!r} is not 66 hex digits")
+    demand(is_utf8(nonce), f"nonce {nonce!r} is not UTF-8")
+    batches = [batch(key, nonce, place, text) for place, text in enumerate(texts)]
+    lines = "".join(proposal_line(tx) for made in batches for tx in made)
+    return b"".join(record(1, written_batch(made)[1]) for made in batches), lines
+
+
+class Words(argparse.ArgumentParser):
+    def error(self, message):
+        """Ends the tool with one line in place of several."""
+        self.exit(2, f"{message}\n")
+
+
+def arguments():
+    shape = argparse.RawDescriptionHelpFormatter
+    parser = Words(usage=argparse.SUPPRESS, description=__doc__, formatter_class=shape, allow_abbrev=False)
+    parser.add_argument("--key", default=KEY, help=argparse.SUPPRESS)
+    parser.add_argument("--nonce", default="", help=argparse.SUPPRESS)
+    parser.add_argument("file", metavar="FILE", help=argparse.SUPPRESS)
+    parser.add_argument("batches", metavar="BATCH", nargs="+", help=argparse.SUPPRESS)
+    return parser.parse_args()
+
+
+def write(name, content):
+    """Writes a file, or standard output, whose number is 1."""
+    with open(1 if name == "-" else name, "wb", closefd=name != "-") as file:
+        file.write(content)
+
+
+def main():
+    given = arguments()
+    try:
+        content, lines = batch_list(given.key, given.nonce, given.batches)
+    except Wrong as wrong:
+        print(wrong, file=sys.stderr)
+        return 2
+    try:
+        write(given.file, content)
+    except OSError as error:
+        print(f"{given.file!r} cannot be written: {error.strerror}", file=sys.stderr)
+        return 1
+    sys.stderr.write(lines)
+    return 0
+
+
+if __name__ == "__main__":
+    sys.exit(main())
