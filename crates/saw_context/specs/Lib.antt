@@ -1,4 +1,5 @@
 pub mod Conversation
+pub mod Coverage
 pub mod Outcome
 pub mod Serial
 pub mod Views

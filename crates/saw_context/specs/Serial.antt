@@ -1,5 +1,5 @@
 -- Batches one after another, each wholly or not at all.
-use Rattle.std.specs.Prelude.{ℕ, suc, Bool, List, [], ◌∷◌, ◌++◌}
+use Rattle.std.specs.Prelude.{suc, Bool, List, [], ◌∷◌, ◌++◌}
 use Rattle.std.specs.List.{list_any}
 use Rattle.std.specs.Str.{bytes_eq}
 use Rattle.saw_address.specs.Maps.{StateMap}
@@ -7,7 +7,6 @@ use Rattle.saw_messages.specs.TxShapes.{TxShape}
 use Rattle.saw_messages.specs.declared.outcome.Change.{Change}
 use Rattle.saw_messages.specs.declared.outcome.Outcome.{Outcome}
 use Rattle.saw_messages.specs.declared.outcome.Outcome.TheVariants as outcomes
-use Rattle.saw_messages.specs.declared.outcome.Reason.{Reason}
 use Rattle.saw_context.specs.Outcome.{Processors, outcome_of, map_after}
 use Rattle.saw_context.specs.declared.batch_result.BatchResult.{BatchResult}
 use Rattle.saw_context.specs.declared.batch_result.BatchResult.TheVariants.{Applied, Failed}

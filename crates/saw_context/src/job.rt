@@ -1,5 +1,9 @@
 //! Transactions that are to be run, and their results.
 
+ghost use Rattle.std.specs.Prelude.{◌≡◌, true};
+ghost use Rattle.std.specs.Arc.{arc_value};
+ghost use Rattle.saw_context.specs.Coverage.{are_changes_covered};
+
 use crate::reads::Read;
 use crate::view::View;
 use saw_messages::{Outcome, Transcript, Tx};
@@ -24,7 +28,7 @@ pub struct Job {
     pub dependency_failed: bool,
 }
 
-/// What came of a job.
+/// What came of a job. It changes only addresses that an output of its transaction covers.
 #[derive(Drop)]
 pub struct Done {
     pub ticket: Ticket,
@@ -33,4 +37,5 @@ pub struct Done {
     pub talk: Transcript,
     pub reads: Items<Read>,
     pub outcome: Outcome,
+    ghost covered: { are_changes_covered (arc_value tx).header.outputs outcome ≡ true },
 }

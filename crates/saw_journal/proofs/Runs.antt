@@ -10,8 +10,8 @@ use Rattle.saw_context.specs.Possible.{MayComeOfAll}
 use Rattle.saw_context.specs.Serial.{left_after}
 use Rattle.saw_context.specs.declared.batch_result.BatchResult.{BatchResult}
 use Rattle.saw_merkle.specs.Clashes.{IsClashFor, IsPreparedFor}
+use Rattle.saw_merkle.specs.Preparations.{Preparation}
 use Rattle.saw_merkle.specs.States.{States, map_at, state_at}
-use Rattle.saw_merkle.specs.declared.prepared.Prepared.{Prepared}
 use Rattle.saw_messages.specs.TxShapes.{BatchShape, TxShape}
 use Rattle.saw_messages.specs.declared.outcome.Change.{Change}
 use Rattle.saw_node.specs.Trees.{root_of_map}
@@ -103,7 +103,7 @@ module _ (processors : Processors) (hash : List ℕ → List ℕ) (states : Stat
       other_root (Failed fault) told = subst (λ fault. Answers (Err (Failed fault))) (sym told) tt
 
       -- or there is a record of it
-      pub is_new : (block : BlockRecord) (prepared : Prepared) → root_fault checked.header root ≡ None → IsSome (state_at states before) → AreRising changes
+      pub is_new : (block : BlockRecord) (prepared : Preparation) → root_fault checked.header root ≡ None → IsSome (state_at states before) → AreRising changes
           → IsPreparedFor hash states (map_after (map_at states before) changes) prepared
           → block ≡ record {
             id = checked.id;

@@ -28,10 +28,10 @@ use Rattle.saw_merkle.proofs.Local.{value_from_has, node_with}
 use Rattle.saw_merkle.proofs.Walk.{node_at-table, nothing_below}
 use Rattle.saw_merkle.specs.Inside.{AddsNodes, Grows, HasMore, HasSame, IsFlat, IsSound, Moves, has_root, states_of}
 use Rattle.saw_merkle.specs.Clashes.{AreTold, IsClashFor, IsNodeOfBoth, IsNodeOfKnown, IsPreparedFor}
+use Rattle.saw_merkle.specs.Preparations.{Preparation}
 use Rattle.saw_merkle.specs.States.{AreRooted, IsRooted, States, Updates, knows, map_at, state_at}
 use Rattle.saw_store.specs.declared.new_node.NewNode.{NewNode}
 use Rattle.saw_merkle.specs.declared.flat.Flat.{Flat}
-use Rattle.saw_merkle.specs.declared.prepared.Prepared.{Prepared}
 use Rattle.saw_merkle.proofs.OneMap.{map_read-root}
 use Rattle.saw_merkle.proofs.Keeping.{adds_all, adds_none, kept_at-with, read_stays, root_comes, root_stays, theirs_after}
 use Rattle.saw_merkle.proofs.Placed.{addressed, addresses, all_kept, node_kept}
@@ -248,7 +248,7 @@ module _ (hash : List ℕ → List ℕ) (nodes : Nodes) (roots : List (List ℕ)
     | inr new ↦ inr (only node new)
   ]
 
-  pub prepared_for : (prepared : Prepared) → prepared.root ≡ answer → prepared.news ≡ news → AreNamed hash news → IsRootWith hash nodes m answer news
+  pub prepared_for : (prepared : Preparation) → prepared.root ≡ answer → prepared.news ≡ news → AreNamed hash news → IsRootWith hash nodes m answer news
       → AreClear hash nodes news
       → IsPreparedFor hash (states_of nodes roots) m prepared
   prepared_for prepared root_is news_are named with_news clear = record {
@@ -269,7 +269,7 @@ module _ (hash : List ℕ → List ℕ) (nodes : Nodes) (roots : List (List ℕ)
   clash_for (Collision kept given) with_news clash =
       (with_news.only (shape_of given) clash.0, kept_both with_news.only (shape_of kept) clash.1, clash.2, clash.3)
 
-  module _ (prepared : Prepared) (is : IsPreparedFor hash (states_of nodes roots) m prepared) (root_is : prepared.root ≡ answer)
+  module _ (prepared : Preparation) (is : IsPreparedFor hash (states_of nodes roots) m prepared) (root_is : prepared.root ≡ answer)
       (news_are : prepared.news ≡ news) where
     only_of : (node : Shape) → IsIn news node → IsNodeOf hash (finite.entries m) node
     only_of node is_in = is.only node (subst (λ xs. IsIn xs node) (sym news_are) is_in)
@@ -298,7 +298,7 @@ pub record Updated (hash : List ℕ → List ℕ) (new : Nodes) (states : States
   pub updates : Updates hash states root changes answer (states_of new new_roots)
 
 pub updated : (hash : List ℕ → List ℕ) (old new : Nodes) (roots new_roots : List (List ℕ)) (empty root : List ℕ) (changes : List Change)
-    (flat taken after : Option Flat) (states : States) (prepared : Prepared)
+    (flat taken after : Option Flat) (states : States) (prepared : Preparation)
     → IsSound hash old roots empty flat → states_of old roots ≡ states → IsSome (state_at states root)
     → IsPreparedFor hash states (map_after (map_at states root) changes) prepared
     → new ≡ with_all hash old prepared.news → HasMore roots new_roots prepared.root → taken ≡ flat → Moves new taken root prepared.root changes after

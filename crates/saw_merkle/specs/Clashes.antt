@@ -7,8 +7,8 @@ use Rattle.saw_node.specs.Trees.{IsNodeOf, root_of_map}
 use Rattle.saw_store.specs.News.{AreNamed, IsIn}
 use Rattle.saw_store.specs.declared.fault.StoreFault.{StoreFault}
 use Rattle.saw_store.specs.declared.fault.StoreFault.TheVariants.{Collision, OutOfMemory}
+use Rattle.saw_merkle.specs.Preparations.{Preparation}
 use Rattle.saw_merkle.specs.States.{States, state_at}
-use Rattle.saw_merkle.specs.declared.prepared.Prepared.{Prepared}
 
 -- a node of the map of a known root
 pub record IsNodeOfKnown (hash : List ℕ → List ℕ) (states : States) (node : Shape) : Type 0 where
@@ -43,7 +43,7 @@ IsClashFor hash states m OutOfMemory = ⊤
 
 -- what a map needs to become known: its root, and its nodes but those of known maps, none of which clash
 pub record IsPreparedFor (hash : List ℕ → List ℕ) (states : States) (m : StateMap)
-    (prepared : Prepared) : Type 0 where
+    (prepared : Preparation) : Type 0 where
   pub root : prepared.root ≡ root_of_map hash m
   pub addresses : AreAddresses (finite.entries m)
   pub named : AreNamed hash prepared.news

@@ -1,4 +1,5 @@
 pub mod States
+pub mod Preparations
 pub mod Clashes
 pub mod Below
 pub mod Children

@@ -5,12 +5,25 @@ ghost use Rattle.std.specs.Prelude.{◌≡◌};
 use saw_node::NodeHash;
 use saw_store::NewNode;
 use saw_wire::Items;
+use std::marker::Model;
 
 /// The root of a map, and those of its nodes that are not kept yet.
 #[derive(Drop)]
 pub struct Prepared {
     pub(crate) root: NodeHash,
     pub(crate) news: Items<NewNode>,
+}
+
+impl Model for Prepared {
+    ghost use Rattle.std.specs.Coded.{codes};
+    ghost use Rattle.std.proofs.Props.{props};
+    ghost use Rattle.saw_merkle.specs.Preparations.{Preparation};
+
+    ghost Value = { Preparation };
+
+    ghost coded = { Prim.hlevel (codes, props) };
+
+    ghost view = { λ prepared. record { root = prepared.root; news = prepared.news } };
 }
 
 impl Prepared {

@@ -2,3 +2,4 @@ pub mod TransactionsBack
 pub mod BatchesBack
 pub mod BlocksBack
 pub mod ReceiptsBack
+pub mod SameTxs

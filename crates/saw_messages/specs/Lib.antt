@@ -3,6 +3,7 @@ pub mod Batches
 pub mod Blocks
 pub mod Receipts
 pub mod TxShapes
+pub mod TxEquality
 pub mod ReadBack
 pub mod Distinct
 pub mod Reasons

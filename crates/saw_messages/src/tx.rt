@@ -2,6 +2,7 @@
 
 ghost use Rattle.std.specs.Prelude.{◌≡◌, ◌⊎◌, Ok, Err, OnOk, IfOk, IfErr};
 ghost use Rattle.saw_messages.specs.Transactions.{transaction_header};
+ghost use Rattle.saw_messages.specs.TxEquality.{tx_eq};
 
 use crate::decoding::decode_transaction_header;
 use crate::transaction::TransactionHeader;
@@ -54,6 +55,15 @@ impl Tx {
             header_bytes,
             payload,
         })
+    }
+
+    /// Whether it is the same transaction. The headers are those of the bytes, so that only these are compared.
+    pub fn is_same(&self, other: &Tx) -> bool
+        ensures { result ≡ tx_eq self.now other.now }
+    {
+        self.id == other.id
+            && self.header_bytes == other.header_bytes
+            && self.payload == other.payload
     }
 }
 

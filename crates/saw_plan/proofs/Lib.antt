@@ -1,3 +1,4 @@
 pub mod Transactions
 pub mod Rest
 pub mod Whole
+pub mod Pairs

@@ -1,4 +1,5 @@
 pub mod BatchShapes
+pub mod Precedence
 pub mod StaticRules
 pub mod Sorting
 pub mod SortingSteps

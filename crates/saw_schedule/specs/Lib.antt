@@ -1,1 +1,5 @@
 pub mod BatchResults
+pub mod Orders
+pub mod Agreement
+pub mod Histories
+pub mod Laws

@@ -1,8 +1,14 @@
-//! What came of the batches of a plan.
+//! The schedule of a plan: which transactions may run, what they came to, and the batches settled in order.
 #![tactic(auto)]
 
 mod changes;
+mod ended;
+mod laws;
 mod results;
+mod step;
 
+pub use ended::{Difference, Finished, Given};
+pub use laws::{few_reruns, histories_are_kept, never_stuck, no_needless_rerun, steps_are_serial};
 pub use results::Results;
 pub use saw_context::BatchResult;
+pub use step::Step;

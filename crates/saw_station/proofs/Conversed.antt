@@ -13,7 +13,6 @@ use Rattle.saw_messages.specs.TxShapes.{TxShape}
 use Rattle.saw_messages.specs.declared.outcome.Change.{Change}
 use Rattle.saw_messages.specs.declared.receipt.Event.{Event}
 use Rattle.saw_messages.specs.declared.talk.Action.{Action}
-use Rattle.saw_messages.specs.declared.talk.Action.TheVariants as actions
 use Rattle.saw_messages.specs.declared.talk.Turn.{Turn}
 use Rattle.saw_messages.specs.declared.transaction.TransactionHeader.{TransactionHeader}
 use Rattle.saw_context.specs.Conversation.{body_of}
@@ -73,7 +72,7 @@ reads_are_alike m n reads h k =
 
 -- ---- the conversation
 
-conversed-by : (next : List Turn → Action) (header : TransactionHeader) (m : StateMap) (talk : Talk) (last : Action) (changes : List Change)
+pub conversed-by : (next : List Turn → Action) (header : TransactionHeader) (m : StateMap) (talk : Talk) (last : Action) (changes : List Change)
     → conversation next header m ≡ talk → next talk.turns ≡ last → changes ≡ changes_of talk.own
     → conversed next header m ≡ outcome_at last changes talk.events
 unfolding conversed

@@ -3,4 +3,5 @@ pub mod Recorded
 pub mod Talks
 pub mod Replays
 pub mod Conversed
+pub mod Covered
 pub mod Finished

@@ -4,6 +4,7 @@ ghost use Rattle.std.specs.Prelude.{◌≡◌, ◌≤◌, false, true, is_some, 
 ghost use Rattle.std.specs.Arc.{arc_value};
 ghost use Rattle.std.specs.List.{AllByRecursion};
 ghost use Rattle.saw_context.specs.Access.{no_access};
+ghost use Rattle.saw_context.specs.Coverage.{are_changes_covered};
 ghost use Rattle.saw_context.specs.Outcome.{are_declared, outcome_at};
 ghost use Rattle.saw_context.specs.Possible.{MayCome};
 ghost use Rattle.saw_context.specs.SoundResults.{Agrees, IsOfBase, IsSoundDone};
@@ -143,6 +144,8 @@ fn refused(alloc: Global, job: &Job, reason: Reason) -> Result<Done, AllocError>
 }
 
 fn done_of(job: &Job, spoken: Spoken) -> Result<Done, AllocError>
+    requires covered { are_changes_covered (arc_value job.now.tx).header.outputs
+        (outcome_at spoken.last spoken.done.changes spoken.done.events) ≡ true }
     ensures { IfOk result (IsTalk job.now spoken) }
 {
     let Spoken { talk, last, done } = spoken;

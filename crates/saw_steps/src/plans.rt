@@ -8,7 +8,7 @@ use crate::tx::{NO_WORDS, Words, tx_of};
 use crate::words::{NoForm, put_hex, put_number, put_word, words_of};
 use saw_crew::execute;
 use saw_messages::{Change, Outcome, PlainBase, Tx, TxBatch};
-use saw_plan::{DropCause, Dropped, Known, Plan, Sorted, precheck};
+use saw_plan::{DropCause, Dropped, Known, Plan, Sorted, pairs_predecessors, precheck};
 use saw_schedule::BatchResult;
 use saw_station::{Desk, NoStation};
 use saw_wire::{Items, Text};
@@ -48,9 +48,20 @@ fn call(
         ["known", id] => insert(alloc, &mut planning.known.batches, id),
         ["there", id] => insert(alloc, &mut planning.known.transactions, id),
         ["tx", id, dependencies, payload] => add_tx(alloc, planning, id, dependencies, payload),
+        ["declared", id, inputs, outputs, dependencies] => {
+            let words = Words {
+                id,
+                inputs,
+                outputs,
+                dependencies,
+                ..NO_WORDS
+            };
+            add_declared(alloc, planning, words)
+        }
         ["batch", id] => add_batch(alloc, planning, id),
         ["precheck"] => put_sorted(alloc, planning, out),
         ["execute"] => put_results(alloc, planning, out),
+        ["precedence"] => put_precedence(alloc, planning, out),
         _ => Err(NoForm.into()),
     }
 }
@@ -76,6 +87,10 @@ fn add_tx<'a>(
         dependencies,
         payload,
     };
+    add_declared(alloc, planning, words)
+}
+
+fn add_declared(alloc: Global, planning: &mut Planning, words: Words<'_>) -> anyhow::Result<()> {
     let tx = tx_of(alloc, words)?;
     planning.txs.push(Arc::new(alloc, tx)?)?;
     Ok(())
@@ -152,6 +167,29 @@ fn put_cause(alloc: Global, out: &mut Vec<u8>, cause: &DropCause) -> Result<(), 
 fn put_at(alloc: Global, out: &mut Vec<u8>, word: &[u8], t: u32) -> Result<(), AllocError> {
     put_word(out, word)?;
     put_number(alloc, out, t)
+}
+
+/// The numbers of the transactions that precede each one. The batches are gone then.
+fn put_precedence(alloc: Global, planning: &mut Planning, out: &mut Vec<u8>) -> anyhow::Result<()> {
+    let batches = mem::replace(&mut planning.batches, Vec::new(alloc));
+    let plan = Plan {
+        batches: Items::from_vec(batches),
+    };
+    let txs = plan.transactions(alloc)?;
+    for index in 0..u32::try_from(txs.len())? {
+        let found = pairs_predecessors(alloc, &plan, index)?;
+        put_numbers(alloc, out, &found)?;
+    }
+    Ok(())
+}
+
+fn put_numbers(alloc: Global, out: &mut Vec<u8>, numbers: &[u32]) -> Result<(), AllocError> {
+    put_word(out, b"behind")?;
+    for number in numbers {
+        put_number(alloc, out, *number)?;
+    }
+    out.push(b'\n')?;
+    Ok(())
 }
 
 /// What comes of the batches over the empty map. They are gone then.

@@ -63,6 +63,24 @@ fn laws_of_transactions_and_families(_rt: HostRuntime) {
 }
 
 #[test]
+fn laws_of_schedules(_rt: HostRuntime) {
+    saw_machine::states_are_kept();
+    saw_machine::never_stuck();
+    saw_machine::view_is_last();
+    saw_machine::no_later_change();
+    saw_machine::no_later_write();
+    saw_machine::edges_decide();
+    saw_machine::edges_hit();
+    saw_machine::no_needless_rerun();
+    saw_machine::few_reruns();
+    saw_schedule::steps_are_serial();
+    saw_schedule::histories_are_kept();
+    saw_schedule::never_stuck();
+    saw_schedule::no_needless_rerun();
+    saw_schedule::few_reruns();
+}
+
+#[test]
 fn laws_of_blocks_and_streams(_rt: HostRuntime) {
     saw_verify::list_is_read();
     saw_checks::faultless_batch_is_good();

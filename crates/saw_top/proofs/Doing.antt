@@ -15,15 +15,13 @@ use Rattle.saw_journal.specs.Judgement.{Kept, Rules}
 use Rattle.saw_journal.specs.Ledger.{Ledger, map_under}
 use Rattle.saw_merkle.specs.States.{States}
 use Rattle.saw_node.specs.Hashes.{first_half}
-use Rattle.saw_node.specs.Nodes.{Shape, shape_of}
-use Rattle.saw_node.specs.Trees.{IsNodeOf}
 use Rattle.saw_node.specs.declared.node.Node.{Node}
 use Rattle.saw_receipts.specs.declared.block.BlockRecord.{BlockRecord}
 use Rattle.saw_report.specs.Lines.{head_line}
 use Rattle.saw_report.specs.declared.run_fault.RunFault.TheVariants as runs
 use Rattle.saw_report.specs.declared.run_fault.RunFault.{RunFault}
 use Rattle.saw_top.specs.Answers.{Prepared, ready_with}
-use Rattle.saw_top.specs.Clashing.{TellsAlike}
+use Rattle.saw_top.specs.Clashing.{ClashIn, TellsAlike}
 use Rattle.saw_top.specs.Ends.{ClashesAt, Finishes, IsOfEnd, WritesBy, WritesEnd, draft_in, end_at, plain_end}
 use Rattle.saw_top.specs.Publishing.{Waiting, candidate_status, candidate_text, draft_at, losses_text, parent_at}
 use Rattle.saw_publish.specs.Building.{map_before}
@@ -31,11 +29,10 @@ use Rattle.saw_publish.specs.Candidates.{Signing}
 use Rattle.saw_publish.specs.Drafts.{Draft, draft_of}
 use Rattle.saw_receipts.specs.Branches.{ids_in}
 use Rattle.saw_messages.specs.declared.batch.Batch.{Batch as BatchMessage}
-use Rattle.saw_address.specs.Maps.{StateMap, no_entries}
-use Rattle.saw_merkle.specs.Clashes.{IsNodeOfBoth}
+use Rattle.saw_address.specs.Maps.{StateMap}
 use Rattle.saw_top.specs.EndingFaults.{IsOfStream}
 use Rattle.saw_top.specs.Headline.{Does, EndsBy, GoesOn, HasCause, HasFault, IsDone, KeepsUp, MeetsClash, MeetsClashBehind, Shows}
-use Rattle.saw_top.specs.History.{History, IsAmong, map_behind, maps_of, records_of, some_refused}
+use Rattle.saw_top.specs.History.{History, map_behind, records_of, some_refused}
 use Rattle.saw_top.specs.StreamJudging.{JudgesFor}
 use Rattle.saw_top.specs.StreamJudging.{IsPrompt, IsUpToDate, Judges, JudgesAll, JudgesBy, JudgesTo, StopsAtClash}
 use Rattle.saw_top.specs.Listing.{batch_status, batch_text, listing, listing_status, receipts_status, receipts_text}
@@ -54,7 +51,7 @@ use Rattle.saw_top.specs.Stream.{stream_of}
 use Rattle.saw_top.proofs.BehindHead.{map_is}
 use Rattle.saw_top.proofs.Judgements.{IsRight, all_right}
 use Rattle.saw_top.proofs.Listed.{of_head}
-use Rattle.saw_top.proofs.Standings.{nothing_judged}
+use Rattle.saw_top.proofs.Standings.{clash_in, nothing_judged}
 use Rattle.saw_top.proofs.Streams.{whole_read}
 
 -- nothing was written of a text
@@ -110,13 +107,6 @@ module _ (before middle : Outside) (run : History) where
 none_in : (is_full : Bool) (fault : Option RunFault) → (if is_full then Some runs.Blocks else fault) ≡ None → fault ≡ None
 none_in true fault none = absurd cc
 none_in false fault none = none
-
--- a node of a known map is one of the empty map or of an accepted block's
-kept_in : (rules : Rules) (accepted : List Kept) (ledger : Ledger) → IsAfter rules accepted ledger → (m : StateMap) (node : Shape)
-    → IsNodeOfBoth first_half ledger.states m node
-    → (of : StateMap) × ((of ≡ m) ⊎ ((of ≡ no_entries) ⊎ IsAmong of (maps_of accepted))) × IsNodeOf first_half (finite.entries of) node
-kept_in rules accepted ledger after m node (inl known) = (known.m, inr (after.known known.root known.m known.known), known.is)
-kept_in rules accepted ledger after m node (inr is) = (m, inl refl, is)
 
 module _ (rules : Rules) (waiting : Waiting) (task : Task) (bytes : List ℕ) (left : Option (List ℕ)) (before middle : Outside)
     (aside : other_side task.lines middle ≡ other_side task.lines before) where
@@ -187,13 +177,7 @@ module _ (rules : Rules) (waiting : Waiting) (task : Task) (bytes : List ℕ) (l
         tried = met.would;
         output = there.0;
         notes = there.1;
-        given_of = subst (λ (hash : List ℕ → List ℕ). IsNodeOf hash (finite.entries met.m) (shape_of given)) same met.given_of;
-        kept_of = (
-          met.kept_of.0,
-          met.kept_of.1,
-          subst (λ (hash : List ℕ → List ℕ). IsNodeOf hash (finite.entries met.kept_of.0) (shape_of kept)) same met.kept_of.2,
-        );
-        alike = met.alike;
+        clash = subst (λ (hash : List ℕ → List ℕ). ClashIn hash met.m (answer.maps_for met.frames) kept given) same met.clash;
       }
 
   shows_by : rules.hash ≡ first_half → (ledger : Ledger) (e : RunFault) → JudgesBy rules task.lines bytes left old mid ledger (Err e) → EndsBy answer bytes left at (Err e)
@@ -273,9 +257,7 @@ module _ (rules : Rules) (waiting : Waiting) (task : Task) (bytes : List ℕ) (l
       made = ap (λ (e : AtEnd). e.made) end_is ∙ met.made;
       output = subst (λ (new : Option (List ℕ)). Appends at.old new on_output) (sym met.still) there.0;
       notes = subst (λ (new : Option (List ℕ)). Appends at.told_old new on_notes) (sym met.quiet) there.1;
-      given_of = met.clash.0;
-      kept_of = kept_in rules run.accepted ledger judged.ends.after met.m (shape_of kept) met.clash.1;
-      alike = (met.clash.2, met.clash.3);
+      clash = clash_in first_half rules run.accepted ledger judged.ends.after met.m kept given met.clash (met.clash.2, met.clash.3);
     }
 
     ends_by : rules.hash ≡ first_half → (came : Result ℕ RunFault) → WritesBy end ledger middle.output out middle.notes told came → IfErr came IsOfEnd

@@ -1,7 +1,7 @@
 -- Who vouches and what may be published, by what the shelf gave.
-use Rattle.std.proofs.Common.{◌≡◌, ◌⊎◌, inl, inr, ℕ, zero, suc, ◌<◌, ◌≤◌, Bool, true, false, List, [], ◌∷◌, length, cond, Option, Some, None, Result, Ok, Err}
+use Rattle.std.proofs.Common.{◌≡◌, ◌⊎◌, inl, inr, ℕ, zero, suc, ◌<◌, ◌≤◌, true, false, List, [], ◌∷◌, length, cond, Option, Some, None, Result, Ok, Err}
 use Rattle.std.proofs.Common.{refl, sym, ap, subst, ◌∙◌, arith}
-use Rattle.std.specs.Prelude.{◌||◌, IfOk, IfSome, is_some, nat_lt, option_map}
+use Rattle.std.specs.Prelude.{IfOk, IfSome, is_some, nat_lt, option_map}
 use Rattle.std.specs.Global.{Vec}
 use Rattle.std.specs.Str.{bytes_eq}
 use Rattle.std.proofs.lemmas.Bool.Decides.{nat_tests}
@@ -19,7 +19,7 @@ use Rattle.saw_report.specs.declared.run_fault.RunFault.TheVariants as runs
 use Rattle.saw_verify.specs.Lists.{attests, first_bad_line}
 use Rattle.saw_verify.specs.declared.attest.AttestFault.{AttestFault}
 use Rattle.saw_verify.specs.declared.attest.AttestFault.TheVariants as lists
-use Rattle.saw_top.specs.Answers.{attested, batches_of, batches_with, listed, prepared_by, ready_by, ready_with, vouching_with}
+use Rattle.saw_top.specs.Answers.{attested, batches_of, batches_with, listed, prepared_by, ready_by, ready_with}
 use Rattle.saw_top.specs.Limits.{max_batches, max_list}
 use Rattle.saw_top.specs.Outside.{End}
 use Rattle.saw_top.specs.Vouching.{ComesBy, FetchesBy, File, HoldsKnown, IsOf, NamedBy, Prepares, ReadsBy}

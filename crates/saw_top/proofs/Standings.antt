@@ -13,19 +13,20 @@ use Rattle.saw_io.specs.Frame.{FrameGives, IsPart, Takes, frame_at}
 use Rattle.saw_io.specs.declared.fault.FrameFault.{FrameFault}
 use Rattle.saw_io.specs.declared.fault.FrameFault.TheVariants as frames
 use Rattle.saw_journal.specs.Clashing.{Clashes}
-use Rattle.saw_journal.specs.Judgement.{Rules, would_leave}
+use Rattle.saw_journal.specs.Judgement.{Kept, Rules, would_leave}
 use Rattle.saw_journal.specs.Ledger.{IsFull, Ledger, Says, map_under}
-use Rattle.saw_merkle.specs.Clashes.{IsNodeOfBoth}
+use Rattle.saw_merkle.specs.Clashes.{IsClashFor, IsNodeOfBoth}
 use Rattle.saw_merkle.specs.States.{Stays}
-use Rattle.saw_node.specs.Nodes.{shape_of}
+use Rattle.saw_node.specs.Nodes.{Shape, shape_of}
 use Rattle.saw_node.specs.Trees.{IsNodeOf}
 use Rattle.saw_node.specs.declared.node.Node.{Node}
 use Rattle.saw_receipts.specs.declared.verdict.Verdict.{Verdict}
 use Rattle.saw_report.specs.RunFaults.{fault_of_frame}
+use Rattle.saw_store.specs.declared.fault.StoreFault.TheVariants as stores
 use Rattle.saw_top.specs.History.{History, IsAmong, Said, ended, history, is_refused, maps_of, some_refused, tried}
 use Rattle.saw_top.specs.History as histories
 use Rattle.saw_top.specs.StreamJudging.{IsPrompt, IsUpToDate, Judges, JudgesBy, JudgesTo, StopsAtClash, TakesNext, report_in, report_of}
-use Rattle.saw_top.specs.Clashing.{AreAlike, ClashesBy, LeavesUnjudged}
+use Rattle.saw_top.specs.Clashing.{AreAlike, ClashIn, ClashesBy, LeavesUnjudged}
 use Rattle.saw_top.specs.Limits.{max_frames, max_length}
 use Rattle.saw_top.specs.Outside.{WritesFront}
 use Rattle.saw_top.specs.Reports.{line_of, report, said_of}
@@ -52,6 +53,19 @@ front_cut text old mid new written piece more n whole first second =
     let parts : text ≡ (written ++ take n piece) ++ (drop n piece ++ more) = whole ∙ ap (λ (l : List ℕ). written ++ l) split
     ∙ sym (append_assoc written (take n piece) (drop n piece ++ more)) in
     (written ++ take n piece, drop n piece ++ more, parts, Appends-trans old mid new written (take n piece) first second)
+
+-- ---- nodes that clash
+
+module _ (hash : List ℕ → List ℕ) (rules : Rules) (accepted : List Kept) (ledger : Ledger) (after : IsAfter rules accepted ledger) (m : StateMap) where
+  -- a node of a known map is one of the empty map or of an accepted block's
+  kept_in : (node : Shape) → IsNodeOfBoth hash ledger.states m node
+      → (of : StateMap) × ((of ≡ m) ⊎ ((of ≡ no_entries) ⊎ IsAmong of (maps_of accepted))) × IsNodeOf hash (finite.entries of) node
+  kept_in node (inl known) = (known.m, inr (after.known known.root known.m known.known), known.is)
+  kept_in node (inr is) = (m, inl refl, is)
+
+  pub clash_in : (kept given : Node) → IsClashFor hash ledger.states m (stores.Collision kept given) → AreAlike kept given
+      → ClashIn hash m (maps_of accepted) kept given
+  clash_in kept given clash alike = record { given_of = clash.0; kept_of = kept_in (shape_of kept) clash.1; alike = alike }
 
 -- ---- where the judging stands
 
@@ -353,9 +367,7 @@ module _ (rules : Rules) (lines : Lines) where
             m = met.left;
             would = would_be met.left met.left_is;
             written = at.written;
-            given_of = met.clash.0;
-            kept_of = which met.clash.1;
-            alike = alike;
+            clash = clash_in rules.hash rules seen.accepted ledger at.stands met.left kept given met.clash alike;
           }
         where
           would_be : (m : StateMap) → would_leave rules (map_under ledger.states) ledger.blocks content.items ≡ Some m
@@ -364,12 +376,6 @@ module _ (rules : Rules) (lines : Lines) where
               ap (λ (s : Stream). slice_get (tried rules s.frames []) (length at.frames)) goes_on
               ∙ tried_at rules at.frames content.items others.frames [] at.room
               ∙ ap Some (sym (left_same rules seen.accepted ledger at.stands content.items) ∙ is)
-
-          which : IsNodeOfBoth rules.hash ledger.states met.left (shape_of kept)
-              → (of : StateMap) × ((of ≡ met.left) ⊎ ((of ≡ no_entries) ⊎ IsAmong of (maps_of seen.accepted)))
-              × IsNodeOf rules.hash (finite.entries of) (shape_of kept)
-          which (inl known) = (known.m, inr (at.stands.known known.root known.m known.known), known.is)
-          which (inr is) = (met.left, inl refl, is)
 
       -- it has no verdict, since it found no room, two nodes clashed, a processor failed or memory was refused
       pub not_judged : RunsOneByOne rules.runs → (e : RunFault) (after_it : Ledger) → LeavesUnjudged e

@@ -1,5 +1,5 @@
 -- What was told at the end, as what the end says.
-use Rattle.std.proofs.Common.{◌≡◌, ◌⊎◌, ◌≤◌, inl, inr, ℕ, Bool, true, false, List, [], ◌++◌, length, take, drop, Option, Some, None, Result, Ok, Err, refl}
+use Rattle.std.proofs.Common.{◌≡◌, ◌⊎◌, ◌≤◌, inl, inr, ℕ, Bool, true, false, List, [], length, take, drop, Option, Some, None, Result, Ok, Err, refl}
 use Rattle.std.proofs.Common.{sym, ap, subst, ◌∙◌, arith}
 use Rattle.std.specs.Prelude.{◌||◌, IfErr, IfOk, IsErrOf, OnErr, if◌then◌else◌, ◌==◌}
 use Rattle.std.specs.Io.KnownBytes.{Appends}
@@ -22,12 +22,12 @@ use Rattle.saw_receipts.specs.declared.block.BlockRecord.{BlockRecord}
 use Rattle.saw_report.specs.Lines.{loss_line}
 use Rattle.saw_report.specs.declared.run_fault.RunFault.TheVariants as runs
 use Rattle.saw_report.specs.declared.run_fault.RunFault.{RunFault}
-use Rattle.saw_top.specs.Ends.{Finishes, IsOfEnd, Tells, WritesBy, WritesEnd, draft_in, end_at, end_of_draft, plain_end}
+use Rattle.saw_top.specs.Ends.{Finishes, IsOfEnd, Tells, WritesBy, WritesEnd, draft_in, end_at, plain_end}
 use Rattle.saw_top.specs.Headline.{IsDone}
 use Rattle.saw_top.specs.Listing.{entries_under, found_status}
-use Rattle.saw_top.specs.Making.{Makes, MakesAs, block_in, code_with, content_if, text_with}
+use Rattle.saw_top.specs.Making.{Makes, MakesAs, block_in, code_with, text_with}
 use Rattle.saw_top.specs.Outside.{End, SomeRose, WritesFront}
-use Rattle.saw_top.specs.Publishing.{Waiting, candidate_status, candidate_text, is_nothing, losses_text, parent_at}
+use Rattle.saw_top.specs.Publishing.{Waiting, is_nothing, parent_at}
 use Rattle.saw_top.specs.Run.{AtEnd, status_by}
 use Rattle.saw_top.specs.World.{Accepts, TellsAll, rules_by}
 use Rattle.saw_top.specs.declared.publishing.Made.{Made}

@@ -1,13 +1,17 @@
--- Two different nodes of one hash, as a fault tells them.
-use Rattle.std.specs.Prelude.{◌≡◌, ◌≢◌, ⊤, ℕ, List}
+-- Two different nodes of one hash, as a fault tells them, and of which maps they are.
+use Rattle.std.specs.Prelude.{◌≡◌, ◌≢◌, ◌⊎◌, ⊤, ℕ, List}
+use Rattle.std.specs.FinMap as finite
+use Rattle.saw_address.specs.Maps.{StateMap, no_entries}
 use Rattle.saw_journal.specs.Clashing.{Clashes}
 use Rattle.saw_journal.specs.Judgement.{Rules}
 use Rattle.saw_journal.specs.Ledger.{Ledger}
 use Rattle.saw_node.specs.Hashes.{first_half}
 use Rattle.saw_node.specs.Nodes.{encoding_of, shape_of}
+use Rattle.saw_node.specs.Trees.{IsNodeOf}
 use Rattle.saw_node.specs.declared.node.Node.{Node}
 use Rattle.saw_report.specs.declared.run_fault.RunFault.{RunFault}
 use Rattle.saw_report.specs.declared.run_fault.RunFault.TheVariants.{Blocks, Collision, Memory, Peer}
+use Rattle.saw_top.specs.History.{IsAmong}
 
 -- two different nodes of one hash
 abbrev pub AreAlike : Node → Node → Type 0
@@ -23,6 +27,13 @@ TellsAlike fault = ⊤
 abbrev pub ClashesBy : Rules → Ledger → List ℕ → RunFault → Type 0
 ClashesBy rules old content (Collision kept given) = Clashes rules old.states old.blocks content kept given
 ClashesBy rules old content fault = ⊤
+
+-- two nodes that clash: the given one is of a map, and the kept one of that map, of the empty one, or of one among others
+pub record ClashIn (hash : List ℕ → List ℕ) (m : StateMap) (others : List StateMap) (kept given : Node) : Type 0 where
+  pub given_of : IsNodeOf hash (finite.entries m) (shape_of given)
+  pub kept_of : (of : StateMap) × ((of ≡ m) ⊎ ((of ≡ no_entries) ⊎ IsAmong of others))
+      × IsNodeOf hash (finite.entries of) (shape_of kept)
+  pub alike : AreAlike kept given
 
 -- a fault of a block without verdict: no room, two nodes of one hash, a failed processor or want of memory
 abbrev pub LeavesUnjudged : RunFault → Type 0

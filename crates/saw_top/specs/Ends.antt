@@ -1,5 +1,5 @@
 -- What a journal with all blocks has at the end, and what was written of it.
-use Rattle.std.specs.Prelude.{◌≡◌, ◌≢◌, ◌⊎◌, ◌≤◌, ℕ, Bool, List, [], Option, Some, None, Result, Ok, Err, IfErr, IfOk, IsErrOf}
+use Rattle.std.specs.Prelude.{◌≡◌, ◌≢◌, ◌⊎◌, ◌≤◌, ℕ, Bool, List, [], Some, None, Result, Ok, Err, IfErr, IfOk, IsErrOf}
 use Rattle.std.specs.Io.KnownBytes.{Appends}
 use Rattle.saw_address.specs.Maps.{StateMap}
 use Rattle.saw_context.specs.Outcome.{Processors}

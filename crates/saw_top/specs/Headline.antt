@@ -1,24 +1,20 @@
 -- What a run does: it gives the answer, or a front of it and the fault that ended it.
 use Rattle.std.specs.Prelude.{◌≡◌, ◌≢◌, ◌⊎◌, ◌↔◌, ◌<◌, ◌≤◌, ◌||◌, ℕ, Bool, true, false, List, [], ◌∷◌, ◌++◌, length, slice_get, take, is_some, Option, Some, None, Result, Ok, Err, IfSome, if◌then◌else◌}
 use Rattle.std.specs.Io.KnownBytes.{Appends, Consumes, IsAtEnd}
-use Rattle.std.specs.FinMap as finite
-use Rattle.saw_address.specs.Maps.{StateMap, no_entries}
+use Rattle.saw_address.specs.Maps.{StateMap}
 use Rattle.saw_context.specs.Outcome.{Processors}
 use Rattle.saw_faults.specs.Counts.{Rose}
 use Rattle.saw_io.specs.Frame.{IsPart}
 use Rattle.saw_io.specs.Shelf.{Files}
 use Rattle.saw_node.specs.Hashes.{first_half}
-use Rattle.saw_node.specs.Nodes.{shape_of}
-use Rattle.saw_node.specs.Trees.{IsNodeOf}
 use Rattle.saw_node.specs.declared.node.Node.{Node}
 use Rattle.saw_report.specs.RunFaults.{fault_line, status_of}
 use Rattle.saw_report.specs.declared.run_fault.RunFault.{RunFault}
 use Rattle.saw_report.specs.declared.run_fault.RunFault.TheVariants.{Words, Truncated, TooLong, Read, Write, Peer, Collision, Memory, FileMissing, FileTooLong, FileFailed, BadLine, BadList}
 use Rattle.saw_top.specs.Answers.{Prepared, answer_for, answer_of, prepared, task_by}
-use Rattle.saw_top.specs.Clashing.{AreAlike}
+use Rattle.saw_top.specs.Clashing.{AreAlike, ClashIn}
 use Rattle.saw_top.specs.Command.{Wish, wish_of}
 use Rattle.saw_top.specs.EndingFaults.{is_told}
-use Rattle.saw_top.specs.History.{IsAmong}
 use Rattle.saw_top.specs.StreamJudging.{StopsAtLength, TakesNext}
 use Rattle.saw_top.specs.Limits.{max_frames}
 use Rattle.saw_top.specs.Outside.{End, Outside, Sides, SomeFailed, SomeRose, WritesFront, sides_of}
@@ -84,10 +80,7 @@ module _ (answer : Answer) (bytes : List ℕ) (left : Option (List ℕ)) (writte
     pub tried : slice_get answer.tried (length frames) ≡ Some (Some m)
     pub output : Appends written.old written.new (answer.output_for frames)
     pub notes : Appends written.told_old written.told_new (answer.noted_for frames)
-    pub given_of : IsNodeOf first_half (finite.entries m) (shape_of given)
-    pub kept_of : (of : StateMap) × ((of ≡ m) ⊎ ((of ≡ no_entries) ⊎ IsAmong of (answer.maps_for frames)))
-        × IsNodeOf first_half (finite.entries of) (shape_of kept)
-    pub alike : AreAlike kept given
+    pub clash : ClashIn first_half m (answer.maps_for frames) kept given
 
   -- The same of a candidate: one of the map that it would leave, and one of that map, of the empty one, or of one that an
   -- accepted block leaves. All blocks have their lines, and nothing else was written or told.
@@ -99,10 +92,7 @@ module _ (answer : Answer) (bytes : List ℕ) (left : Option (List ℕ)) (writte
     pub made : answer.made ≡ Some m
     pub output : Appends written.old written.new (answer.output_for frames)
     pub notes : Appends written.told_old written.told_new (answer.noted_for frames)
-    pub given_of : IsNodeOf first_half (finite.entries m) (shape_of given)
-    pub kept_of : (of : StateMap) × ((of ≡ m) ⊎ ((of ≡ no_entries) ⊎ IsAmong of (answer.maps_for frames)))
-        × IsNodeOf first_half (finite.entries of) (shape_of kept)
-    pub alike : AreAlike kept given
+    pub clash : ClashIn first_half m (answer.maps_for frames) kept given
 
   -- all of it, and its one fault
   abbrev pub HasFault : RunFault → Type 0

@@ -1,7 +1,7 @@
 pub mod Limits
-pub mod Clashing
 pub mod World
 pub mod History
+pub mod Clashing
 pub mod KeptBlocks
 pub mod Reports
 pub mod Listing

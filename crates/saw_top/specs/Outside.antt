@@ -1,5 +1,5 @@
 -- The ends of the outside at one moment: what each tells, and how often it has failed.
-use Rattle.std.specs.Prelude.{◌≡◌, ◌⊎◌, ◌<◌, ◌≤◌, ℕ, List, [], ◌∷◌, ◌++◌, Option, option_map}
+use Rattle.std.specs.Prelude.{◌≡◌, ◌⊎◌, ℕ, List, [], ◌∷◌, ◌++◌, Option, option_map}
 use Rattle.std.specs.List.{filter_map}
 use Rattle.std.specs.Io.KnownBytes.{Appends}
 use Rattle.saw_faults.specs.Counts.{Rose}

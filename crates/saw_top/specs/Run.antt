@@ -18,9 +18,9 @@ use Rattle.saw_top.specs.declared.task.Lines.{Lines}
 use Rattle.saw_top.specs.declared.task.Lines.TheVariants.{All, Refused}
 use Rattle.saw_top.specs.declared.task.Task.{Task}
 
--- What a run writes, what it tells on the notes, the fault whose line follows there, and its status. Besides, the maps that
--- all its blocks would leave, and the one that a candidate would; of how many blocks it tells a verdict, and of the first frames what of output and notes their
--- lines are alone, and the maps that the accepted ones of them leave.
+-- What a run writes, what it tells on the notes, the fault whose line follows there, and its status. Besides, the maps
+-- that all its blocks would leave, and the one that a candidate would; of how many blocks it tells a verdict, and of the
+-- first frames what of output and notes their lines are alone, and the maps that the accepted ones of them leave.
 pub record Answer : Type 0 where
   pub output : List ℕ
   pub noted : List ℕ

@@ -1,15 +1,12 @@
 -- What was written when the judging of a stream ended.
 use Rattle.std.specs.Prelude.{◌≡◌, ◌⊎◌, ◌≤◌, ◌<◌, ℕ, Bool, List, [], ◌∷◌, ◌++◌, length, slice_get, Option, Some, None, Result, Ok, Err, IfErr, IfSome, IsErrOf}
-use Rattle.std.specs.FinMap as finite
 use Rattle.std.specs.Io.KnownBytes.{Appends, Consumes, IsAtEnd}
-use Rattle.saw_address.specs.Maps.{StateMap, no_entries}
+use Rattle.saw_address.specs.Maps.{StateMap}
 use Rattle.saw_io.specs.Frame.{frame_at, IsPart}
 use Rattle.saw_journal.specs.Judgement.{Rules}
 use Rattle.saw_journal.specs.Ledger.{Ledger}
-use Rattle.saw_node.specs.Nodes.{shape_of}
-use Rattle.saw_node.specs.Trees.{IsNodeOf}
 use Rattle.saw_node.specs.declared.node.Node.{Node}
-use Rattle.saw_top.specs.History.{IsAmong, history, maps_of, some_refused, tried}
+use Rattle.saw_top.specs.History.{history, maps_of, some_refused, tried}
 use Rattle.saw_top.specs.Limits.{max_frames, max_length}
 use Rattle.saw_top.specs.Outside.{WritesFront, Outside, SomeRose, lines_side, other_side}
 use Rattle.saw_top.specs.Reports.{report}
@@ -21,7 +18,7 @@ use Rattle.saw_report.specs.declared.run_fault.RunFault.TheVariants.{Truncated, 
 use Rattle.saw_top.specs.declared.task.Lines.{Lines}
 use Rattle.saw_context.specs.Outcome.{Processors}
 use Rattle.saw_faults.specs.Counts.{Rose}
-use Rattle.saw_top.specs.Clashing.{AreAlike, TellsAlike}
+use Rattle.saw_top.specs.Clashing.{ClashIn, TellsAlike}
 use Rattle.saw_top.specs.EndingFaults.{IsOfStream}
 use Rattle.saw_top.specs.World.{Accepts, TellsAll, rules_by}
 
@@ -79,11 +76,7 @@ module _ (rules : Rules) (lines : Lines) where
     pub m : StateMap
     pub would : slice_get (tried rules (stream_of bytes).frames []) (length frames) ≡ Some (Some m)
     pub written : Appends old new (report_of frames)
-    pub given_of : IsNodeOf rules.hash (finite.entries m) (shape_of given)
-    pub kept_of : (of : StateMap)
-        × ((of ≡ m) ⊎ ((of ≡ no_entries) ⊎ IsAmong of (maps_of (history rules frames []).accepted)))
-        × IsNodeOf rules.hash (finite.entries of) (shape_of kept)
-    pub alike : AreAlike kept given
+    pub clash : ClashIn rules.hash m (maps_of (history rules frames []).accepted) kept given
 
   -- the lines of all blocks
   abbrev pub report_in : List ℕ → List ℕ

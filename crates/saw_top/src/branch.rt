@@ -2,21 +2,20 @@
 
 ghost use Rattle.std.specs.Prelude.{◌≡◌, ◌≤◌, ◌⊎◌, ℕ, take, option_copied, IfOk, IfErr, OnErr, OnOk, IsErrOf};
 ghost use Rattle.std.specs.Io.KnownBytes.{Appends};
-ghost use Rattle.std.specs.List.{flat_map};
 ghost use Rattle.saw_faults.specs.Counts.{Rose};
 ghost use Rattle.saw_queries.specs.Queries.{block_with, branch_receipts};
 ghost use Rattle.saw_receipts.specs.Heads.{head_branch};
-ghost use Rattle.saw_report.specs.Lines.{receipt_line};
 ghost use Rattle.saw_top.specs.Listing.{batch_status, batch_text, receipts_status, receipts_text};
 
 use crate::Status;
+use crate::line::write_lines;
 use saw_io::{Sink, write_all};
 use saw_journal::Journal;
 use saw_messages::Receipt;
 use saw_node::Sha512Half;
 use saw_queries::{receipts_of_branch, status_of};
 use saw_receipts::BlockRecord;
-use saw_report::{RunFault, receipt_line, status_line};
+use saw_report::{RunFault, status_line};
 use saw_wire::Text;
 use std::alloc::{AllocError, Global};
 
@@ -31,27 +30,6 @@ fn receipts_of_head(
         None => Ok(Vec::new(alloc)),
         Some(head) => receipts_of_branch(alloc, journal.blocks(), &head.id),
     }
-}
-
-// After a fault a part of the lines was written.
-fn write_receipts<O: Sink>(
-    alloc: Global,
-    output: &mut O,
-    receipts: &[Receipt],
-) -> Result<(), RunFault>
-    ensures ok { OnOk result (Appends (O.written output.old) (O.written output.new)
-        (flat_map receipt_line receipts.now)) }
-    ensures err { OnErr result ((n : ℕ) × Appends (O.written output.old) (O.written output.new)
-        (take n (flat_map receipt_line receipts.now))) }
-    ensures fault { IfErr result (λ e. (e ≡ RunFault.Write) ⊎ (e ≡ RunFault.Memory)) }
-    ensures later { O.faults output.old ≤ O.faults output.new }
-    ensures cause { IsErrOf result RunFault.Write → Rose (O.faults output.old) (O.faults output.new) }
-{
-    for receipt in receipts {
-        let line = receipt_line(alloc, receipt)?;
-        write_all(output, &line)?;
-    }
-    Ok(())
 }
 
 /// Writes the receipts of the head's branch, and gives the status. After a fault a part of them was written.
@@ -70,7 +48,7 @@ pub(crate) fn list_receipts<O: Sink>(
     ensures cause { IsErrOf result RunFault.Write → Rose (O.faults output.old) (O.faults output.new) }
 {
     let receipts = receipts_of_head(alloc, journal)?;
-    write_receipts(alloc, output, &receipts)?;
+    write_lines(alloc, output, &receipts)?;
     Ok(Status::new(if receipts.is_empty() { 8 } else { 0 }))
 }
 

@@ -2,11 +2,10 @@
 
 ghost use Rattle.std.specs.Prelude.{◌≡◌, ◌≤◌, ◌<◌, ◌⊎◌, ℕ, length, take, IfOk, IfErr, OnErr, OnOk, IsErrOf};
 ghost use Rattle.std.specs.Io.KnownBytes.{Appends};
-ghost use Rattle.std.specs.List.{flat_map};
 ghost use Rattle.saw_faults.specs.Counts.{Rose};
 ghost use Rattle.saw_receipts.specs.Heads.{head_of};
 ghost use Rattle.saw_journal.specs.Ledger.{map_under};
-ghost use Rattle.saw_report.specs.Lines.{head_line, listed_line};
+ghost use Rattle.saw_report.specs.Lines.{head_line};
 ghost use Rattle.saw_top.specs.Listing.{listing, listing_status};
 ghost use Rattle.saw_top.specs.Run.{status_by};
 ghost use Rattle.saw_crew.specs.Desks.{HaveSameOffers, KeepsDesks, offers_at};
@@ -18,15 +17,16 @@ ghost use Rattle.saw_top.specs.Publishing.{Waiting};
 
 use crate::Status;
 use crate::branch::{list_receipts, tell_batch};
+use crate::line::write_lines;
 use crate::publishing::publish;
 use crate::task::Ending;
 use saw_address::Prefix;
 use saw_io::{Sink, write_all};
 use saw_journal::Journal;
-use saw_merkle::{Listed, Tree};
+use saw_merkle::Tree;
 use saw_messages::Batch;
 use saw_node::Sha512Half;
-use saw_report::{RunFault, head_line, listed_line};
+use saw_report::{RunFault, head_line};
 use saw_station::{Desk, Station};
 use saw_verify::{Signer, Verifier};
 use std::alloc::Global;
@@ -89,23 +89,6 @@ fn tell_head<O: Sink>(
     Ok(Status::new(if refused { 1 } else { 0 }))
 }
 
-// After a fault a part of the lines was written.
-fn write_listed<O: Sink>(alloc: Global, output: &mut O, listed: &[Listed]) -> Result<(), RunFault>
-    ensures ok { OnOk result (Appends (O.written output.old) (O.written output.new)
-        (flat_map listed_line listed.now)) }
-    ensures err { OnErr result ((n : ℕ) × Appends (O.written output.old) (O.written output.new)
-        (take n (flat_map listed_line listed.now))) }
-    ensures fault { IfErr result (λ e. (e ≡ RunFault.Write) ⊎ (e ≡ RunFault.Memory)) }
-    ensures later { O.faults output.old ≤ O.faults output.new }
-    ensures cause { IsErrOf result RunFault.Write → Rose (O.faults output.old) (O.faults output.new) }
-{
-    for entry in listed {
-        let line = listed_line(alloc, entry)?;
-        write_all(output, &line)?;
-    }
-    Ok(())
-}
-
 // Writes the entries of a state under a prefix, and gives the status.
 fn list_tree<O: Sink>(
     alloc: Global,
@@ -123,7 +106,7 @@ fn list_tree<O: Sink>(
     ensures cause { IsErrOf result RunFault.Write → Rose (O.faults output.old) (O.faults output.new) }
 {
     let listed = tree.list(prefix)?;
-    write_listed(alloc, output, &listed)?;
+    write_lines(alloc, output, &listed)?;
     Ok(Status::new(if listed.is_empty() { 8 } else { 0 }))
 }
 

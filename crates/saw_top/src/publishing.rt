@@ -17,13 +17,14 @@ ghost use Rattle.saw_top.specs.Publishing.{Waiting};
 ghost use Rattle.saw_top.specs.declared.task.Ending.TheVariants.{Candidate};
 
 use crate::Status;
+use crate::line::write_lines;
 use saw_io::{Sink, write_all};
 use saw_journal::Journal;
 use saw_messages::Batch;
 use saw_node::Sha512Half;
 use saw_publish::{PublishFault, build};
 use saw_receipts::Loss;
-use saw_report::{RunFault, loss_line};
+use saw_report::RunFault;
 use saw_station::{Desk, Station};
 use saw_verify::{Signer, Verifier};
 use saw_wire::Items;
@@ -90,23 +91,6 @@ fn make<T: Threads + Sync, V: Verifier, G: Signer, R: Station>(
     }
 }
 
-// After a fault a part of the lines was written.
-fn write_losses<N: Sink>(alloc: Global, notes: &mut N, losses: &[Loss]) -> Result<(), RunFault>
-    ensures ok { OnOk result (Appends (N.written notes.old) (N.written notes.new)
-        (flat_map loss_line losses.now)) }
-    ensures err { OnErr result ((n : ℕ) × Appends (N.written notes.old) (N.written notes.new)
-        (take n (flat_map loss_line losses.now))) }
-    ensures fault { IfErr result (λ e. (e ≡ RunFault.Write) ⊎ (e ≡ RunFault.Memory)) }
-    ensures later { N.faults notes.old ≤ N.faults notes.new }
-    ensures cause { IsErrOf result RunFault.Write → Rose (N.faults notes.old) (N.faults notes.new) }
-{
-    for loss in losses {
-        let line = loss_line(alloc, loss)?;
-        write_all(notes, &line)?;
-    }
-    Ok(())
-}
-
 // The length of a frame's content. `None`: 32 bits do not count it.
 fn length_of(content: &[u8]) -> Option<[u8; 4]>
     ensures { IfSome result (λ bytes. bytes ≡ to_be_bytes w32 (length content.now)) }
@@ -146,7 +130,7 @@ fn tell<O: Sink, N: Sink>(
         (code_with refused (block_in made.now)) (sink_end O.Sink output.old) (sink_end O.Sink output.new)
         (sink_end N.Sink notes.old) (sink_end N.Sink notes.new) result }
 {
-    write_losses(alloc, notes, made.dropped.as_slice())?;
+    write_lines(alloc, notes, made.dropped.as_slice())?;
     let Some(block) = &made.block else {
         return Ok(Status::new(1));
     };

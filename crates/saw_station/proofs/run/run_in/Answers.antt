@@ -1,7 +1,13 @@
 use Rattle.std.proofs.Common.{ap, rules}
 use Rattle.saw_context.specs.Access.{Access}
+use Rattle.saw_station.proofs.Covered.{spoken_covered}
 use Rattle.saw_station.proofs.Finished.{talk_result}
 use Rattle.saw_station.proofs.run.run_in.Goals as goal
+
+pub done_of-requires : goal.done_of-requires
+done_of-requires g c = record {
+  covered = rw (← c.deref-4.ensures) (spoken_covered _ _ _ _ _ _ _ _ _ _ c.in_ok-spoken.ensures.spoken);
+}
 
 pub returns-clause-done : goal.returns-clause-done
 returns-clause-done g c =

@@ -1,4 +1,3 @@
-use Rattle.std.proofs.Common.{refl}
 use Rattle.saw_crew.proofs.Leaving.{keep_all}
 use Rattle.saw_crew.specs.Desks.{offers_at}
 use Rattle.saw_station.specs.Serving.{processors_at}

@@ -1,4 +1,4 @@
-use Rattle.std.proofs.Common.{ap, subst, ℕ, List, Err, rules}
+use Rattle.std.proofs.Common.{ap, subst, ℕ, List, Err}
 use Rattle.std.proofs.lemmas.Result.{err_from_is_err_and}
 use Rattle.saw_top.specs.Answers.{batches_of}
 use Rattle.saw_top.specs.Outside.{shelf_end}

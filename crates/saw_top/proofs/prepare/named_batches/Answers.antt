@@ -1,5 +1,4 @@
-use Rattle.std.proofs.Common.{None, Some, refl, rules}
-use Rattle.std.specs.Prelude.{IfSome}
+use Rattle.std.proofs.Common.{None, Some, rules}
 use Rattle.std.specs.Cmp.Lexicographic.{nat_list_eq_equiv}
 use Rattle.std.proofs.lemmas.Slice.Eq.{bytes_eq-Decides}
 use Rattle.saw_top.specs.Outside.{shelf_end}

@@ -1,10 +1,9 @@
-use Rattle.std.proofs.Common.{◌≡◌, ◌⊎◌, ◌∙◌, ap, subst, ℕ, List, Err, Some, None}
+use Rattle.std.proofs.Common.{◌≡◌, ◌⊎◌, ap, subst, ℕ, List, Err, Some}
 use Rattle.std.specs.Prelude.{option_map}
 use Rattle.std.proofs.lemmas.Result.{err_from_is_err_and}
-use Rattle.saw_verify.specs.Lists.{attests, first_bad_line}
+use Rattle.saw_verify.specs.Lists.{first_bad_line}
 use Rattle.saw_verify.specs.declared.attest.AttestFault.TheVariants as lists
 use Rattle.saw_top.specs.Outside.{shelf_end}
-use Rattle.saw_top.specs.World.{Accepts}
 use Rattle.saw_top.proofs.Prepares.{bad_list, unlisted}
 use Rattle.saw_top.proofs.prepare.prepare.Goals as goal
 

@@ -2,8 +2,8 @@ use Rattle.std.proofs.Common.{refl, subst, sym}
 use Rattle.std.proofs.lemmas.Result.{err_from_is_err_and}
 use Rattle.saw_context.specs.Outcome.{map_after}
 use Rattle.saw_store.specs.News.{AreClear, AreNamed, IsClashOf}
-use Rattle.saw_merkle.specs.declared.prepared.Prepared.{Prepared}
 use Rattle.saw_merkle.specs.Clashes.{IsClashFor, IsPreparedFor}
+use Rattle.saw_merkle.specs.Preparations.{Preparation}
 use Rattle.saw_merkle.specs.States.{map_at}
 use Rattle.saw_merkle.proofs.Sound.{clash_for, news_named, prepared_for, root_with}
 use Rattle.saw_merkle.proofs.state.State.prepare.Goals as goal
@@ -41,7 +41,7 @@ returns-clause-ok g c =
     c.self.invariant c.self.view_is c.requires.known c.show_addresses.ensures c.new-news.ensures.items c.in_ok-root.ensures in
     let named = news_named hash nodes empty c.args.root.now c.in_ok-root.root c.args.changes.now c.new-news.result.items news c.new-news.ensures.items
     c.in_ok-root.ensures in
-    let prepared : Prepared = record { root = c.in_ok-root.root; news = c.from_vec.result } in
+    let prepared : Preparation = record { root = c.in_ok-root.root; news = c.from_vec.result } in
     subst (λ s. IsPreparedFor hash s m prepared) c.self.view_is
     (prepared_for hash nodes roots empty c.self.inside.flat c.self.invariant m c.in_ok-root.root news prepared refl c.from_vec.ensures named with_news
     (subst (AreClear hash nodes) c.deref.ensures.value c.in_ok-test_all.ensures.clear))

@@ -1,0 +1,4 @@
+pub mod Orders
+pub mod Serial
+pub mod Machine
+pub mod Laws

@@ -1,0 +1,12 @@
+pub mod Counts
+pub mod Turning
+pub mod Blocks
+pub mod Batches
+pub mod MarkFacts
+pub mod Choosing
+pub mod Releasing
+pub mod Spreads
+pub mod Lowering
+pub mod Resetting
+pub mod Renewals
+pub mod Keeping

@@ -1,0 +1,12 @@
+pub mod Marks
+pub mod Edges
+pub mod Sets
+pub mod Queues
+pub mod Fronts
+pub mod Hits
+pub mod Resets
+pub mod Layouts
+pub mod Successors
+pub mod Cursors
+pub mod Lowest
+pub mod Kept

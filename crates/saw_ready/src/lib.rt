@@ -1,0 +1,21 @@
+//! Which transactions of a plan may be taken: a queue over predecessor edges and marks.
+#![tactic(auto)]
+
+mod choice;
+mod due;
+mod edges;
+mod front;
+mod hits;
+mod layout;
+mod mark;
+mod queue;
+mod release;
+mod reset;
+mod set;
+mod successors;
+
+pub use edges::Edges;
+pub use front::Front;
+pub use mark::Mark;
+pub use queue::Queue;
+pub use set::ReadySet;
