@@ -1,5 +1,13 @@
 pub mod BatchResults
 pub mod Orders
+pub mod Lasts
+pub mod Layout
 pub mod Agreement
 pub mod Histories
+pub mod Shows
+pub mod Inside
+pub mod Settling
+pub mod Shown
+pub mod Jobs
+pub mod Places
 pub mod Laws

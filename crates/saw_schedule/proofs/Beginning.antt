@@ -1,0 +1,181 @@
+-- What a schedule keeps before any step.
+use Rattle.std.proofs.Common.{◌≡◌, ◌<◌, ◌≤◌, ◌^◌, ℕ, zero, suc, List, [], ◌∷◌, length, map, sum, get_or, Option, Some, None, slice_get, vec_capacity, refl, sym, ap, subst, ◌∙◌, arith}
+use Rattle.std.proofs.lemmas.List.{length-map}
+use Rattle.std.specs.Global.{Global}
+use Rattle.std.specs.List.{AllByRecursion}
+use Rattle.std.specs.declared.sync.Arc.{Arc}
+use Rattle.saw_messages.specs.declared.outcome.Outcome.{Outcome}
+use Rattle.saw_messages.specs.TxShapes.{BatchShape, TxShape}
+use Rattle.saw_messages.specs.declared.tx.Tx.{Tx}
+use Rattle.saw_machine.specs.Machine.{Held, Running, State, Task, Waiting}
+use Rattle.saw_machine.specs.Orders.{Order}
+use Rattle.saw_machine.proofs.Closure.{stands-direct}
+use Rattle.saw_plan.specs.BatchShapes.{shapes_of, transactions_in, txs_of}
+use Rattle.saw_plan.specs.Precedence.{precedes_in}
+use Rattle.saw_plan.specs.declared.plan.Plan.{Plan}
+use Rattle.saw_ready.specs.Edges.{AreEarlier, AreEdges}
+use Rattle.saw_ready.specs.Layouts.{AreStarts}
+use Rattle.saw_ready.specs.Queues.{IsNew}
+use Rattle.saw_ready.specs.Sets.{IsEmpty}
+use Rattle.saw_ready.specs.declared.edges.Edges.{Edges}
+use Rattle.saw_ready.specs.declared.mark.Mark.{Mark}
+use Rattle.saw_ready.specs.declared.mark.Mark.TheVariants as marks
+use Rattle.saw_schedule.specs.Histories.{begun, order_in, sizes_in, txs_in}
+use Rattle.saw_schedule.specs.Inside.{AreSlotsOf, IsScheduleOf, running_in}
+use Rattle.saw_schedule.specs.Lasts.{NoLefts}
+use Rattle.saw_schedule.specs.Layout.{ends_of, starts_of}
+use Rattle.saw_schedule.specs.Orders.{names_in}
+use Rattle.saw_schedule.specs.Settling.{HaveState, IsOpen, settled}
+use Rattle.saw_schedule.specs.Shows.{is_edge}
+use Rattle.saw_schedule.specs.declared.kept.Kept.{Kept}
+use Rattle.saw_schedule.specs.declared.lasts.Lasts.{Lasts}
+use Rattle.saw_schedule.specs.declared.slots.Slots.{Slots}
+use Rattle.saw_schedule.proofs.Counting.{count-cons}
+use Rattle.saw_schedule.proofs.Layouts.{length-starts, start-at, starts-are, sum-sizes}
+use Rattle.saw_schedule.proofs.Settleds.{settled-rise}
+
+-- all wait, and nothing is settled
+abbrev pub initial : List ℕ → State
+initial sizes = record { slots = λ i. Waiting; attempts = λ i. 0; results = []; first = 0; rest = sizes }
+
+none-run : (all : List Mark) → ((i : ℕ) → get_or all i marks.Waiting ≡ marks.Waiting) → running_in all ≡ 0
+none-run [] wait = refl
+none-run (m ∷ all) wait =
+    let here : m ≡ marks.Waiting = wait 0 in
+    let more : running_in all ≡ 0 = none-run all (λ i. wait (suc i)) in
+    rw here (let c = count-cons marks.Waiting all in omega (arith, c, more))
+
+kept-at : (kept : List Kept) (i : ℕ) (one : Kept) → AllByRecursion (λ k. k.attempts ≡ 0) kept → slice_get kept i ≡ Some one → one.attempts ≡ 0
+kept-at [] i one none e = absurd (grind arith)
+kept-at (k ∷ kept) zero one none e = ap (attempts_or k) (sym e) ∙ none.0
+  where
+    attempts_or : Kept → Option Kept → ℕ
+    attempts_or d None = d.attempts
+    attempts_or d (Some x) = x.attempts
+kept-at (k ∷ kept) (suc i) one none e = kept-at kept i one none.1 e
+
+pub record Begins (order : Order) (sizes : List ℕ) (preds : Edges) (slots : Slots) : Type 0 where
+  pub queue : IsNew preds (starts_of 0 sizes) slots.queue
+  pub edges : AreEdges preds (sum sizes)
+  pub earlier : AreEarlier preds (sum sizes)
+  pub pairs : (i j : ℕ) → j < i → is_edge preds j i ≡ order.precedes j i
+  pub ends : slots.ends.items ≡ ends_of 0 sizes
+  pub hits_long : length slots.hits ≡ sum sizes
+  pub idle : IsEmpty slots.hits
+  pub kept_long : length slots.kept.items ≡ sum sizes
+  pub untaken : AllByRecursion (λ k. k.attempts ≡ 0) slots.kept.items
+  pub verdicts : slots.verdicts.items ≡ []
+  pub room : length sizes ≤ vec_capacity slots.verdicts
+  pub few : sum sizes < 2 ^ 32
+
+module _ (order : Order) (sizes : List ℕ) (preds : Edges) (slots : Slots) (b : Begins order sizes preds slots) where
+  count : length slots.queue.marks ≡ sum sizes
+  count = b.queue.long ∙ length-starts 0 sizes
+
+  pub begun-slots : AreSlotsOf order sizes (initial sizes) [] slots
+  begun-slots = record {
+    shows = record {
+      first = b.queue.none_settled;
+      count = count ∙ (omega arith);
+      marks = λ i less. b.queue.waiting i;
+      within = λ i less. rw b.queue.preds_are (b.edges.within i (rw count at less));
+      earlier = λ i p less. rw b.queue.preds_are (b.earlier i p (rw count at less));
+      edges = rw b.queue.preds_are (record {
+        pairs = λ j i less e. sym (b.pairs i j less) ∙ e;
+        whole = λ j i less e. stands-direct (is_edge preds) j i less (b.pairs i j less ∙ e);
+      });
+      starts = λ i from less. rw b.queue.starts_are (start-at sizes i (rw count at less));
+    };
+    ends = b.ends;
+    hits_long = b.hits_long ∙ sym count;
+    idle = b.idle;
+    kept_long = b.kept_long ∙ sym count;
+    kept = λ i one e. record {
+      attempts = kept-at slots.kept.items i one b.untaken e;
+      running = λ n task w. absurd (waits≢runs n task w);
+      held = λ task outcome w. absurd (waits≢holds task outcome w);
+    };
+    verdicts = rw b.verdicts (refl, refl);
+    room = b.room;
+    counted = let none = none-run slots.queue.marks b.queue.waiting in omega (arith, none);
+    few = rw count b.few;
+  }
+    where
+      waits≢runs : (n : ℕ) (task : Task) → Waiting ≡ Running n task → ⊥
+      waits≢runs n task e = grind arith
+
+      waits≢holds : (task : Task) (outcome : Outcome) → Waiting ≡ Held task outcome → ⊥
+      waits≢holds task outcome e = grind arith
+
+  pub begun-open : IsOpen (initial sizes)
+  begun-open j closed = absurd (grind arith)
+
+  pub begun-state : HaveState [] slots
+  begun-state = record { order = order; sizes = sizes; state = initial sizes; open_ = begun-open; are = begun-slots }
+
+-- the whole
+pub begun-schedule : (plan : Plan) (txs : List (Arc Tx Global)) (named : Edges) (slots last : Slots) (lasts : Lasts) (capacity : ℕ)
+    → shapes_of txs ≡ txs_in (begun plan) → length txs < 2 ^ 32
+    → AreEdges named (length txs) → AreEarlier named (length txs) → ((i j : ℕ) → j < i → is_edge named j i ≡ names_in (shapes_of txs) i j)
+    → AreSlotsOf (order_in (begun plan)) (sizes_in (begun plan)) (settled (order_in (begun plan)) (initial (sizes_in (begun plan)))) [] last
+    → last.running ≡ 0 → NoLefts lasts
+    → IsScheduleOf (begun plan) txs named last lasts capacity
+begun-schedule plan txs named slots last lasts capacity txs_are few edges earlier names are running none = record {
+  txs_are = txs_are;
+  counted = few;
+  replay = tt;
+  long = edges.long;
+  edges = edges;
+  earlier = earlier;
+  names = λ i j less. names i j less ∙ ap (λ (shapes : List _). names_in shapes i j) txs_are;
+  slots_are = are;
+  lasts_are = record {
+    within = rw none.place (omega arith);
+    some = rw none.change (omega arith);
+    are = λ at. none.none at ∙ rw (none.place, none.change) refl;
+  };
+  rising = settled-rise (order_in (begun plan)) (initial (sizes_in (begun plan))) last.kept.items (λ i j one other at v w less a b is_one is_other. absurd (none≢some v a));
+  room = rw running (omega arith);
+  few = rw running (omega arith);
+}
+  where
+    none≢some : (v : Option (List ℕ)) → None ≡ Some v → ⊥
+    none≢some v e = grind arith
+
+-- ---- as the code begins
+
+module _ (plan : Plan) (txs : List (Arc Tx Global)) (few : length txs < 2 ^ 32) (are : shapes_of txs ≡ txs_in (begun plan)) (count : length txs ≡ transactions_in plan.batches) where
+  pub total : length txs ≡ sum (sizes_in (begun plan))
+  total = count ∙ sym (sum-sizes plan.batches)
+
+  pub begins : (batches : List BatchShape) (preds : Edges) (starts : List ℕ) (slots : Slots) → batches ≡ plan.batches
+      → AreEdges preds (length txs) → AreEarlier preds (length txs) → ((i j : ℕ) → j < i → is_edge preds j i ≡ precedes_in (shapes_of txs) j i)
+      → IsNew preds starts slots.queue → starts ≡ starts_of 0 (map length (txs_of batches)) → slots.ends.items ≡ ends_of 0 (map length (txs_of batches))
+      → (length slots.hits ≡ length txs) × IsEmpty slots.hits
+      → (length slots.kept.items ≡ length txs) × AllByRecursion (λ k. k.attempts ≡ 0) slots.kept.items
+      → slots.verdicts.items ≡ [] → length batches ≤ vec_capacity slots.verdicts
+      → Begins (order_in (begun plan)) (sizes_in (begun plan)) preds slots
+  begins batches preds starts slots batches_are edges earlier pairs queue starts_are ends hits kept verdicts room = record {
+    queue = subst (λ (all : List ℕ). IsNew preds all slots.queue) (starts_are ∙ ap (λ (b : List BatchShape). starts_of 0 (map length (txs_of b))) batches_are) queue;
+    edges = subst (λ (n : ℕ). AreEdges preds n) total edges;
+    earlier = subst (λ (n : ℕ). AreEarlier preds n) total earlier;
+    pairs = λ i j less. pairs i j less ∙ ap (λ (shapes : List _). precedes_in shapes j i) are;
+    ends = ends ∙ ap (λ (b : List BatchShape). ends_of 0 (map length (txs_of b))) batches_are;
+    hits_long = hits.0 ∙ total;
+    idle = hits.1;
+    kept_long = kept.0 ∙ total;
+    untaken = kept.1;
+    verdicts = verdicts;
+    room = subst (λ (n : ℕ). n ≤ vec_capacity slots.verdicts) long room;
+    few = subst (λ (n : ℕ). n < 2 ^ 32) total few;
+  }
+    where
+      long : length batches ≡ length (sizes_in (begun plan))
+      long = ap (λ (b : List BatchShape). length b) batches_are
+          ∙ sym (length-map (txs_of plan.batches) (λ (txs : List TxShape). length txs) ∙ length-map plan.batches (λ (b : BatchShape). b.txs))
+
+  pub starts-right : (batches : List BatchShape) (starts : List ℕ) → batches ≡ plan.batches → starts ≡ starts_of 0 (map length (txs_of batches))
+      → (length txs ≡ length starts) × AreStarts starts
+  starts-right batches starts batches_are starts_are =
+      let is : starts ≡ starts_of 0 (sizes_in (begun plan)) = starts_are ∙ ap (λ (b : List BatchShape). starts_of 0 (map length (txs_of b))) batches_are in
+      (total ∙ sym (ap (λ (l : List ℕ). length l) is ∙ length-starts 0 (sizes_in (begun plan))), subst (λ (l : List ℕ). AreStarts l) (sym is) (starts-are (sizes_in (begun plan))))

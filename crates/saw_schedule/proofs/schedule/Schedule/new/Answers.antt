@@ -1,0 +1,34 @@
+use Rattle.std.proofs.Common.{◌≡◌, ◌<◌, ◌^◌, ℕ, List, [], length, vec_capacity, sym, subst}
+use Rattle.std.specs.Arc.{arc_value}
+use Rattle.std.specs.Global.{Global}
+use Rattle.std.specs.declared.sync.Arc.{Arc}
+use Rattle.saw_messages.specs.declared.tx.Tx.{Tx}
+use Rattle.saw_plan.specs.BatchShapes.{shapes_of, transactions_in, txs_of}
+use Rattle.saw_plan.specs.Precedence.{all_txs}
+use Rattle.saw_plan.specs.declared.plan.Plan.{Plan}
+use Rattle.saw_ready.specs.Edges.{AreEarlier, AreEdges}
+use Rattle.saw_schedule.specs.Histories.{begun, order_in, sizes_in, state_of}
+use Rattle.saw_schedule.specs.Inside.{AreSlotsOf, IsScheduleOf}
+use Rattle.saw_schedule.specs.Orders.{names_in}
+use Rattle.saw_schedule.specs.Shows.{is_edge}
+use Rattle.saw_schedule.specs.declared.step.Step.{Step}
+use Rattle.saw_schedule.proofs.Beginning.{begun-schedule}
+use Rattle.saw_schedule.proofs.schedule.Schedule.new.Goals as goal
+
+pub invariant_of-result : goal.invariant_of-result
+invariant_of-result c =
+    let txs_are : shapes_of c.in_ok-txs.txs ≡ all_txs (txs_of (arc_value c.args.plan).batches) =
+    subst (λ (p : Plan). shapes_of c.in_ok-txs.txs ≡ all_txs (txs_of p.batches)) c.deref.ensures c.in_ok-txs.ensures.txs in
+    let count : length c.in_ok-txs.txs ≡ transactions_in (arc_value c.args.plan).batches =
+    subst (λ (p : Plan). length c.in_ok-txs.txs ≡ transactions_in p.batches) c.deref.ensures c.in_ok-txs.ensures.count in
+    let few : length c.in_ok-txs.txs < 2 ^ 32 = subst (λ (n : ℕ). n < 2 ^ 32) (sym count) c.requires in
+    let are : AreSlotsOf (order_in (begun (arc_value c.args.plan))) (sizes_in (begun (arc_value c.args.plan))) (state_of (begun (arc_value c.args.plan))) [] c.in_ok-slots.slots =
+    subst (λ (p : Plan). AreSlotsOf (order_in (begun p)) (sizes_in (begun p)) (state_of (begun p)) [] c.in_ok-slots.slots) c.deref-2.ensures c.in_ok-slots.ensures.slots in
+    subst (λ (steps : List Step). IsScheduleOf (record { batches = txs_of (arc_value c.args.plan).batches; steps = steps }) c.in_ok-txs.txs c.in_ok-named.field-0
+    c.in_ok-slots.slots c.new.result (vec_capacity c.new-2.result)) (sym c.new-2.ensures.items)
+    (begun-schedule (arc_value c.args.plan) c.in_ok-txs.txs c.in_ok-named.field-0 c.in_ok-slots.slots c.in_ok-slots.slots c.new.result (vec_capacity c.new-2.result)
+    txs_are few
+    (subst (λ (xs : List (Arc Tx Global)). AreEdges c.in_ok-named.field-0 (length xs)) c.as_slice-2.ensures c.in_ok-named.ensures.edges)
+    (subst (λ (xs : List (Arc Tx Global)). AreEarlier c.in_ok-named.field-0 (length xs)) c.as_slice-2.ensures c.in_ok-named.ensures.earlier)
+    (subst (λ (xs : List (Arc Tx Global)). (i j : ℕ) → j < i → is_edge c.in_ok-named.field-0 j i ≡ names_in (shapes_of xs) i j) c.as_slice-2.ensures c.in_ok-named.ensures.names)
+    are c.in_ok-slots.ensures.idle c.new.ensures)

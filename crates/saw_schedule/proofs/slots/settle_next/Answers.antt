@@ -1,0 +1,70 @@
+use Rattle.std.proofs.Common.{◌≡◌, ◌+◌, [], ◌∷◌, ◌++◌, refl, sym, ap, subst, ◌∙◌, arith}
+use Rattle.saw_ready.specs.Queues.{Waits, with_first}
+use Rattle.saw_ready.specs.Resets.{IsFailed}
+use Rattle.saw_schedule.specs.declared.verdict.Verdict.TheVariants.{Failed}
+use Rattle.saw_schedule.proofs.SettlingRounds.{at-place, some-inj, some-state, broken-code, kept-stands, none≢some, broken-held, ends-late, fewer, high, low, no-fewer, none-left, open-code, reason-at, room-for, valid-code, whole-code}
+use Rattle.saw_schedule.proofs.slots.settle_next.Goals as goal
+
+pub returns-then-batch-len-clause-over : goal.returns-then-batch-len-clause-over
+returns-then-batch-len-clause-over c = λ e order sizes st open_ are.
+    (none-left order sizes st c.args.steps.now c.args.slots.now open_ are (no-fewer c.args.slots.now c.len-batch.result c.len.result c.len-batch.ensures c.len.ensures c.if-batch-len.true), are)
+
+pub overflow_sub-end : goal.overflow_sub-end
+overflow_sub-end c = rw c.first-first.ensures (low c.requires.order c.requires.sizes c.requires.state c.args.steps.now c.args.slots.now c.requires.open_ c.requires.are (fewer c.args.slots.now c.len-batch.result c.len.result c.len-batch.ensures c.len.ensures c.if-batch-len.false) c.index-end.result.now (at-place c.args.slots.now c.len-batch.result c.index-end.result.now c.len-batch.ensures c.index-end.ensures))
+
+pub front-requires : goal.front-requires
+front-requires c =
+    let a = low c.requires.order c.requires.sizes c.requires.state c.args.steps.now c.args.slots.now c.requires.open_ c.requires.are (fewer c.args.slots.now c.len-batch.result c.len.result c.len-batch.ensures c.len.ensures c.if-batch-len.false) c.index-end.result.now (at-place c.args.slots.now c.len-batch.result c.index-end.result.now c.len-batch.ensures c.index-end.ensures) in
+    let b = high c.requires.order c.requires.sizes c.requires.state c.args.steps.now c.args.slots.now c.requires.open_ c.requires.are (fewer c.args.slots.now c.len-batch.result c.len.result c.len-batch.ensures c.len.ensures c.if-batch-len.false) c.index-end.result.now (at-place c.args.slots.now c.len-batch.result c.index-end.result.now c.len-batch.ensures c.index-end.ensures) in
+    let e = c.first-first.ensures in
+    omega (arith, a, b, e)
+
+pub apply-requires-clause-within : goal.apply-requires-clause-within
+apply-requires-clause-within c = rw c.front.ensures.same (low c.requires.order c.requires.sizes c.requires.state c.args.steps.now c.args.slots.now c.requires.open_ c.requires.are (fewer c.args.slots.now c.len-batch.result c.len.result c.len-batch.ensures c.len.ensures c.if-batch-len.false) c.index-end.result.now (at-place c.args.slots.now c.len-batch.result c.index-end.result.now c.len-batch.ensures c.index-end.ensures), high c.requires.order c.requires.sizes c.requires.state c.args.steps.now c.args.slots.now c.requires.open_ c.requires.are (fewer c.args.slots.now c.len-batch.result c.len.result c.len-batch.ensures c.len.ensures c.if-batch-len.false) c.index-end.result.now (at-place c.args.slots.now c.len-batch.result c.index-end.result.now c.len-batch.ensures c.index-end.ensures))
+
+pub fail-requires-clause-within : goal.fail-requires-clause-within
+fail-requires-clause-within c = rw c.front.ensures.same (low c.requires.order c.requires.sizes c.requires.state c.args.steps.now c.args.slots.now c.requires.open_ c.requires.are (fewer c.args.slots.now c.len-batch.result c.len.result c.len-batch.ensures c.len.ensures c.if-batch-len.false) c.index-end.result.now (at-place c.args.slots.now c.len-batch.result c.index-end.result.now c.len-batch.ensures c.index-end.ensures), high c.requires.order c.requires.sizes c.requires.state c.args.steps.now c.args.slots.now c.requires.open_ c.requires.are (fewer c.args.slots.now c.len-batch.result c.len.result c.len-batch.ensures c.len.ensures c.if-batch-len.false) c.index-end.result.now (at-place c.args.slots.now c.len-batch.result c.index-end.result.now c.len-batch.ensures c.index-end.ensures))
+
+pub add_verdict-requires : goal.add_verdict-requires
+add_verdict-requires c = room-for c.args.steps.now c.args.slots.now c.requires (fewer c.args.slots.now c.len-batch.result c.len.result c.len-batch.ensures c.len.ensures c.if-batch-len.false)
+
+pub add_verdict-requires-in-Broken : goal.add_verdict-requires-in-Broken
+add_verdict-requires-in-Broken c = room-for c.args.steps.now c.args.slots.now c.requires (fewer c.args.slots.now c.len-batch.result c.len.result c.len-batch.ensures c.len.ensures c.if-batch-len.false)
+
+pub returns-in-Open-clause-over : goal.returns-in-Open-clause-over
+returns-in-Open-clause-over c = λ e order sizes st open_ are.
+    (open-code order sizes st c.args.steps.now c.args.slots.now open_ are (fewer c.args.slots.now c.len-batch.result c.len.result c.len-batch.ensures c.len.ensures c.if-batch-len.false) c.index-end.result.now (at-place c.args.slots.now c.len-batch.result c.index-end.result.now c.len-batch.ensures c.index-end.ensures) c.first-first.result c.first-first.ensures c.in-Open.ensures.front, rw c.front.ensures.same are)
+
+pub apply-requires-clause-valid : goal.apply-requires-clause-valid
+apply-requires-clause-valid c = rw c.front.ensures.same (valid-code c.requires.order c.requires.sizes c.requires.state c.args.steps.now c.args.slots.now c.requires.open_ c.requires.are (fewer c.args.slots.now c.len-batch.result c.len.result c.len-batch.ensures c.len.ensures c.if-batch-len.false) c.index-end.result.now (at-place c.args.slots.now c.len-batch.result c.index-end.result.now c.len-batch.ensures c.index-end.ensures) c.first-first.result c.first-first.ensures c.in-Whole.ensures.front)
+
+pub fail-requires-clause-ends : goal.fail-requires-clause-ends
+fail-requires-clause-ends c = rw c.front.ensures.same (ends-late c.requires.order c.requires.sizes c.requires.state c.args.steps.now c.args.slots.now c.requires.open_ c.requires.are (fewer c.args.slots.now c.len-batch.result c.len.result c.len-batch.ensures c.len.ensures c.if-batch-len.false) c.index-end.result.now (at-place c.args.slots.now c.len-batch.result c.index-end.result.now c.len-batch.ensures c.index-end.ensures))
+
+pub returns-in-Whole-clause-on : goal.returns-in-Whole-clause-on
+returns-in-Whole-clause-on c = λ e order sizes st open_ are.
+    whole-code order sizes st c.args.steps.now c.args.slots.now open_ are (fewer c.args.slots.now c.len-batch.result c.len.result c.len-batch.ensures c.len.ensures c.if-batch-len.false) c.index-end.result.now (at-place c.args.slots.now c.len-batch.result c.index-end.result.now c.len-batch.ensures c.index-end.ensures) c.first-first.result c.first-first.ensures _ c.in-Whole.ensures.front
+    (c.apply.ensures ∙ ap (λ queue. with_first queue c.index-end.result.now) c.front.ensures.same) refl refl refl c.add_verdict.ensures.more c.add_verdict.ensures.room refl
+
+pub returns-in-Whole-clause-state : goal.returns-in-Whole-clause-state
+returns-in-Whole-clause-state c =
+    some-state c.args.steps.now _ (returns-in-Whole-clause-on c refl c.requires.order c.requires.sizes c.requires.state c.requires.open_ c.requires.are)
+
+pub returns-in_default-clause-over : goal.returns-in_default-clause-over
+returns-in_default-clause-over c = λ e order sizes st open_ are.
+    let told = c.reason_in.ensures (st.first + c.in-Broken.t) (broken-held order sizes st c.args.steps.now c.args.slots.now open_ are (fewer c.args.slots.now c.len-batch.result c.len.result c.len-batch.ensures c.len.ensures c.if-batch-len.false) c.index-end.result.now (at-place c.args.slots.now c.len-batch.result c.index-end.result.now c.len-batch.ensures c.index-end.ensures) c.first-first.result c.first-first.ensures c.in-Broken.t c.in-Broken.ensures.front).1 (reason-at order sizes st c.args.steps.now c.args.slots.now open_ are (fewer c.args.slots.now c.len-batch.result c.len.result c.len-batch.ensures c.len.ensures c.if-batch-len.false) c.index-end.result.now (at-place c.args.slots.now c.len-batch.result c.index-end.result.now c.len-batch.ensures c.index-end.ensures) c.first-first.result c.first-first.ensures c.in-Broken.t c.in-Broken.ensures.front c.index.result.now (kept-stands order sizes st c.args.steps.now c.args.slots.now open_ are (fewer c.args.slots.now c.len-batch.result c.len.result c.len-batch.ensures c.len.ensures c.if-batch-len.false) c.index-end.result.now (at-place c.args.slots.now c.len-batch.result c.index-end.result.now c.len-batch.ensures c.index-end.ensures) c.first-first.result c.first-first.ensures c.in-Broken.t c.in-Broken.ensures.front c.index.result.now c.index.ensures)) in
+    absurd (none≢some (broken-held order sizes st c.args.steps.now c.args.slots.now open_ are (fewer c.args.slots.now c.len-batch.result c.len.result c.len-batch.ensures c.len.ensures c.if-batch-len.false) c.index-end.result.now (at-place c.args.slots.now c.len-batch.result c.index-end.result.now c.len-batch.ensures c.index-end.ensures) c.first-first.result c.first-first.ensures c.in-Broken.t c.in-Broken.ensures.front).1 (sym c.in_default.is ∙ told))
+
+pub returns-in-Some-clause-on : goal.returns-in-Some-clause-on
+returns-in-Some-clause-on c = λ e order sizes st open_ are.
+    let told = c.reason_in.ensures (st.first + c.in-Broken.t) (broken-held order sizes st c.args.steps.now c.args.slots.now open_ are (fewer c.args.slots.now c.len-batch.result c.len.result c.len-batch.ensures c.len.ensures c.if-batch-len.false) c.index-end.result.now (at-place c.args.slots.now c.len-batch.result c.index-end.result.now c.len-batch.ensures c.index-end.ensures) c.first-first.result c.first-first.ensures c.in-Broken.t c.in-Broken.ensures.front).1 (reason-at order sizes st c.args.steps.now c.args.slots.now open_ are (fewer c.args.slots.now c.len-batch.result c.len.result c.len-batch.ensures c.len.ensures c.if-batch-len.false) c.index-end.result.now (at-place c.args.slots.now c.len-batch.result c.index-end.result.now c.len-batch.ensures c.index-end.ensures) c.first-first.result c.first-first.ensures c.in-Broken.t c.in-Broken.ensures.front c.index.result.now (kept-stands order sizes st c.args.steps.now c.args.slots.now open_ are (fewer c.args.slots.now c.len-batch.result c.len.result c.len-batch.ensures c.len.ensures c.if-batch-len.false) c.index-end.result.now (at-place c.args.slots.now c.len-batch.result c.index-end.result.now c.len-batch.ensures c.index-end.ensures) c.first-first.result c.first-first.ensures c.in-Broken.t c.in-Broken.ensures.front c.index.result.now c.index.ensures)) in
+    let same : (broken-held order sizes st c.args.steps.now c.args.slots.now open_ are (fewer c.args.slots.now c.len-batch.result c.len.result c.len-batch.ensures c.len.ensures c.if-batch-len.false) c.index-end.result.now (at-place c.args.slots.now c.len-batch.result c.index-end.result.now c.len-batch.ensures c.index-end.ensures) c.first-first.result c.first-first.ensures c.in-Broken.t c.in-Broken.ensures.front).1 ≡ c.in-Some.reason = some-inj (sym told ∙ c.in-Some.is) in
+    broken-code order sizes st c.args.steps.now c.args.slots.now open_ are (fewer c.args.slots.now c.len-batch.result c.len.result c.len-batch.ensures c.len.ensures c.if-batch-len.false) c.index-end.result.now (at-place c.args.slots.now c.len-batch.result c.index-end.result.now c.len-batch.ensures c.index-end.ensures) c.first-first.result c.first-first.ensures c.in-Broken.t c.in-Broken.ensures.front _
+    (c.fail.ensures.same.0 ∙ ap (λ queue. queue.preds) c.front.ensures.same) (c.fail.ensures.same.1 ∙ ap (λ queue. queue.starts) c.front.ensures.same) c.fail.ensures.same.2
+    (subst (λ (queue : Waits). IsFailed queue.preds queue.first c.index-end.result.now queue.marks c.fail.new.self.marks) c.front.ensures.same c.fail.ensures.failed)
+    refl c.fail.ensures.hits c.fail.ensures.idle refl
+    (c.add_verdict-in-Broken.ensures.more ∙ ap (λ reason. c.args.slots.now.verdicts.items ++ Failed c.in-Broken.t reason ∷ []) (sym same)) c.add_verdict-in-Broken.ensures.room refl
+
+pub returns-in-Some-clause-state : goal.returns-in-Some-clause-state
+returns-in-Some-clause-state c =
+    some-state c.args.steps.now _ (returns-in-Some-clause-on c refl c.requires.order c.requires.sizes c.requires.state c.requires.open_ c.requires.are)

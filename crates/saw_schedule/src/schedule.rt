@@ -1,0 +1,335 @@
+//! The schedule of a plan.
+
+ghost use Rattle.std.specs.Prelude.{◌≡◌, ◌≢◌, ◌+◌, ◌<◌, ◌≤◌, ◌^◌, ◌++◌, ◌∷◌, [], ℕ, Some, true, false, if◌then◌else◌, length, get_or, slice_get, vec_capacity, vec_len, IfOk, OnErr};
+ghost use Rattle.std.specs.Arc.{arc_value};
+ghost use Rattle.saw_plan.specs.BatchShapes.{shapes_of, transactions_in, txs_of};
+ghost use Rattle.std.specs.List.{list_any};
+ghost use Rattle.saw_ready.specs.Edges.{AreEdges};
+ghost use Rattle.saw_ready.specs.declared.mark.Mark.TheVariants.{Invalid, Running, Valid, Waiting};
+ghost use Rattle.saw_ready.specs.Queues.{with_mark};
+ghost use Rattle.saw_schedule.specs.Jobs.{IsJobAt};
+ghost use Rattle.saw_schedule.specs.Inside.{AreSlotsOf, IsPlacedAt, IsRunning};
+ghost use Rattle.saw_schedule.specs.Shows.{is_closed_mark, mark_by, targets_of};
+ghost use Rattle.saw_schedule.specs.Histories.{Finishes, Gives, IsReplay, Takes, begun, is_over, order_in, sizes_in, state_of, txs_in};
+
+use crate::agreement::difference;
+use crate::edges::{named, predecessors};
+use crate::ended::{Finished, Given};
+use crate::gathering::gather_results;
+use crate::kept::Kept;
+use crate::lasts::Lasts;
+use crate::layout::{all_kept, ends_of, starts_of};
+use crate::results::Results;
+use crate::slots::{Slots, settle};
+use crate::step::Step;
+use crate::view::view_under;
+use saw_context::{Done, Job, Ticket, View};
+use saw_messages::{Outcome, Tx};
+use saw_plan::Plan;
+use saw_ready::{Edges, Mark, Queue, ReadySet};
+use saw_wire::Items;
+use std::alloc::{AllocError, Global};
+use std::collections::BTreeMap;
+use std::marker::Model;
+use std::sync::Arc;
+
+/// Which transactions of a plan run, are held and are settled: always what the steps so far make of it.
+#[derive(Drop)]
+pub struct Schedule {
+    plan: Arc<Plan>,
+    /// The transactions, numbered through.
+    txs: Items<Arc<Tx>>,
+    /// The earlier transactions that each one names.
+    named: Edges,
+    slots: Slots,
+    lasts: Lasts,
+    steps: Vec<Step>,
+}
+
+impl Model for Schedule {
+    ghost use Rattle.std.specs.Arc.{arc_value};
+    ghost use Rattle.std.specs.Prelude.{vec_capacity};
+    ghost use Rattle.saw_plan.specs.BatchShapes.{txs_of};
+    ghost use Rattle.saw_schedule.specs.Histories.{History};
+    ghost use Rattle.saw_schedule.specs.Inside.{IsScheduleOf};
+
+    ghost Value = { History };
+
+    ghost view = { λ s. record { batches = txs_of (arc_value s.plan).batches; steps = s.steps.items } };
+
+    ghost invariant = { λ s. IsScheduleOf (record { batches = txs_of (arc_value s.plan).batches; steps = s.steps.items })
+        s.txs s.named s.slots s.lasts (vec_capacity s.steps) };
+}
+
+// Whether a transaction is closed: its batch has failed.
+fn is_closed(queue: &Queue, j: u32) -> bool
+    ensures { result ≡ is_closed_mark (get_or queue.now.marks j Waiting) }
+{
+    let j = j as usize;
+    j < queue.count() && queue.mark(j) == Mark::Closed
+}
+
+fn is_one_closed(queue: &Queue, numbers: &[u32]) -> bool
+    ensures { result ≡ list_any (λ j. is_closed_mark (get_or queue.now.marks j Waiting)) numbers.now }
+{
+    numbers.iter().any(|j| is_closed(queue, *j))
+}
+
+// Whether a dependency of transaction k stands in a failed batch.
+fn is_failed(named: &Edges, queue: &Queue, k: usize) -> bool
+    requires edges { AreEdges named.now (length queue.now.marks) }
+    requires inside { k < length queue.now.marks }
+    ensures { result ≡ list_any (λ j. is_closed_mark (get_or queue.now.marks j Waiting)) (targets_of named.now k) }
+{
+    let from = named.from[k] as usize;
+    let to = named.from[k + 1] as usize;
+    is_one_closed(queue, &named.to[from..to])
+}
+
+// That attempt runs.
+fn runs(slots: &Slots, ticket: Ticket) -> bool
+    requires { length slots.now.kept.items ≡ length slots.now.queue.marks }
+    ensures yes { result ≡ true → IsRunning slots.now ticket }
+    ensures no { result ≡ false → IsRunning slots.now ticket → ⊥ }
+{
+    let k = ticket.index as usize;
+    if k >= slots.kept.len() || slots.queue.mark(k) != Mark::Running {
+        return false;
+    }
+    let attempts = slots.kept[k].attempts;
+    if attempts == 0 {
+        return false;
+    }
+    attempts - 1 == ticket.attempt
+}
+
+fn is_valid(outcome: &Outcome) -> bool
+    ensures { mark_by outcome.now ≡ (if result then Valid else Invalid) }
+{
+    match outcome {
+        Outcome::Ok { .. } => true,
+        Outcome::Invalid { .. } => false,
+    }
+}
+
+// A running transaction holds a result.
+fn hold(queue: &mut Queue, k: usize, valid: bool)
+    requires inside { k < length queue.old.marks }
+    requires runs { get_or queue.old.marks k Waiting ≡ Running }
+    ensures { queue.new ≡ with_mark queue.old k (if valid then Valid else Invalid) }
+{
+    if valid {
+        queue.valid(k);
+    } else {
+        queue.invalid(k);
+    }
+}
+
+// Notes where the result of transaction k stands among the steps.
+fn place_result(kept: &mut Vec<Kept>, k: usize, place: usize)
+    requires { k < length kept.old.items }
+    ensures long { length kept.new.items ≡ length kept.old.items }
+    ensures others { (j : ℕ) → j ≢ k → slice_get kept.new.items j ≡ slice_get kept.old.items j }
+    ensures here { IsPlacedAt kept.old.items kept.new.items k place }
+{
+    kept[k].place = place;
+}
+
+// Adds a step, for which there is room.
+fn add_step(steps: &mut Vec<Step>, step: Step)
+    requires { vec_len steps.old < vec_capacity steps.old }
+    ensures more { steps.new.items ≡ steps.old.items ++ step ∷ [] }
+    ensures room { vec_capacity steps.old ≤ vec_capacity steps.new }
+{
+    match steps.push(step) {
+        Ok(()) => {}
+        Err(_) => {}
+    }
+}
+
+// The job of a transaction that may be taken, and its view once more.
+fn job_of(
+    alloc: Global,
+    txs: &[Arc<Tx>],
+    named: &Edges,
+    slots: &Slots,
+    lasts: &Lasts,
+    steps: &[Step],
+    k: usize,
+) -> Result<(Job, Arc<View>), AllocError>
+    requires long { length slots.now.kept.items ≡ length slots.now.queue.marks }
+    requires edges { AreEdges named.now (length slots.now.queue.marks) }
+    requires inside { k < length slots.now.queue.marks }
+    requires there { k < length txs.now }
+    requires few { k < 2 ^ 32 }
+    ensures { IfOk result (λ made. IsJobAt txs.now named.now slots.now lasts.now steps.now k made.0 made.1) }
+{
+    let tx = txs[k].clone()?;
+    let texts = tx.header.inputs.as_slice();
+    let view = Arc::new(alloc, view_under(alloc, steps, slots, lasts, texts)?)?;
+    let kept = view.clone()?;
+    let job = Job {
+        ticket: Ticket {
+            index: k as u32,
+            attempt: slots.kept[k].attempts,
+        },
+        tx,
+        view,
+        dependency_failed: is_failed(named, &slots.queue, k),
+    };
+    Ok((job, kept))
+}
+
+// Keeps what a taken transaction was given.
+fn keep_job(kept: &mut Vec<Kept>, k: usize, job: &Job, view: Arc<View>)
+    requires inside { k < length kept.old.items }
+    requires few { job.now.ticket.attempt + 1 < 2 ^ 64 }
+    ensures long { length kept.new.items ≡ length kept.old.items }
+    ensures others { (j : ℕ) → j ≢ k → slice_get kept.new.items j ≡ slice_get kept.old.items j }
+    ensures here { slice_get kept.new.items k
+        ≡ Some (record { attempts = job.now.ticket.attempt + 1; view = view; failed = job.now.dependency_failed; place = 0 }) }
+{
+    kept[k] = Kept {
+        attempts: job.ticket.attempt + 1,
+        view,
+        failed: job.dependency_failed,
+        place: 0,
+    };
+}
+
+// All wait, and what can be settled is.
+fn begin(alloc: Global, plan: &Plan, txs: &[Arc<Tx>]) -> Result<Slots, AllocError>
+    requires few { length txs.now < 2 ^ 32 }
+    requires are { shapes_of txs.now ≡ txs_in (begun plan.now) }
+    requires count { length txs.now ≡ transactions_in plan.now.batches }
+    ensures slots { IfOk result (AreSlotsOf (order_in (begun plan.now)) (sizes_in (begun plan.now)) (state_of (begun plan.now)) []) }
+    ensures idle { IfOk result (λ slots. slots.running ≡ 0) }
+{
+    let batches = plan.batches.as_slice();
+    let queue = Queue::new(alloc, predecessors(alloc, txs)?, starts_of(alloc, batches)?)?;
+    let mut slots = Slots {
+        queue,
+        ends: ends_of(alloc, batches)?,
+        hits: ReadySet::new(alloc, txs.len())?,
+        kept: all_kept(alloc, txs.len())?,
+        verdicts: Vec::with_capacity(alloc, batches.len())?,
+        running: 0,
+    };
+    settle(&mut slots, &[]);
+    Ok(slots)
+}
+
+impl Schedule {
+    /// All transactions wait, and batches without transactions that stand before the first other one are settled.
+    pub fn new(alloc: Global, plan: Arc<Plan>) -> Result<Self, AllocError>
+        requires { transactions_in (arc_value plan).batches < 2 ^ 32 }
+        ensures { IfOk result (λ schedule. schedule ≡ begun (arc_value plan)) }
+    {
+        let txs = plan.transactions(alloc)?;
+        let slots = begin(alloc, &plan, txs.as_slice())?;
+        Ok(Schedule {
+            named: named(alloc, txs.as_slice())?,
+            plan,
+            txs,
+            slots,
+            lasts: Lasts::new(alloc),
+            steps: Vec::new(alloc),
+        })
+    }
+
+    /// A job that may be run, or `None` exactly where there is none. It makes the room for the step that ends the job.
+    pub fn take(&mut self, alloc: Global) -> Result<Option<Job>, AllocError>
+        ensures ok { IfOk result (Takes self.old self.new) }
+        ensures err { OnErr result (self.new ≡ self.old) }
+    {
+        self.steps.reserve(self.slots.running + 2)?;
+        self.lasts.absorb(alloc, &self.steps)?;
+        let Some(k) = self.slots.queue.take() else {
+            return Ok(None);
+        };
+        let found = job_of(
+            alloc,
+            self.txs.as_slice(),
+            &self.named,
+            &self.slots,
+            &self.lasts,
+            &self.steps,
+            k,
+        );
+        let Ok((job, view)) = found else {
+            self.slots.queue.back(k);
+            return Err(AllocError);
+        };
+        keep_job(&mut self.slots.kept, k, &job, view);
+        self.slots.running += 1;
+        add_step(&mut self.steps, Step::Take(job.ticket));
+        Ok(Some(job))
+    }
+
+    /// Ends a job with its result. It takes no memory.
+    pub fn finish(&mut self, done: Done) -> Finished
+        ensures { Finishes self.old self.new done result }
+    {
+        if !runs(&self.slots, done.ticket) {
+            return Finished::Stale;
+        }
+        let k = done.ticket.index as usize;
+        let kept = &self.slots.kept[k];
+        let found = difference(&self.txs.as_slice()[k], &kept.view, kept.failed, &done);
+        let valid = is_valid(&done.outcome);
+        place_result(&mut self.slots.kept, k, self.steps.len());
+        add_step(&mut self.steps, Step::Finish(done));
+        self.slots.running -= 1;
+        if let Some(why) = found {
+            self.slots.queue.back(k);
+            return Finished::Foreign(why);
+        }
+        hold(&mut self.slots.queue, k, valid);
+        settle(&mut self.slots, &self.steps);
+        Finished::Accepted
+    }
+
+    /// Gives a job back without a result. It takes no memory.
+    pub fn give_back(&mut self, ticket: Ticket) -> Given
+        ensures { Gives self.old self.new ticket result }
+    {
+        if !runs(&self.slots, ticket) {
+            return Given::Stale;
+        }
+        add_step(&mut self.steps, Step::GiveBack(ticket));
+        self.slots.running -= 1;
+        self.slots.queue.back(ticket.index as usize);
+        Given::Back
+    }
+
+    /// Whether all batches are settled.
+    pub fn is_finished(&self) -> bool
+        ensures { result ≡ is_over self.now }
+    {
+        self.slots.verdicts.len() >= self.slots.ends.len()
+    }
+
+    /// The steps so far.
+    pub fn steps(&self) -> &[Step]
+        ensures steps { result.now ≡ self.now.steps }
+        ensures replay { IsReplay self.now }
+    {
+        &self.steps
+    }
+
+    /// The plan that it is the schedule of.
+    pub fn plan(&self) -> &Plan
+        ensures { txs_of result.now.batches ≡ self.now.batches }
+    {
+        &self.plan
+    }
+
+    /// What came of the batches. On want of memory the schedule is given up.
+    pub fn into_results(self, alloc: Global) -> Result<Results, AllocError>
+        requires { (state_of self).rest ≡ [] }
+        ensures { IfOk result (λ results. results.batches ≡ (state_of self).results) }
+    {
+        let Schedule { slots, steps, .. } = self;
+        gather_results(alloc, slots, steps)
+    }
+}
