@@ -13,6 +13,8 @@ FOLDER = sys.argv[1]
 sys.argv[1:] = []
 sys.path.insert(0, os.path.dirname(os.path.abspath(__file__)))
 from counters import address, head, node, record, sha512, text, varint  # noqa: E402
+from schedules import schedules  # noqa: E402
+from trees import trees  # noqa: E402
 
 KEY = "02" + "1" * 64
 OTHER_KEY = "02" + "2" * 64
@@ -655,6 +657,8 @@ def main():
     messages()
     planned()
     executed()
+    for script in [*schedules(), *trees()]:
+        put(*script)
     states()
     verdicts()
     branches()

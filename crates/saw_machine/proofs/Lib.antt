@@ -21,3 +21,4 @@ pub mod Counts
 pub mod Attempts
 pub mod Spans
 pub mod Settled
+pub mod Left

@@ -8,8 +8,7 @@ use Rattle.saw_messages.specs.declared.outcome.Outcome.{Outcome}
 use Rattle.saw_messages.specs.TxShapes.{BatchShape, TxShape}
 use Rattle.saw_messages.specs.declared.tx.Tx.{Tx}
 use Rattle.saw_machine.specs.Machine.{Held, Running, State, Task, Waiting}
-use Rattle.saw_machine.specs.Orders.{Order}
-use Rattle.saw_machine.proofs.Closure.{stands-direct}
+use Rattle.saw_machine.specs.Orders.{AreEdgesOf, Order}
 use Rattle.saw_plan.specs.BatchShapes.{shapes_of, transactions_in, txs_of}
 use Rattle.saw_plan.specs.Precedence.{precedes_in}
 use Rattle.saw_plan.specs.declared.plan.Plan.{Plan}
@@ -58,7 +57,7 @@ pub record Begins (order : Order) (sizes : List ℕ) (preds : Edges) (slots : Sl
   pub queue : IsNew preds (starts_of 0 sizes) slots.queue
   pub edges : AreEdges preds (sum sizes)
   pub earlier : AreEarlier preds (sum sizes)
-  pub pairs : (i j : ℕ) → j < i → is_edge preds j i ≡ order.precedes j i
+  pub thin : AreEdgesOf order.precedes (is_edge preds)
   pub ends : slots.ends.items ≡ ends_of 0 sizes
   pub hits_long : length slots.hits ≡ sum sizes
   pub idle : IsEmpty slots.hits
@@ -80,10 +79,7 @@ module _ (order : Order) (sizes : List ℕ) (preds : Edges) (slots : Slots) (b :
       marks = λ i less. b.queue.waiting i;
       within = λ i less. rw b.queue.preds_are (b.edges.within i (rw count at less));
       earlier = λ i p less. rw b.queue.preds_are (b.earlier i p (rw count at less));
-      edges = rw b.queue.preds_are (record {
-        pairs = λ j i less e. sym (b.pairs i j less) ∙ e;
-        whole = λ j i less e. stands-direct (is_edge preds) j i less (b.pairs i j less ∙ e);
-      });
+      edges = rw b.queue.preds_are b.thin;
       starts = λ i from less. rw b.queue.starts_are (start-at sizes i (rw count at less));
     };
     ends = b.ends;
@@ -149,17 +145,17 @@ module _ (plan : Plan) (txs : List (Arc Tx Global)) (few : length txs < 2 ^ 32) 
   total = count ∙ sym (sum-sizes plan.batches)
 
   pub begins : (batches : List BatchShape) (preds : Edges) (starts : List ℕ) (slots : Slots) → batches ≡ plan.batches
-      → AreEdges preds (length txs) → AreEarlier preds (length txs) → ((i j : ℕ) → j < i → is_edge preds j i ≡ precedes_in (shapes_of txs) j i)
+      → AreEdges preds (length txs) → AreEarlier preds (length txs) → AreEdgesOf (precedes_in (shapes_of txs)) (is_edge preds)
       → IsNew preds starts slots.queue → starts ≡ starts_of 0 (map length (txs_of batches)) → slots.ends.items ≡ ends_of 0 (map length (txs_of batches))
       → (length slots.hits ≡ length txs) × IsEmpty slots.hits
       → (length slots.kept.items ≡ length txs) × AllByRecursion (λ k. k.attempts ≡ 0) slots.kept.items
       → slots.verdicts.items ≡ [] → length batches ≤ vec_capacity slots.verdicts
       → Begins (order_in (begun plan)) (sizes_in (begun plan)) preds slots
-  begins batches preds starts slots batches_are edges earlier pairs queue starts_are ends hits kept verdicts room = record {
+  begins batches preds starts slots batches_are edges earlier thin queue starts_are ends hits kept verdicts room = record {
     queue = subst (λ (all : List ℕ). IsNew preds all slots.queue) (starts_are ∙ ap (λ (b : List BatchShape). starts_of 0 (map length (txs_of b))) batches_are) queue;
     edges = subst (λ (n : ℕ). AreEdges preds n) total edges;
     earlier = subst (λ (n : ℕ). AreEarlier preds n) total earlier;
-    pairs = λ i j less. pairs i j less ∙ ap (λ (shapes : List _). precedes_in shapes j i) are;
+    thin = subst (λ (shapes : List TxShape). AreEdgesOf (precedes_in shapes) (is_edge preds)) are thin;
     ends = ends ∙ ap (λ (b : List BatchShape). ends_of 0 (map length (txs_of b))) batches_are;
     hits_long = hits.0 ∙ total;
     idle = hits.1;

@@ -1,14 +1,14 @@
--- Edges that are made row by row, each the numbers below its own that pass a test.
+-- Edges that are made row by row.
 use Rattle.std.proofs.Common.{◌≡◌, ◌<◌, ◌≤◌, ◌+◌, ◌-◌, ℕ, zero, suc, Bool, true, false, ◌&&◌, ◌||◌, ◌==◌, nat_lt, List, [], ◌∷◌, ◌++◌, length, take, drop, get_or, refl, sym, ap, subst, ◌∙◌, arith, ◌⊎◌, inl, inr, if◌then◌else◌, Option, Some, None, slice_get}
-use Rattle.std.specs.List.{between, list_any}
+use Rattle.std.specs.List.{AllByRecursion, between, list_any}
 use Rattle.std.proofs.Math.Seq.{drop-append_seam}
-use Rattle.std.proofs.lemmas.List.{append-nil, append_assoc, get_or-append_right, get_or_append_left, get_or_past, length-append, take-append-le, take_all}
+use Rattle.std.proofs.lemmas.List.{get_or-append_right, get_or_append_left, get_or_past, length-append, take-append-le, take_all}
 use Rattle.std.proofs.lemmas.List.Edits.{get_or-between, length-between}
 use Rattle.std.proofs.lemmas.List.Folds.{list_any-append}
 use Rattle.std.proofs.lemmas.Slice.{between_is}
 use Rattle.std.proofs.lemmas.Option.{slice_get_past}
 use Rattle.saw_messages.specs.TxShapes.{TxShape}
-use Rattle.saw_plan.specs.Precedence.{names_tx, numbers_below, on_tx, precedes_in}
+use Rattle.saw_plan.specs.Precedence.{numbers_below, on_tx, precedes_in}
 use Rattle.saw_ready.specs.Edges.{AreEarlier, AreEdges, begin, finish, target}
 use Rattle.saw_ready.specs.declared.edges.Edges.{Edges}
 use Rattle.saw_schedule.specs.Orders.{names_in}
@@ -103,54 +103,59 @@ any-below (suc n) j test =
     go (inr more) (inl past) = past-step n j (test j) past (test n)
     go (inr more) (inr low) = let e : n ≡ j = omega (arith, more, low) in here-step n j (test j) e (test n) (ap test (sym e))
 
-last-low : (xs : List ℕ) (n p : ℕ) (b : Bool) → ((q : ℕ) → q < length xs → get_or xs q 0 < n) → p < length (xs ++ (if b then n ∷ [] else [])) → get_or (xs ++ (if b then n ∷ [] else [])) p 0 < suc n
-last-low xs n p b low lt = elim (lt-or-le p (length xs)) [
-  | inl less ↦ rw (get_or_append_left xs (if b then n ∷ [] else []) 0 p less) (let l : get_or xs p 0 < n = low p less in omega (arith, l))
-  | inr more ↦ go b more lt
-]
+pub all-append : (P : ℕ → Type 0) (xs ys : List ℕ) → AllByRecursion P xs → AllByRecursion P ys → AllByRecursion P (xs ++ ys)
+all-append P [] ys all more = more
+all-append P (x ∷ xs) ys all more = (all.0, all-append P xs ys all.1 more)
+
+all-later : (xs : List ℕ) (n m : ℕ) → n ≤ m → AllByRecursion (λ j. j < n) xs → AllByRecursion (λ j. j < m) xs
+all-later [] n m le all = tt
+all-later (x ∷ xs) n m le all = (let l : x < n = all.0 in omega (arith, l, le), all-later xs n m le all.1)
+
+-- each is below n
+pub all-below : (n : ℕ) (test : ℕ → Bool) → AllByRecursion (λ j. j < n) (numbers_below n test)
+all-below zero test = tt
+all-below (suc n) test =
+    all-append (λ j. j < suc n) (numbers_below n test) (if test n then n ∷ [] else []) (all-later (numbers_below n test) n (suc n) (omega arith) (all-below n test)) (last (test n))
   where
-    go : (b : Bool) → length xs ≤ p → p < length (xs ++ (if b then n ∷ [] else [])) → get_or (xs ++ (if b then n ∷ [] else [])) p 0 < suc n
-    go true more lt =
-        let e : p - length xs ≡ 0 = omega (arith, more, lt, length-append xs (n ∷ [])) in
-        rw (get_or-append_right xs (n ∷ []) (length xs) p 0 refl more, e) (omega arith)
-    go false more lt = absurd (omega (arith, more, rw (append-nil xs) at lt))
+    last : (b : Bool) → AllByRecursion (λ j. j < suc n) (if b then n ∷ [] else [])
+    last true = (omega arith, tt)
+    last false = tt
 
-pub below-low : (n p : ℕ) (test : ℕ → Bool) → p < length (numbers_below n test) → get_or (numbers_below n test) p 0 < n
-below-low zero p test lt = absurd (omega arith)
-below-low (suc n) p test lt = last-low (numbers_below n test) n p (test n) (λ q. below-low n q test) lt
+-- ---- rows whose numbers are earlier ones
 
-pub rows-at : (from to : List ℕ) (k n : ℕ) (row : ℕ → List ℕ) → k ≤ n → n ≤ k → AreRows from to k row → AreRows from to n row
-rows-at from to k n row low high are = let e : k ≡ n = omega (arith, low, high) in subst (λ (count : ℕ). AreRows from to count row) e are
+low-at : (i : ℕ) (xs : List ℕ) (p : ℕ) → AllByRecursion (λ j. j < i) xs → p < length xs → get_or xs p 0 < i
+low-at i [] p all lt = absurd (omega arith)
+low-at i (x ∷ xs) zero all lt = all.0
+low-at i (x ∷ xs) (suc p) all lt = low-at i xs p all.1 (omega arith)
 
-module _ (e : Edges) (n : ℕ) (test : ℕ → ℕ → Bool) (are : AreRows e.from.items e.to.items n (λ i. numbers_below i (test i))) where
-  pub rows-earlier : AreEarlier e n
-  rows-earlier = λ k p lt at.
-      let low : begin e k ≤ p = at.0 in
-      let high : p < finish e k = at.1 in
-      let within : finish e k ≤ length e.to.items = are.within (k + 1) (omega (arith, lt)) in
-      let long : length (targets_of e k) ≡ finish e k - begin e k = length-between e.to.items (begin e k) (finish e k) within in
-      let here : begin e k + (p - begin e k) ≡ p = omega (arith, low) in
-      let stands : get_or (targets_of e k) (p - begin e k) 0 ≡ target e p =
-      get_or-between e.to.items (begin e k) (finish e k) (p - begin e k) 0 (omega (arith, low, high)) ∙ ap (λ place. get_or e.to.items place 0) here in
-      let row : targets_of e k ≡ numbers_below k (test k) = are.rows k lt in
-      let inside : p - begin e k < length (numbers_below k (test k)) = rw row at (let l : p - begin e k < length (targets_of e k) = rw long (omega (arith, low, high)) in l) in
-      rw (← stands, row) (below-low k (p - begin e k) (test k) inside)
+all-low : (i : ℕ) (xs : List ℕ) → ((p : ℕ) → p < length xs → get_or xs p 0 < i) → AllByRecursion (λ j. j < i) xs
+all-low i [] low = tt
+all-low i (x ∷ xs) low = (low 0 (omega arith), all-low i xs (λ p lt. low (suc p) (omega arith)))
 
-  pub rows-edges : AreEdges e n
-  rows-edges = record {
-    long = are.long;
-    rising = are.rising;
-    within = λ k lt. are.within (k + 1) (omega (arith, lt));
-    below = λ k p lt at. let l : target e p < k = rows-earlier k p lt at in omega (arith, l, lt);
-  }
+-- what stands at a place of row k
+row-at : (e : Edges) (k p : ℕ) → begin e k ≤ p → p < finish e k → get_or (targets_of e k) (p - begin e k) 0 ≡ target e p
+row-at e k p low high =
+    let here : begin e k + (p - begin e k) ≡ p = omega (arith, low) in
+    get_or-between e.to.items (begin e k) (finish e k) (p - begin e k) 0 (omega (arith, low, high)) ∙ ap (λ place. get_or e.to.items place 0) here
 
-  -- each pair below the count is an edge exactly where it passes
-  pub rows-pairs : (i j : ℕ) → j < i → i < n → is_edge e j i ≡ test i j
-  rows-pairs i j less lt =
-      let early : nat_lt j i ≡ true = grind arith in
-      ap (λ (row : List ℕ). list_any (λ t. t == j) row) (are.rows i lt) ∙ (any-below i j (test i) ∙ rw early refl)
+-- the numbers of a row of earlier ones
+pub targets-low : (e : Edges) (n i : ℕ) → AreEdges e n → AreEarlier e n → i < n → AllByRecursion (λ j. j < i) (targets_of e i)
+targets-low e n i edges earlier lt = all-low i (targets_of e i) low
+  where
+    within : finish e i ≤ length e.to.items
+    within = edges.within i lt
 
-  -- past the count there is none
+    low : (p : ℕ) → p < length (targets_of e i) → get_or (targets_of e i) p 0 < i
+    low p less =
+        let long : length (targets_of e i) ≡ finish e i - begin e i = length-between e.to.items (begin e i) (finish e i) within in
+        let same : begin e i + p - begin e i ≡ p = omega arith in
+        let high : begin e i + p < finish e i = omega (arith, less, long) in
+        let at : get_or (targets_of e i) p 0 ≡ target e (begin e i + p) =
+        sym (ap (λ place. get_or (targets_of e i) place 0) same) ∙ row-at e i (begin e i + p) (omega arith) high in
+        rw at (earlier i (begin e i + p) lt (omega arith, high))
+
+module _ (e : Edges) (n : ℕ) (row : ℕ → List ℕ) (are : AreRows e.from.items e.to.items n row) where
+  -- past the count there is no edge
   pub rows-past : (i j : ℕ) → n ≤ i → is_edge e j i ≡ false
   rows-past i j past =
       let none : finish e i ≡ 0 = get_or_past e.from.items (i + 1) 0 (let l : length e.from.items ≡ n + 1 = are.long in omega (arith, l, past)) in
@@ -160,25 +165,41 @@ module _ (e : Edges) (n : ℕ) (test : ℕ → ℕ → Bool) (are : AreRows e.fr
       empty zero = refl
       empty (suc k) = refl
 
-  pub rows-all : ((i j : ℕ) → n ≤ i → test i j ≡ false) → (i j : ℕ) → j < i → is_edge e j i ≡ test i j
-  rows-all none i j less = elim (lt-or-le i n) [
-    | inl inside ↦ rows-pairs i j less inside
-    | inr past ↦ rows-past i j past ∙ sym (none i j past)
-  ]
+  -- below it, those of the row are the edges
+  pub rows-in : (i j : ℕ) → i < n → is_edge e j i ≡ list_any (λ t. t == j) (row i)
+  rows-in i j lt = ap (λ (row : List ℕ). list_any (λ t. t == j) row) (are.rows i lt)
 
--- ---- one more number
+  module _ (low : (i : ℕ) → i < n → AllByRecursion (λ j. j < i) (row i)) where
+    pub rows-earlier : AreEarlier e n
+    rows-earlier = λ k p lt at.
+        let below : begin e k ≤ p = at.0 in
+        let high : p < finish e k = at.1 in
+        let within : finish e k ≤ length e.to.items = are.within (k + 1) (omega (arith, lt)) in
+        let long : length (targets_of e k) ≡ finish e k - begin e k = length-between e.to.items (begin e k) (finish e k) within in
+        let is : targets_of e k ≡ row k = are.rows k lt in
+        let inside : p - begin e k < length (row k) = rw is at (let l : p - begin e k < length (targets_of e k) = rw long (omega (arith, below, high)) in l) in
+        rw (← row-at e k p below high, is) (low-at k (row k) (p - begin e k) (low k lt) inside)
 
-module _ (test : ℕ → Bool) (old : List ℕ) (j : ℕ) where
-  pub one-more : (found : List ℕ) → found ≡ old ++ numbers_below j test → test j ≡ true → found ++ j ∷ [] ≡ old ++ numbers_below (j + 1) test
-  one-more found so_far e =
-      let next : j + 1 ≡ suc j = omega arith in
-      rw (next, e, so_far) (append_assoc old (numbers_below j test) (j ∷ []))
+    pub rows-edges : AreEdges e n
+    rows-edges = record {
+      long = are.long;
+      rising = are.rising;
+      within = λ k lt. are.within (k + 1) (omega (arith, lt));
+      below = λ k p lt at. let l : target e p < k = rows-earlier k p lt at in omega (arith, l, lt);
+    }
 
-  pub not-this : (found : List ℕ) → found ≡ old ++ numbers_below j test → test j ≡ false → found ≡ old ++ numbers_below (j + 1) test
-  not-this found so_far e = let next : j + 1 ≡ suc j = omega arith in rw (next, e, append-nil (numbers_below j test)) so_far
+pub rows-at : (from to : List ℕ) (k n : ℕ) (row : ℕ → List ℕ) → k ≤ n → n ≤ k → AreRows from to k row → AreRows from to n row
+rows-at from to k n row low high are = let e : k ≡ n = omega (arith, low, high) in subst (λ (count : ℕ). AreRows from to count row) e are
 
-pub names-is : (txs : List TxShape) (i j : ℕ) (tx other : TxShape) → slice_get txs i ≡ Some tx → slice_get txs j ≡ Some other → names_in txs i j ≡ names_tx tx other
-names-is txs i j tx other at_i at_j = rw (at_i, at_j) refl
+-- rows that agree below the count
+pub rows-same : (from to : List ℕ) (k : ℕ) (row other : ℕ → List ℕ) → ((i : ℕ) → i < k → row i ≡ other i) → AreRows from to k row → AreRows from to k other
+rows-same from to k row other same are = record {
+  long = are.long;
+  end = are.end;
+  within = are.within;
+  rising = are.rising;
+  rows = λ i lt. are.rows i lt ∙ same i lt;
+}
 
 -- ---- transactions past the last
 

@@ -72,7 +72,7 @@ and-assoc : (a b c : Bool) → (a && (b && c)) ≡ ((a && b) && c)
 and-assoc true b c = refl
 and-assoc false b c = refl
 
-begins : (prefix at : List ℕ) → list_all is_hex_digit (encode_lower prefix) ≡ true → starts_with nat_eq (encode_lower at) (encode_lower prefix) ≡ covers prefix at
+pub begins : (prefix at : List ℕ) → list_all is_hex_digit (encode_lower prefix) ≡ true → starts_with nat_eq (encode_lower at) (encode_lower prefix) ≡ covers prefix at
 unfolding encode_with
 begins [] at all = refl
 begins (p ∷ ps) [] all = refl

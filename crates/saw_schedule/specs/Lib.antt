@@ -11,3 +11,5 @@ pub mod Shown
 pub mod Jobs
 pub mod Places
 pub mod Laws
+pub mod ByIds
+pub mod Overlaps

@@ -4,12 +4,13 @@ ghost use Rattle.std.specs.Prelude.{◌≡◌, ◌≢◌, ◌+◌, ◌<◌, ◌�
 ghost use Rattle.std.specs.Arc.{arc_value};
 ghost use Rattle.saw_plan.specs.BatchShapes.{shapes_of, transactions_in, txs_of};
 ghost use Rattle.std.specs.List.{list_any};
-ghost use Rattle.saw_ready.specs.Edges.{AreEdges};
+ghost use Rattle.saw_ready.specs.Edges.{AreEarlier, AreEdges};
 ghost use Rattle.saw_ready.specs.declared.mark.Mark.TheVariants.{Invalid, Running, Valid, Waiting};
 ghost use Rattle.saw_ready.specs.Queues.{with_mark};
 ghost use Rattle.saw_schedule.specs.Jobs.{IsJobAt};
 ghost use Rattle.saw_schedule.specs.Inside.{AreSlotsOf, IsPlacedAt, IsRunning};
-ghost use Rattle.saw_schedule.specs.Shows.{is_closed_mark, mark_by, targets_of};
+ghost use Rattle.saw_schedule.specs.Orders.{names_in};
+ghost use Rattle.saw_schedule.specs.Shows.{is_closed_mark, is_edge, mark_by, targets_of};
 ghost use Rattle.saw_schedule.specs.Histories.{Finishes, Gives, IsReplay, Takes, begun, is_over, order_in, sizes_in, state_of, txs_in};
 
 use crate::agreement::difference;
@@ -198,15 +199,22 @@ fn keep_job(kept: &mut Vec<Kept>, k: usize, job: &Job, view: Arc<View>)
 }
 
 // All wait, and what can be settled is.
-fn begin(alloc: Global, plan: &Plan, txs: &[Arc<Tx>]) -> Result<Slots, AllocError>
+fn begin(alloc: Global, plan: &Plan, txs: &[Arc<Tx>], named: &Edges) -> Result<Slots, AllocError>
     requires few { length txs.now < 2 ^ 32 }
+    requires edges { AreEdges named.now (length txs.now) }
+    requires earlier { AreEarlier named.now (length txs.now) }
+    requires names { (i j : ℕ) → j < i → is_edge named.now j i ≡ names_in (shapes_of txs.now) i j }
     requires are { shapes_of txs.now ≡ txs_in (begun plan.now) }
     requires count { length txs.now ≡ transactions_in plan.now.batches }
     ensures slots { IfOk result (AreSlotsOf (order_in (begun plan.now)) (sizes_in (begun plan.now)) (state_of (begun plan.now)) []) }
     ensures idle { IfOk result (λ slots. slots.running ≡ 0) }
 {
     let batches = plan.batches.as_slice();
-    let queue = Queue::new(alloc, predecessors(alloc, txs)?, starts_of(alloc, batches)?)?;
+    let queue = Queue::new(
+        alloc,
+        predecessors(alloc, txs, named)?,
+        starts_of(alloc, batches)?,
+    )?;
     let mut slots = Slots {
         queue,
         ends: ends_of(alloc, batches)?,
@@ -226,11 +234,12 @@ impl Schedule {
         ensures { IfOk result (λ schedule. schedule ≡ begun (arc_value plan)) }
     {
         let txs = plan.transactions(alloc)?;
-        let slots = begin(alloc, &plan, txs.as_slice())?;
+        let named = named(alloc, txs.as_slice())?;
+        let slots = begin(alloc, &plan, txs.as_slice(), &named)?;
         Ok(Schedule {
-            named: named(alloc, txs.as_slice())?,
             plan,
             txs,
+            named,
             slots,
             lasts: Lasts::new(alloc),
             steps: Vec::new(alloc),

@@ -5,9 +5,11 @@ mod access;
 mod families;
 mod journal;
 mod plans;
+mod schedules;
 mod settings;
 mod states;
 mod station;
+mod trees;
 mod tx;
 mod words;
 
@@ -18,8 +20,17 @@ use std::process::ExitCode;
 use std::thread::Threads;
 
 /// The kinds of calls, each with a folder of scripts.
-const KINDS: [&str; 8] = [
-    "access", "families", "plans", "states", "settings", "requests", "journal", "clashes",
+const KINDS: [&str; 10] = [
+    "access",
+    "families",
+    "plans",
+    "schedules",
+    "trees",
+    "states",
+    "settings",
+    "requests",
+    "journal",
+    "clashes",
 ];
 
 /// The lines that a script says, by the kind of its calls.
@@ -34,6 +45,8 @@ fn said<T: Threads + Sync>(
         "access" => access::lines(alloc, script),
         "families" => families::lines(alloc, script),
         "plans" => plans::lines(alloc, script),
+        "schedules" => schedules::lines(alloc, script),
+        "trees" => trees::lines(alloc, script),
         "states" => states::lines(rt, alloc, script),
         "settings" => settings::lines(alloc, script),
         "requests" => station::lines(alloc, script),

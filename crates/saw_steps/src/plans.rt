@@ -1,6 +1,7 @@
 //! The static rules over a list of batches, and what comes of a plan over the empty map.
 
-ghost use Rattle.std.specs.Prelude.{◌≡◌, ◌<◌, ◌^◌, true, length, map};
+ghost use Rattle.std.specs.Prelude.{◌≡◌, ◌<◌, ◌^◌, true, length, map, IfOk};
+ghost use Rattle.std.specs.Arc.{arc_value};
 ghost use Rattle.saw_plan.specs.BatchShapes.{transactions_in};
 
 use crate::families::put_reason;
@@ -9,7 +10,7 @@ use crate::words::{NoForm, put_hex, put_number, put_word, words_of};
 use saw_crew::execute;
 use saw_messages::{Change, Outcome, PlainBase, Tx, TxBatch};
 use saw_plan::{DropCause, Dropped, Known, Plan, Sorted, pairs_predecessors, precheck};
-use saw_schedule::BatchResult;
+use saw_schedule::{BatchResult, Results};
 use saw_station::{Desk, NoStation};
 use saw_wire::{Items, Text};
 use std::alloc::{AllocError, Global};
@@ -19,18 +20,38 @@ use std::sync::Arc;
 
 /// The ids that are there, the batches, and the transactions of the next one.
 #[derive(Drop)]
-struct Planning {
+pub(crate) struct Planning {
     known: Known,
     batches: Vec<TxBatch>,
     txs: Items<Arc<Tx>>,
 }
 
+impl Planning {
+    pub(crate) fn new(alloc: Global) -> Self {
+        Planning {
+            known: Known::new(alloc),
+            batches: Vec::new(alloc),
+            txs: Items::new(alloc),
+        }
+    }
+
+    /// The plan of the batches. They are gone then.
+    pub(crate) fn take_plan(&mut self, alloc: Global) -> anyhow::Result<Arc<Plan>>
+        ensures { IfOk result (λ plan. transactions_in (arc_value plan).batches < 2 ^ 32) }
+    {
+        let batches = mem::replace(&mut self.batches, Vec::new(alloc));
+        if !fits(&batches) {
+            return Err(NoForm.into());
+        }
+        let plan = Plan {
+            batches: Items::from_vec(batches),
+        };
+        Ok(Arc::new(alloc, plan)?)
+    }
+}
+
 pub(crate) fn lines(alloc: Global, script: &str) -> anyhow::Result<Vec<u8>> {
-    let mut planning = Planning {
-        known: Known::new(alloc),
-        batches: Vec::new(alloc),
-        txs: Items::new(alloc),
-    };
+    let mut planning = Planning::new(alloc);
     let mut out = Vec::new(alloc);
     for line in script.lines() {
         call(alloc, &mut planning, line, &mut out)?;
@@ -38,7 +59,8 @@ pub(crate) fn lines(alloc: Global, script: &str) -> anyhow::Result<Vec<u8>> {
     Ok(out)
 }
 
-fn call(
+/// A line of a plan, or a call.
+pub(crate) fn call(
     alloc: Global,
     planning: &mut Planning,
     line: &str,
@@ -55,6 +77,17 @@ fn call(
                 outputs,
                 dependencies,
                 ..NO_WORDS
+            };
+            add_declared(alloc, planning, words)
+        }
+        ["family", family, id, inputs, outputs, dependencies, payload] => {
+            let words = Words {
+                id,
+                family,
+                inputs,
+                outputs,
+                dependencies,
+                payload,
             };
             add_declared(alloc, planning, words)
         }
@@ -194,29 +227,34 @@ fn put_numbers(alloc: Global, out: &mut Vec<u8>, numbers: &[u32]) -> Result<(), 
 
 /// What comes of the batches over the empty map. They are gone then.
 fn put_results(alloc: Global, planning: &mut Planning, out: &mut Vec<u8>) -> anyhow::Result<()> {
-    let batches = mem::replace(&mut planning.batches, Vec::new(alloc));
-    for came in results_of(alloc, batches)?.as_slice() {
-        put_came(alloc, out, came)?;
-        out.push(b'\n')?;
-    }
+    let results = results_of(alloc, planning.take_plan(alloc)?)?;
+    put_batches(alloc, out, results.batches.as_slice())?;
     Ok(())
 }
 
-fn results_of(alloc: Global, batches: Vec<TxBatch>) -> anyhow::Result<Items<BatchResult>> {
-    if !fits(&batches) {
-        return Err(NoForm.into());
-    }
+fn results_of(alloc: Global, plan: Arc<Plan>) -> anyhow::Result<Results>
+    requires { transactions_in (arc_value plan).batches < 2 ^ 32 }
+{
     let base = PlainBase {
         map: BTreeMap::new(alloc),
     };
     let offers = Arc::new(alloc, Vec::new(alloc))?;
     let desk: Desk<NoStation> = Desk::new(None, offers);
     let mut desks = [desk];
-    let plan = Plan {
-        batches: Items::from_vec(batches),
-    };
-    let plan = Arc::new(alloc, plan)?;
-    Ok(execute(alloc, plan, &base, &mut desks)?.batches)
+    Ok(execute(alloc, plan, &base, &mut desks)?)
+}
+
+/// A line for each batch.
+pub(crate) fn put_batches(
+    alloc: Global,
+    out: &mut Vec<u8>,
+    results: &[BatchResult],
+) -> Result<(), AllocError> {
+    for came in results {
+        put_came(alloc, out, came)?;
+        out.push(b'\n')?;
+    }
+    Ok(())
 }
 
 fn put_came(alloc: Global, out: &mut Vec<u8>, came: &BatchResult) -> Result<(), AllocError> {

@@ -1,8 +1,7 @@
-use Rattle.std.proofs.Common.{◌≡◌, ◌++◌}
-use Rattle.saw_plan.specs.BatchShapes.{shapes_of}
-use Rattle.saw_plan.specs.Precedence.{numbers_below}
-use Rattle.saw_schedule.specs.Orders.{names_in}
+use Rattle.std.proofs.Common.{◌≡◌, ◌++◌, take}
+use Rattle.std.specs.List.{flat_map}
+use Rattle.saw_schedule.specs.ByIds.{numbers_under}
 use Rattle.saw_schedule.proofs.edges.add_named.Given as goal
 
-abbrev pub invariant-loop-j : goal.invariant-loop-j
-invariant-loop-j l = l.to.items ≡ l.fn.to.items ++ numbers_below l.j (λ j. names_in (shapes_of l.txs) l.k j)
+abbrev pub invariant-loop-id : goal.invariant-loop-id
+invariant-loop-id l = l.to.items ≡ l.fn.to.items ++ flat_map (numbers_under l.numbers) (take l.id-index l.id-items)

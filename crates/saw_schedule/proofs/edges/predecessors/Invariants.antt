@@ -1,7 +1,7 @@
 use Rattle.saw_plan.specs.BatchShapes.{shapes_of}
-use Rattle.saw_plan.specs.Precedence.{numbers_below, precedes_in}
-use Rattle.saw_schedule.proofs.Rows.{AreRows}
+use Rattle.saw_predtree.specs.Places.{tree_of}
+use Rattle.saw_schedule.proofs.TreeEdges.{AreAdded}
 use Rattle.saw_schedule.proofs.edges.predecessors.Given as goal
 
 abbrev pub invariant-loop-k : goal.invariant-loop-k
-invariant-loop-k l = AreRows l.from.items l.to.items l.k (λ i. numbers_below i (λ j. precedes_in (shapes_of l.txs) j i))
+invariant-loop-k l = AreAdded (shapes_of l.txs) l.named (tree_of l.tree) l.from.items l.to.items l.k

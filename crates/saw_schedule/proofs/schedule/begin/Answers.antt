@@ -18,14 +18,14 @@ new-requires-clause-starts c =
 pub settle-requires : goal.settle-requires
 settle-requires c = begun-state (order_in (begun c.args.plan.now)) (sizes_in (begun c.args.plan.now)) c.in_ok-predecessors.field-0 _
     (begins c.args.plan.now c.args.txs.now c.requires.few c.requires.are c.requires.count c.as_slice-batches.result.now c.in_ok-predecessors.field-0 c.in_ok-starts_of.field-0.items _
-    c.as_slice-batches.ensures c.in_ok-predecessors.ensures.edges c.in_ok-predecessors.ensures.earlier c.in_ok-predecessors.ensures.pairs
+    c.as_slice-batches.ensures c.in_ok-predecessors.ensures.edges c.in_ok-predecessors.ensures.earlier c.in_ok-predecessors.ensures.thin
     c.in_ok-queue.ensures c.in_ok-starts_of.ensures c.in_ok-ends_of.ensures c.in_ok-new.ensures c.in_ok-all_kept.ensures
     c.in_ok-with_capacity.ensures.items c.in_ok-with_capacity.ensures.capacity)
 
 pub returns-clause-slots : goal.returns-clause-slots
 returns-clause-slots c =
     let b = begins c.args.plan.now c.args.txs.now c.requires.few c.requires.are c.requires.count c.as_slice-batches.result.now c.in_ok-predecessors.field-0 c.in_ok-starts_of.field-0.items _
-    c.as_slice-batches.ensures c.in_ok-predecessors.ensures.edges c.in_ok-predecessors.ensures.earlier c.in_ok-predecessors.ensures.pairs
+    c.as_slice-batches.ensures c.in_ok-predecessors.ensures.edges c.in_ok-predecessors.ensures.earlier c.in_ok-predecessors.ensures.thin
     c.in_ok-queue.ensures c.in_ok-starts_of.ensures c.in_ok-ends_of.ensures c.in_ok-new.ensures c.in_ok-all_kept.ensures
     c.in_ok-with_capacity.ensures.items c.in_ok-with_capacity.ensures.capacity in
     c.settle.ensures.settled (order_in (begun c.args.plan.now)) (sizes_in (begun c.args.plan.now)) _ (begun-open _ _ _ _ b) (begun-slots _ _ _ _ b)

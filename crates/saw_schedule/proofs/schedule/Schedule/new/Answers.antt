@@ -24,11 +24,11 @@ invariant_of-result c =
     let few : length c.in_ok-txs.txs < 2 ^ 32 = subst (λ (n : ℕ). n < 2 ^ 32) (sym count) c.requires in
     let are : AreSlotsOf (order_in (begun (arc_value c.args.plan))) (sizes_in (begun (arc_value c.args.plan))) (state_of (begun (arc_value c.args.plan))) [] c.in_ok-slots.slots =
     subst (λ (p : Plan). AreSlotsOf (order_in (begun p)) (sizes_in (begun p)) (state_of (begun p)) [] c.in_ok-slots.slots) c.deref-2.ensures c.in_ok-slots.ensures.slots in
-    subst (λ (steps : List Step). IsScheduleOf (record { batches = txs_of (arc_value c.args.plan).batches; steps = steps }) c.in_ok-txs.txs c.in_ok-named.field-0
+    subst (λ (steps : List Step). IsScheduleOf (record { batches = txs_of (arc_value c.args.plan).batches; steps = steps }) c.in_ok-txs.txs c.in_ok-named.named
     c.in_ok-slots.slots c.new.result (vec_capacity c.new-2.result)) (sym c.new-2.ensures.items)
-    (begun-schedule (arc_value c.args.plan) c.in_ok-txs.txs c.in_ok-named.field-0 c.in_ok-slots.slots c.in_ok-slots.slots c.new.result (vec_capacity c.new-2.result)
+    (begun-schedule (arc_value c.args.plan) c.in_ok-txs.txs c.in_ok-named.named c.in_ok-slots.slots c.in_ok-slots.slots c.new.result (vec_capacity c.new-2.result)
     txs_are few
-    (subst (λ (xs : List (Arc Tx Global)). AreEdges c.in_ok-named.field-0 (length xs)) c.as_slice-2.ensures c.in_ok-named.ensures.edges)
-    (subst (λ (xs : List (Arc Tx Global)). AreEarlier c.in_ok-named.field-0 (length xs)) c.as_slice-2.ensures c.in_ok-named.ensures.earlier)
-    (subst (λ (xs : List (Arc Tx Global)). (i j : ℕ) → j < i → is_edge c.in_ok-named.field-0 j i ≡ names_in (shapes_of xs) i j) c.as_slice-2.ensures c.in_ok-named.ensures.names)
+    (subst (λ (xs : List (Arc Tx Global)). AreEdges c.in_ok-named.named (length xs)) c.as_slice.ensures c.in_ok-named.ensures.edges)
+    (subst (λ (xs : List (Arc Tx Global)). AreEarlier c.in_ok-named.named (length xs)) c.as_slice.ensures c.in_ok-named.ensures.earlier)
+    (subst (λ (xs : List (Arc Tx Global)). (i j : ℕ) → j < i → is_edge c.in_ok-named.named j i ≡ names_in (shapes_of xs) i j) c.as_slice.ensures c.in_ok-named.ensures.names)
     are c.in_ok-slots.ensures.idle c.new.ensures)

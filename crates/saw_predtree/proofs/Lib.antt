@@ -1,0 +1,10 @@
+pub mod Members
+pub mod Coverings
+pub mod Walks
+pub mod Thinning
+pub mod Owning
+pub mod Searching
+pub mod Putting
+pub mod Standing
+pub mod Adding
+pub mod Beginning
