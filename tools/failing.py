@@ -52,6 +52,38 @@ def failing():
     put("stream-behind-a-good-list", attest, EMPTY, "", "fault 4 read\n", 4, [("list", b"\n")], fail_reads=[0])
 
 
+def kept(name, file):
+    """What a case has in a file."""
+    with open(f"{FOLDER}/{name}/{file}", "rb") as content:
+        return content.read()
+
+
+def like(name, other, stdout="", stderr="fault 5 write\n", status=5, **failing):
+    """The run of another case in which a call fails."""
+    words = kept(other, "words").decode().split("\n")[:-1]
+    folder = f"{FOLDER}/{other}/files"
+    files = [(file, kept(other, f"files/{file}")) for file in sorted(os.listdir(folder))] if os.path.isdir(folder) else []
+    put(name, words, kept(other, "stdin"), stdout, stderr, status, files, **failing)
+
+
+def endings():
+    # Each line of a list is one write, and so is a frame.
+    receipts = kept("operator-receipts", "stdout").decode().split("\n")
+    like("failed-receipts-first", "operator-receipts", fail_writes=[0])
+    like("failed-receipts-second", "operator-receipts", receipts[0] + "\n", fail_writes=[1])
+    like("failed-status-write", "operator-status", fail_writes=[0])
+    like("failed-status-read", "operator-status", stderr="fault 4 read\n", status=4, fail_reads=[0])
+    like("failed-publish-frame", "operator-publish", fail_writes=[0])
+    # Losses come before the frame: where one cannot be told, no frame is written.
+    like("failed-publish-loss", "publish-dependency-failed", fail_notes=[0])
+    loss = kept("publish-dependency-failed", "stderr").decode().split("\n")[0]
+    like("failed-publish-frame-behind-losses", "publish-dependency-failed", "", kept("publish-dependency-failed", "stderr").decode() + "fault 5 write\n", fail_writes=[0])
+    like("failed-publish-second-loss", "publish-dependency-failed", "", loss + "\nfault 5 write\n", fail_notes=[1])
+    # The list of batches comes before the stream.
+    put("publish-list-missing", ["publish", "--batches", "list"], EMPTY, "", "fault 11 missing\n", 11, fail_reads=[0])
+    like("failed-publish-fetch", "operator-publish", stderr="fault 11 failed\n", status=11, fail_fetches=[0], fail_reads=[0])
+
+
 def options():
     empty = [("list", b"")]
     none = "head none\n"
@@ -67,4 +99,5 @@ def options():
 
 
 failing()
+endings()
 options()

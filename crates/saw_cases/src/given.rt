@@ -90,6 +90,16 @@ fn numbers_of(rt: &HostRuntime, case: &str, name: &str) -> io::Result<Vec<u64>> 
     }
 }
 
+/// The stream of a case.
+pub(crate) fn stream_of(rt: &HostRuntime, case: &str) -> io::Result<Vec<u8>> {
+    fs::read(rt, format!(in rt.alloc(); "cases/{case}/stdin")?.as_str())
+}
+
+/// What `apply` says to a case's stream with its output behind it, where that is stored.
+pub(crate) fn applied_of(rt: &HostRuntime, case: &str) -> io::Result<Option<Vec<u8>>> {
+    bytes_of(rt, format!(in rt.alloc(); "cases/{case}/applied")?.as_str())
+}
+
 /// What the case of this name gives.
 pub(crate) fn given_of(rt: &HostRuntime, case: &str) -> io::Result<Given> {
     let alloc = rt.alloc();
@@ -98,7 +108,7 @@ pub(crate) fn given_of(rt: &HostRuntime, case: &str) -> io::Result<Given> {
     let files = files_of(rt, case, &words)?;
     Ok(Given {
         words,
-        input: fs::read(rt, format!(in alloc; "cases/{case}/stdin")?.as_str())?,
+        input: stream_of(rt, case)?,
         files,
         reads: numbers_of(rt, case, "fail_reads")?,
         writes: numbers_of(rt, case, "fail_writes")?,

@@ -4,8 +4,8 @@
 mod given;
 mod said;
 
-use crate::given::{given_of, words_in};
-use crate::said::{Said, said_to, said_to_words};
+use crate::given::{applied_of, given_of, stream_of, words_in};
+use crate::said::{Said, said_to, said_to_stream, said_to_words};
 use std::process::ExitCode;
 use std::thread::Threads;
 use std::{fs, io};
@@ -20,11 +20,30 @@ fn stored(rt: &HostRuntime, case: &str) -> io::Result<Said> {
     })
 }
 
+/// Whether `apply` says what is stored for it, where something is, to the stream with the output behind it.
+fn is_applied<T: Threads + Sync>(
+    rt: &T,
+    host: &HostRuntime,
+    case: &str,
+    output: &[u8],
+) -> io::Result<bool> {
+    let Some(wanted) = applied_of(host, case)? else {
+        return Ok(true);
+    };
+    let mut stream = stream_of(host, case)?;
+    stream.extend_from_slice(output)?;
+    let said = said_to_stream(rt, host.alloc(), stream)?;
+    Ok(said.says(&wanted))
+}
+
 /// Whether the case of this name has its stored output, notes and status.
 fn passes<T: Threads + Sync>(rt: &T, host: &HostRuntime, case: &str) -> io::Result<bool> {
     let wanted = stored(host, case)?;
     let said = said_to(rt, host.alloc(), given_of(host, case)?)?;
-    Ok(said.is(&wanted))
+    if !said.is(&wanted) {
+        return Ok(false);
+    }
+    is_applied(rt, host, case, &said.output)
 }
 
 /// How many cases passed, and how many did not.

@@ -28,6 +28,11 @@ impl Said {
             && self.status.trim() == other.status.trim()
     }
 
+    /// Whether it is this output, without notes, and status 0.
+    pub(crate) fn says(&self, output: &[u8]) -> bool {
+        self.output.as_slice() == output && self.notes.is_empty() && self.status.as_str() == "0"
+    }
+
     /// Whether the words were refused.
     pub(crate) fn is_refused(&self) -> bool {
         self.output.is_empty()
@@ -79,6 +84,29 @@ pub(crate) fn said_to<T: Threads + Sync>(
         notes: notes.bytes().to_vec(alloc)?,
         status: status.code().to_string(alloc)?,
     })
+}
+
+/// What `apply` says to a stream.
+pub(crate) fn said_to_stream<T: Threads + Sync>(
+    rt: &T,
+    alloc: Global,
+    input: Vec<u8>,
+) -> Result<Said, AllocError> {
+    let mut words = Vec::new(alloc);
+    words.push(String::from_str(alloc, "apply")?)?;
+    said_to(
+        rt,
+        alloc,
+        Given {
+            words,
+            input,
+            files: BTreeMap::new(alloc),
+            reads: Vec::new(alloc),
+            writes: Vec::new(alloc),
+            notes: Vec::new(alloc),
+            fetches: Vec::new(alloc),
+        },
+    )
 }
 
 /// What a run says to words, where the first call of each side but the notes would fail.
