@@ -14,7 +14,7 @@ use Rattle.saw_messages.specs.declared.outcome.Change.{Change}
 use Rattle.saw_context.specs.Outcome.{map_after}
 use Rattle.saw_context.proofs.Each.{all_weaker}
 use Rattle.saw_context.proofs.Keys.{same_key}
-use Rattle.saw_context.proofs.Layers.{value_at_apart}
+use Rattle.saw_context.proofs.OnTop.{value_at_apart}
 
 -- an address and what is none differ
 apart_from_address : (address at : List ℕ) → is_address address ≡ true → is_address at ≡ false → bytes_eq address at ≡ false

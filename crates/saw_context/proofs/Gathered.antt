@@ -12,7 +12,7 @@ use Rattle.saw_context.specs.Changed.{AreRising, changed_by, changed_by_all}
 use Rattle.saw_context.specs.Conversation.{Overlay}
 use Rattle.saw_context.specs.Outcome.{changes_of, map_after}
 use Rattle.saw_context.proofs.Keys.{entries-empty, same_key}
-use Rattle.saw_context.proofs.Layers.{shown, value_at-changes_of}
+use Rattle.saw_context.proofs.OnTop.{shown, value_at-changes_of}
 use Rattle.saw_context.proofs.Overlays.{Changes, change_of}
 
 -- no changes leave the map

@@ -4,8 +4,10 @@ pub mod Keys
 pub mod Conversations
 pub mod Alike
 pub mod Covered
-pub mod Layers
+pub mod OnTop
 pub mod Sound
+pub mod Trees
+pub mod Views
 pub mod Overlays
 pub mod Undos
 pub mod Origins

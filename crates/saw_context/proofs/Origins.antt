@@ -1,18 +1,14 @@
 -- Where the bytes of a read come from.
 use Rattle.std.proofs.Common.{◌≡◌, ℕ, zero, suc, ◌<◌, false, true, List, [], ◌∷◌, ◌++◌, map, length, get_or, Option, Some, None, arith, refl, ap, ◌∙◌}
-use Rattle.std.specs.Ordering.{nat_cmp}
 use Rattle.std.specs.Prelude.{is_some}
-use Rattle.std.specs.Cmp.Lexicographic.{slice_cmp}
 use Rattle.std.specs.List.{AllByRecursion}
-use Rattle.std.specs.Map.{lookup}
-use Rattle.std.specs.BTreeMap.{is_at}
 use Rattle.std.specs.FinMap as finite
-use Rattle.saw_address.proofs.Finite.{get-map_of}
 use Rattle.saw_messages.specs.declared.talk.Place.{Place}
 use Rattle.saw_context.specs.Access.{Access, Gets, origin_at, origin_by, read_at}
 use Rattle.saw_context.specs.declared.reads.Read.{Read}
 use Rattle.std.proofs.lemmas.Simd.{map-map}
 use Rattle.saw_context.specs.Conversation.{Overlay, first_refused, is_granted}
+use Rattle.saw_context.specs.Views.{Layers}
 use Rattle.saw_context.specs.declared.reads.Origin.TheVariants.{Own, Layer, Base}
 use Rattle.saw_context.specs.declared.view.ViewEntry.{ViewEntry}
 use Rattle.saw_context.proofs.Alike.{granted_all}
@@ -26,21 +22,19 @@ some_by None layer e = absurd cc
 some_by (Some x) layer e = refl
 
 -- an own change
-pub origin_own : (own : Overlay) (es : List (List ℕ × ViewEntry)) (at : List ℕ) → is_some (finite.get own at) ≡ true
-    → Own ≡ origin_at (finite.from_entries es) own at
-origin_own own es at has = some_by (finite.get own at) (finite.get (finite.from_entries {R = slice_cmp nat_cmp} es) at) has
+pub origin_own : (own : Overlay) (layers : Layers) (at : List ℕ) → is_some (finite.get own at) ≡ true → Own ≡ origin_at layers own at
+origin_own own layers at has = some_by (finite.get own at) (finite.get layers at) has
 
 -- the view's entry
-pub origin_layer : (own : Overlay) (es : List (List ℕ × ViewEntry)) (at : List ℕ) (entry : ViewEntry) → is_some (finite.get own at) ≡ false
-    → Some entry ≡ lookup (is_at (slice_cmp nat_cmp at)) es
-    → Layer entry.index ≡ origin_at (finite.from_entries es) own at
-origin_layer own es at entry none found = rw (none_of (finite.get own at) none, get-map_of es at, ← found) refl
+pub origin_layer : (own : Overlay) (layers : Layers) (at : List ℕ) (entry : ViewEntry) → is_some (finite.get own at) ≡ false
+    → Some entry ≡ finite.get layers at
+    → Layer entry.index ≡ origin_at layers own at
+origin_layer own layers at entry none found = rw (none_of (finite.get own at) none, ← found) refl
 
 -- the base
-pub origin_base : (own : Overlay) (es : List (List ℕ × ViewEntry)) (at : List ℕ) → is_some (finite.get own at) ≡ false
-    → None ≡ lookup (is_at (slice_cmp nat_cmp at)) es
-    → Base ≡ origin_at (finite.from_entries es) own at
-origin_base own es at none found = rw (none_of (finite.get own at) none, get-map_of es at, ← found) refl
+pub origin_base : (own : Overlay) (layers : Layers) (at : List ℕ) → is_some (finite.get own at) ≡ false → None ≡ finite.get layers at
+    → Base ≡ origin_at layers own at
+origin_base own layers at none found = rw (none_of (finite.get own at) none, ← found) refl
 
 -- ---- granted places
 

@@ -10,9 +10,9 @@ use Rattle.saw_address.proofs.Finite.{get-map_of}
 use Rattle.saw_messages.specs.declared.outcome.Change.{Change}
 use Rattle.saw_messages.specs.declared.talk.Entry.{Entry}
 use Rattle.saw_messages.specs.declared.talk.Place.{Place}
-use Rattle.saw_context.specs.Views.{over, layered}
+use Rattle.saw_context.specs.Views.{Layers, over, layered}
 use Rattle.saw_context.specs.declared.view.ViewEntry.{ViewEntry}
-use Rattle.saw_context.proofs.Layers.{value_at-over}
+use Rattle.saw_context.proofs.OnTop.{value_at-over}
 use Rattle.saw_context.specs.Conversation.{Overlay, body_of, seen_at, seen_by, put_at, set_all, delete_all}
 
 abbrev pub Changes : Type 0
@@ -31,16 +31,13 @@ seen_below own es m at is found =
     ap (λ o. seen_by o (value_at m at)) (ap (λ own. finite.get own at) (sym is) ∙ get-map_of es at ∙ sym found)
 
 -- an entry of the view is what is there
-pub over_entry : (m : StateMap) (es : List (List ℕ × ViewEntry)) (at : List ℕ) (entry : ViewEntry) → Some entry ≡ lookup (is_at (slice_cmp nat_cmp at)) es
-    → value_at (over m (finite.from_entries es)) at ≡ entry.value
-over_entry m es at entry found =
-    value_at-over m (finite.from_entries es) at ∙ ap (λ o. layered o (value_at m at)) (get-map_of es at ∙ sym found)
+pub over_entry : (m : StateMap) (layers : Layers) (at : List ℕ) (entry : ViewEntry) → Some entry ≡ finite.get layers at
+    → value_at (over m layers) at ≡ entry.value
+over_entry m layers at entry found = value_at-over m layers at ∙ ap (λ o. layered o (value_at m at)) (sym found)
 
 -- where the view has none, the map's value is
-pub over_none : (m : StateMap) (es : List (List ℕ × ViewEntry)) (at : List ℕ) → None ≡ lookup (is_at (slice_cmp nat_cmp at)) es
-    → value_at (over m (finite.from_entries es)) at ≡ value_at m at
-over_none m es at found =
-    value_at-over m (finite.from_entries es) at ∙ ap (λ o. layered o (value_at m at)) (get-map_of es at ∙ sym found)
+pub over_none : (m : StateMap) (layers : Layers) (at : List ℕ) → None ≡ finite.get layers at → value_at (over m layers) at ≡ value_at m at
+over_none m layers at found = value_at-over m layers at ∙ ap (λ o. layered o (value_at m at)) (sym found)
 
 pub set_all-push : (own : Overlay) (entries : List Entry) (entry : Entry)
     → set_all own (entries ++ entry ∷ []) ≡ put_at (set_all own entries) entry.place (Some entry.body)

@@ -184,7 +184,7 @@ fn origin_at(own: &Overlay, view: &View, at: &Address) -> Origin
     if own.has(at) {
         return Origin::Own;
     }
-    match view.entries.get(at) {
+    match view.get(at) {
         Some(entry) => Origin::Layer(entry.index),
         None => Origin::Base,
     }

@@ -8,6 +8,7 @@ mod declared;
 mod fault;
 mod job;
 mod laws;
+mod layers;
 mod overlay;
 mod reads;
 mod undo;
@@ -23,6 +24,7 @@ pub use laws::{
     may_come_is_told, outcome_sees_inputs, over_shows, seen_is_over, serial_may_come,
     sound_is_outcome, sound_may_come, telling_decides, writes_are_covered,
 };
+pub use layers::Layers;
 pub use overlay::Overlay;
 pub use reads::{Changes, Origin, Read};
 pub use view::{View, ViewEntry};

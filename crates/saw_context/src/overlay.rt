@@ -259,7 +259,7 @@ fn below<B: Base>(alloc: Global, view: &View, base: &B, at: &Address) -> Result<
     ensures { IfOk result
         (λ body. body ≡ body_of (value_at (over (B.entry base.now) (layers_of view.now)) at.now)) }
 {
-    match view.entries.get(at) {
+    match view.get(at) {
         Some(entry) => copy_of(alloc, &entry.value),
         None => match base.get(at) {
             Some(body) => Bytes::from_slice(alloc, body),

@@ -1,8 +1,14 @@
 //! What earlier transactions left, as a later one sees it.
 
-use saw_address::Address;
+ghost use Rattle.std.specs.Prelude.{◌≡◌, option_copied};
+ghost use Rattle.std.specs.FinMap as finite;
+ghost use Rattle.std.specs.List.{list_any};
+ghost use Rattle.saw_address.specs.Prefixes.{covers};
+ghost use Rattle.saw_context.specs.Views.{layers_of};
+
+use crate::layers::Layers;
+use saw_address::{Address, Prefix};
 use saw_wire::Bytes;
-use std::collections::BTreeMap;
 
 /// The last change of earlier transactions at an address.
 #[derive(Drop)]
@@ -13,8 +19,30 @@ pub struct ViewEntry {
     pub value: Option<Bytes>,
 }
 
-/// The entries of earlier transactions under the inputs that a transaction declares.
+/// What earlier transactions left at the addresses that a transaction may read.
 #[derive(Drop)]
 pub struct View {
-    pub entries: BTreeMap<Address, ViewEntry>,
+    /// What they left anywhere.
+    pub layers: Layers,
+    /// What the transaction may read.
+    pub inputs: Vec<Prefix>,
+}
+
+impl View {
+    /// The entry at an address, where an input covers it.
+    pub fn get(&self, at: &Address) -> Option<&ViewEntry>
+        ensures { option_copied result ≡ finite.get (layers_of self.now) at.now }
+    {
+        if is_one_covering(&self.inputs, at) {
+            self.layers.get(at)
+        } else {
+            None
+        }
+    }
+}
+
+fn is_one_covering(prefixes: &[Prefix], at: &Address) -> bool
+    ensures { result ≡ list_any (λ prefix. covers prefix at.now) prefixes.now }
+{
+    prefixes.iter().any(|prefix| prefix.covers(at))
 }

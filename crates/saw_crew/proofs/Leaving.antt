@@ -4,8 +4,7 @@ use Rattle.std.specs.List.{AllByRecursion}
 use Rattle.saw_faults.specs.Counts.{Rose}
 use Rattle.saw_station.specs.DeskPlaces.{Place, faults_by}
 use Rattle.saw_station.specs.declared.offer.Offer.{Offer}
-use Rattle.saw_crew.specs.Desks.{Failed, HaveSameOffers, KeepsDesk, KeepsDesks, offers_at}
-use Rattle.saw_crew.specs.Running.{Leaves}
+use Rattle.saw_crew.specs.Desks.{Failed, HaveSameOffers, KeepsDesk, KeepsDesks, Leaves, offers_at}
 
 rose_later : (first before after : ℕ) → first ≤ before → Rose before after → Rose first after
 rose_later first before after later rose = omega arith

@@ -1,4 +1,4 @@
-pub mod Members
-pub mod Batches
 pub mod Leaving
-pub mod Plain
+pub mod Agreed
+pub mod Results
+pub mod Alone

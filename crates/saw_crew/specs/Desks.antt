@@ -43,3 +43,8 @@ module _ {R : Type 0} (faults : R → ℕ) where
   Failed [] news = ⊥
   Failed (old ∷ olds) [] = ⊥
   Failed (old ∷ olds) (new ∷ news) = Rose (faults_by faults old.remote) (faults_by faults new.remote) ⊎ Failed olds news
+
+-- what a call leaves of a desk, and that it failed by the processor only where that is counted
+pub record Leaves {R : Type 0} (faults : R → ℕ) (offered : R → List Offer) (old new : Place R) (failed : Type 0) : Type 0 where
+  pub keeps : KeepsDesk faults offered old new
+  pub cause : failed → Rose (faults_by faults old.remote) (faults_by faults new.remote)

@@ -1,7 +1,6 @@
 //! Runs the batches of a plan over a base at desks.
 #![tactic(auto)]
 
-mod batch;
 mod execution;
 mod fault;
 

@@ -9,7 +9,7 @@ use Rattle.saw_address.specs.Maps.{StateMap, value_at, changed_at, is_address}
 use Rattle.saw_address.specs.Prefixes.{covers}
 use Rattle.saw_address.proofs.Finite.{value_at-changed_at}
 use Rattle.saw_context.specs.Outcome.{map_after}
-use Rattle.saw_context.proofs.Layers.{value_after, value_at-map_after}
+use Rattle.saw_context.proofs.OnTop.{value_after, value_at-map_after}
 use Rattle.saw_messages.specs.declared.outcome.Change.{Change}
 use Rattle.saw_merkle.specs.Below.{AreAddressed}
 use Rattle.saw_merkle.proofs.Local.{Agree}

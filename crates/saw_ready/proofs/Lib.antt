@@ -10,3 +10,4 @@ pub mod Lowering
 pub mod Resetting
 pub mod Renewals
 pub mod Keeping
+pub mod Undoing

@@ -5,6 +5,7 @@ pub mod Queues
 pub mod Fronts
 pub mod Hits
 pub mod Resets
+pub mod Undone
 pub mod Layouts
 pub mod Successors
 pub mod Cursors

@@ -13,6 +13,7 @@ mod release;
 mod reset;
 mod set;
 mod successors;
+mod undone;
 
 pub use edges::Edges;
 pub use front::Front;

@@ -8,6 +8,7 @@ ghost use Rattle.saw_ready.specs.Marks.{is_valid};
 ghost use Rattle.saw_ready.specs.Queues.{IsNew, IsTaken, MayTake, with_first, with_mark};
 ghost use Rattle.saw_ready.specs.Resets.{IsFailed};
 ghost use Rattle.saw_ready.specs.Sets.{IsEmpty};
+ghost use Rattle.saw_ready.specs.Undone.{AreNoted};
 ghost use Rattle.saw_ready.specs.declared.mark.Mark.TheVariants.{Invalid, Running, Valid, Waiting};
 
 use crate::choice::find_ready;
@@ -158,17 +159,20 @@ impl Queue {
     }
 
     /// The batch before `end` is failed: its members are closed, and exactly what stands on one of them waits again.
-    /// The set of hits is used in between, and is empty before and after.
-    pub fn fail(&mut self, end: usize, hits: &mut ReadySet)
+    /// The set of hits is used in between, and is empty before and after. Whatever held a valid result and does no more
+    /// is added to `undone`.
+    pub fn fail(&mut self, end: usize, hits: &mut ReadySet, undone: &mut ReadySet)
         requires within { (self.old.first ≤ end) × (end ≤ length self.old.marks) }
         requires ends { end < length self.old.marks → end ≤ get_or self.old.starts end 0 }
         requires hits { length hits.old ≡ length self.old.marks }
         requires idle { IsEmpty hits.old }
+        requires undone { length undone.old ≡ length self.old.marks }
         ensures same { (self.new.preds ≡ self.old.preds) × (self.new.starts ≡ self.old.starts)
             × (self.new.first ≡ end) }
         ensures failed { IsFailed self.old.preds self.old.first end self.old.marks self.new.marks }
         ensures hits { length hits.new ≡ length hits.old }
         ensures idle { IsEmpty hits.new }
+        ensures undone { AreNoted self.old.marks self.new.marks undone.old undone.new }
     {
         fail_batch(
             &self.layout,
@@ -179,6 +183,7 @@ impl Queue {
             &mut self.lowest,
             &mut self.ready,
             hits,
+            undone,
         );
         self.first = end;
         self.seen = end;

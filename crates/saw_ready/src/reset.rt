@@ -8,6 +8,7 @@ ghost use Rattle.saw_ready.specs.Layouts.{IsLayout};
 ghost use Rattle.saw_ready.specs.Lowest.{AreLowest, IsNextInvalid};
 ghost use Rattle.saw_ready.specs.Resets.{AreClosed, AreMatesFlagged, AreRenewed, IsFailed, IsOut, IsReopened, IsReset};
 ghost use Rattle.saw_ready.specs.Sets.{IsEmpty};
+ghost use Rattle.saw_ready.specs.Undone.{AreNoted};
 ghost use Rattle.saw_ready.specs.declared.mark.Mark.TheVariants.{Waiting};
 
 use crate::due::{met_from, refresh};
@@ -15,9 +16,10 @@ use crate::hits::spread;
 use crate::layout::Layout;
 use crate::mark::Mark;
 use crate::set::ReadySet;
+use crate::undone::{note_hits, note_members};
 
 /// A batch is failed: its members are closed, and whatever stands on one of them waits again. `hits` is empty, before
-/// and after.
+/// and after. Whatever held a valid result and does no more is added to `undone`.
 pub(crate) fn fail_batch(
     layout: &Layout,
     marks: &mut Vec<Mark>,
@@ -27,19 +29,25 @@ pub(crate) fn fail_batch(
     lowest: &mut Vec<usize>,
     ready: &mut ReadySet,
     hits: &mut ReadySet,
+    undone: &mut ReadySet,
 )
     requires queue { IsQueue layout.now marks.old.items first cursors.old.items lowest.old.items ready.old }
     requires within { (first ≤ end) × (end ≤ length marks.old.items) }
     requires ends { end < length marks.old.items → end ≤ get_or layout.now.starts.items end 0 }
     requires hits { length hits.old ≡ length marks.old.items }
     requires idle { IsEmpty hits.old }
+    requires undone { length undone.old ≡ length marks.old.items }
     ensures queue { IsQueue layout.now marks.new.items end cursors.new.items lowest.new.items ready.new }
     ensures failed { IsFailed layout.now.preds first end marks.old.items marks.new.items }
     ensures hits { length hits.new ≡ length hits.old }
     ensures idle { IsEmpty hits.new }
+    ensures undone { AreNoted marks.old.items marks.new.items undone.old undone.new }
 {
+    note_members(marks, first, end, undone);
     close(marks, first, end);
     spread(layout, first, end, hits);
+    // Marks from `end` on are still the old ones.
+    note_hits(marks, end, hits, undone);
     renew(layout, marks, end, cursors, lowest, ready, hits);
     clear(hits, marks.len());
 }

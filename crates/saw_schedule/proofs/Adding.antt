@@ -51,6 +51,10 @@ module _ (old new : Lasts) (at : List ℕ) (was list : Vec Left Global) (there :
   pub kept : list.items ≡ was.items → (q : List ℕ) → lefts_at new q ≡ lefts_at old q
   kept same = is-same old new at list changes.1 (same ∙ ap items_in there) changes.2
 
+  -- what the list of the address is, and that those of others stay
+  pub changed : (lefts_at new at ≡ list.items) × (lefts_at old at ≡ was.items) × ((q : List ℕ) → bytes_eq at q ≡ false → lefts_at new q ≡ lefts_at old q)
+  changed = (ap items_in changes.1, ap items_in (sym there), λ q apart. ap items_in (changes.2 q (is_eq-slice_cmp at q ∙ apart)))
+
 -- a first change of an address
 pub inserted : (old mid new : Lasts) (at : List ℕ) (left : Left) (list : Vec Left Global) → None ≡ get (slice_cmp nat_cmp) old.lists at → mid.lists ≡ old.lists
     → list.items ≡ [] ++ left ∷ [] → UpdatesBy (slice_cmp nat_cmp) (slice_cmp nat_cmp at) mid.lists new.lists (Some list) → IsAdded old new at left

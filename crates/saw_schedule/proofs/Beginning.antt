@@ -1,5 +1,5 @@
 -- What a schedule keeps before any step.
-use Rattle.std.proofs.Common.{◌≡◌, ◌<◌, ◌≤◌, ◌^◌, ℕ, zero, suc, List, [], ◌∷◌, length, map, sum, get_or, Option, Some, None, slice_get, vec_capacity, refl, sym, ap, subst, ◌∙◌, arith}
+use Rattle.std.proofs.Common.{◌≡◌, ◌<◌, ◌≤◌, ◌^◌, ℕ, zero, suc, List, [], ◌∷◌, length, map, sum, get_or, Option, Some, None, slice_get, vec_capacity, refl, sym, ap, subst, ◌∙◌, arith, Bool, inl, inr, true≢false}
 use Rattle.std.proofs.lemmas.List.{length-map}
 use Rattle.std.specs.Global.{Global}
 use Rattle.std.specs.List.{AllByRecursion}
@@ -14,17 +14,18 @@ use Rattle.saw_plan.specs.Precedence.{precedes_in}
 use Rattle.saw_plan.specs.declared.plan.Plan.{Plan}
 use Rattle.saw_ready.specs.Edges.{AreEarlier, AreEdges}
 use Rattle.saw_ready.specs.Layouts.{AreStarts}
-use Rattle.saw_ready.specs.Queues.{IsNew}
+use Rattle.saw_ready.specs.Queues.{IsNew, Waits}
 use Rattle.saw_ready.specs.Sets.{IsEmpty}
 use Rattle.saw_ready.specs.declared.edges.Edges.{Edges}
 use Rattle.saw_ready.specs.declared.mark.Mark.{Mark}
 use Rattle.saw_ready.specs.declared.mark.Mark.TheVariants as marks
 use Rattle.saw_schedule.specs.Histories.{begun, order_in, sizes_in, txs_in}
 use Rattle.saw_schedule.specs.Inside.{AreSlotsOf, IsScheduleOf, running_in}
-use Rattle.saw_schedule.specs.Lasts.{NoLefts}
+use Rattle.saw_schedule.specs.Lasts.{IsNothing}
+use Rattle.saw_schedule.specs.Layering.{AreIdle}
 use Rattle.saw_schedule.specs.Layout.{ends_of, starts_of}
 use Rattle.saw_schedule.specs.Orders.{names_in}
-use Rattle.saw_schedule.specs.Settling.{HaveState, IsOpen, settled}
+use Rattle.saw_schedule.specs.Settling.{HaveState, IsOpen, LeavesUndone, settled}
 use Rattle.saw_schedule.specs.Shows.{is_edge}
 use Rattle.saw_schedule.specs.declared.kept.Kept.{Kept}
 use Rattle.saw_schedule.specs.declared.lasts.Lasts.{Lasts}
@@ -32,6 +33,7 @@ use Rattle.saw_schedule.specs.declared.slots.Slots.{Slots}
 use Rattle.saw_schedule.proofs.Counting.{count-cons}
 use Rattle.saw_schedule.proofs.Layouts.{length-starts, start-at, starts-are, sum-sizes}
 use Rattle.saw_schedule.proofs.Settleds.{settled-rise}
+use Rattle.saw_schedule.proofs.Undoing.{with_undone}
 
 -- all wait, and nothing is settled
 abbrev pub initial : List ℕ → State
@@ -110,13 +112,13 @@ module _ (order : Order) (sizes : List ℕ) (preds : Edges) (slots : Slots) (b :
   begun-state = record { order = order; sizes = sizes; state = initial sizes; open_ = begun-open; are = begun-slots }
 
 -- the whole
-pub begun-schedule : (plan : Plan) (txs : List (Arc Tx Global)) (named : Edges) (slots last : Slots) (lasts : Lasts) (capacity : ℕ)
+pub begun-schedule : (plan : Plan) (txs : List (Arc Tx Global)) (named : Edges) (slots last : Slots) (lasts : Lasts) (before : List Bool) (capacity : ℕ)
     → shapes_of txs ≡ txs_in (begun plan) → length txs < 2 ^ 32
     → AreEdges named (length txs) → AreEarlier named (length txs) → ((i j : ℕ) → j < i → is_edge named j i ≡ names_in (shapes_of txs) i j)
     → AreSlotsOf (order_in (begun plan)) (sizes_in (begun plan)) (settled (order_in (begun plan)) (initial (sizes_in (begun plan)))) [] last
-    → last.running ≡ 0 → NoLefts lasts
+    → last.running ≡ 0 → IsNothing (length txs) (with_undone lasts before) → AreIdle last.queue.marks lasts.undone
     → IsScheduleOf (begun plan) txs named last lasts capacity
-begun-schedule plan txs named slots last lasts capacity txs_are few edges earlier names are running none = record {
+begun-schedule plan txs named slots last lasts before capacity txs_are few edges earlier names are running none idle = record {
   txs_are = txs_are;
   counted = few;
   replay = tt;
@@ -128,7 +130,10 @@ begun-schedule plan txs named slots last lasts capacity txs_are few edges earlie
   lasts_are = record {
     within = rw none.place (omega arith);
     some = rw none.change (omega arith);
-    are = λ at. none.none at ∙ rw (none.place, none.change) refl;
+    below = λ at. rw (none.none at) tt;
+    are = λ at. rw (none.none at, none.place, none.change) refl;
+    shown = λ at. inl (none.no_layers at ∙ rw (none.place, none.change) refl);
+    idle = idle;
   };
   rising = settled-rise (order_in (begun plan)) (initial (sizes_in (begun plan))) last.kept.items (λ i j one other at v w less a b is_one is_other. absurd (none≢some v a));
   room = rw running (omega arith);
@@ -137,6 +142,16 @@ begun-schedule plan txs named slots last lasts capacity txs_are few edges earlie
   where
     none≢some : (v : Option (List ℕ)) → None ≡ Some v → ⊥
     none≢some v e = grind arith
+
+-- what was undone while batches without transactions were settled
+pub begun-idle : (old new : List Mark) (undone undone' : List Bool) → LeavesUndone old new undone undone' → length new ≡ length old → length undone ≡ length old → IsEmpty undone → AreIdle new undone'
+begun-idle old new undone undone' leaves long same empty = record {
+  long = leaves.noted.long ∙ (same ∙ sym long);
+  are = λ i in_it. elim (leaves.noted.only i in_it) [
+    | inl before ↦ absurd (true≢false (sym before ∙ empty i))
+    | inr lost ↦ lost.1
+  ];
+}
 
 -- ---- as the code begins
 
@@ -175,3 +190,8 @@ module _ (plan : Plan) (txs : List (Arc Tx Global)) (few : length txs < 2 ^ 32) 
   starts-right batches starts batches_are starts_are =
       let is : starts ≡ starts_of 0 (sizes_in (begun plan)) = starts_are ∙ ap (λ (b : List BatchShape). starts_of 0 (map length (txs_of b))) batches_are in
       (total ∙ sym (ap (λ (l : List ℕ). length l) is ∙ length-starts 0 (sizes_in (begun plan))), subst (λ (l : List ℕ). AreStarts l) (sym is) (starts-are (sizes_in (begun plan))))
+
+  -- each transaction has its mark
+  pub long-queue : (batches : List BatchShape) (preds : Edges) (starts : List ℕ) (queue : Waits) → batches ≡ plan.batches → starts ≡ starts_of 0 (map length (txs_of batches))
+      → IsNew preds starts queue → length txs ≡ length queue.marks
+  long-queue batches preds starts queue batches_are starts_are new = (starts-right batches starts batches_are starts_are).0 ∙ sym new.long

@@ -1,5 +1,5 @@
 -- A job ends with a result.
-use Rattle.std.proofs.Common.{◌≡◌, ◌≢◌, ◌<◌, ◌≤◌, ◌+◌, ◌-◌, ℕ, true, false, List, [], ◌∷◌, ◌++◌, length, get_or, Option, Some, None, is_none, slice_get, refl, sym, ap, subst, ◌∙◌, arith, ◌⊎◌, inl, inr, true≢false, length-append}
+use Rattle.std.proofs.Common.{◌≡◌, ◌≢◌, ◌<◌, ◌≤◌, ◌+◌, ◌-◌, ℕ, Bool, true, false, List, [], ◌∷◌, ◌++◌, length, get_or, Option, Some, None, is_none, slice_get, refl, sym, ap, subst, ◌∙◌, arith, ◌⊎◌, inl, inr, true≢false, length-append}
 use Rattle.std.proofs.Math.Path.{fun_ext}
 use Rattle.std.proofs.lemmas.Option.{slice_get_cases, slice_get_read}
 use Rattle.saw_plan.proofs.Pairs.{shape-at}
@@ -20,13 +20,16 @@ use Rattle.saw_machine.specs.Orders.{IsDeclared, Order}
 use Rattle.saw_machine.proofs.Lasts.{no-later-write}
 use Rattle.saw_machine.proofs.Onwards.{IsOn, on-runs}
 use Rattle.saw_machine.proofs.Puts.{put-other, put-same}
+use Rattle.saw_ready.specs.Marks.{is_valid}
 use Rattle.saw_ready.specs.Queues.{with_mark}
 use Rattle.saw_ready.specs.declared.edges.Edges.{Edges}
 use Rattle.saw_ready.specs.declared.mark.Mark.TheVariants as marks
 use Rattle.saw_schedule.specs.Agreement.{difference_from}
 use Rattle.saw_schedule.specs.Histories.{History, IsReplay, difference_in, move_of, moves_of, order_in, sizes_in, start_of, state_of, txs_in, with_step}
 use Rattle.saw_schedule.specs.Inside.{AreSlotsOf, DoPlacesRise, IsPlacedAt, IsResultAt, IsRunning, IsScheduleOf, IsTaskOf, one_if_running}
-use Rattle.saw_schedule.specs.Settling.{HaveState, IsOpen, settled}
+use Rattle.saw_schedule.specs.Layering.{AreLastsOf}
+use Rattle.saw_schedule.specs.Places.{place_in}
+use Rattle.saw_schedule.specs.Settling.{HaveState, IsOpen, LeavesUndone, settled}
 use Rattle.saw_schedule.specs.Shows.{mark_by}
 use Rattle.saw_schedule.specs.declared.kept.Kept.{Kept}
 use Rattle.saw_schedule.specs.declared.lasts.Lasts.{Lasts}
@@ -35,13 +38,13 @@ use Rattle.saw_schedule.specs.declared.step.Step.{Step}
 use Rattle.saw_schedule.specs.declared.step.Step.TheVariants.{Finish}
 use Rattle.saw_schedule.specs.declared.ended.Difference.{Difference}
 use Rattle.saw_schedule.proofs.Agreeing.{agreed-declared}
-use Rattle.saw_schedule.proofs.GivingBack.{inside, running-some, some-run, task-so, unsettled, waits-again}
-use Rattle.saw_schedule.proofs.LeftsBehind.{lefts-behind}
+use Rattle.saw_schedule.proofs.GivingBack.{inside, not-undone, running-some, some-run, task-so, unsettled, waits-again}
 use Rattle.saw_schedule.proofs.Meetings.{meetings}
 use Rattle.saw_schedule.proofs.Reached.{replay-with_step, state-with_step}
 use Rattle.saw_schedule.proofs.Replays.{histories-are-kept, history-legal, history-runs}
 use Rattle.saw_schedule.proofs.Settleds.{settled-rise}
 use Rattle.saw_schedule.proofs.SlotChanges.{changed, get-last, slot-changes}
+use Rattle.saw_schedule.proofs.Undoing.{put-on, settled-on, with_undone}
 
 same-or : (a b : ℕ) → (a ≡ b) ⊎ (a ≢ b)
 same-or a b = grind arith
@@ -64,7 +67,7 @@ module _ (h : History) (txs : List (Arc Tx Global)) (named : Edges) (slots : Slo
   running-is : st.slots i ≡ Running done.ticket.attempt task
   running-is = (task-so h txs named slots lasts capacity is done.ticket runs).1
 
-  task-of : (one : Kept) → slice_get slots.kept.items i ≡ Some one → IsTaskOf one task
+  pub task-of : (one : Kept) → slice_get slots.kept.items i ≡ Some one → IsTaskOf one task
   task-of one e = ((is.slots_are.kept i one e).running done.ticket.attempt task running-is).0
 
   -- the transaction and what is kept of it, as the code reads them
@@ -84,20 +87,21 @@ module _ (h : History) (txs : List (Arc Tx Global)) (named : Edges) (slots : Slo
   tx-inside all same = let inner = inside h txs named slots lasts capacity is done.ticket runs in let long = txs-all h txs named slots lasts capacity is in rw same (omega (arith, inner, long))
 
   -- the difference that the code finds is the machine's
-  pub found-is : (tx : Arc Tx Global) (one : Kept) → slice_get (txs_in h) i ≡ Some (arc_value tx) → slice_get slots.kept.items i ≡ Some one
-      → difference_from (arc_value tx) (record { view = (λ at. finite.get (layers_of (arc_value one.view)) at); failed = one.failed }) done ≡ difference_in (txs_in h) st done
+  pub found-is : (tx : Arc Tx Global) (one : Kept) → slice_get (txs_in h) i ≡ Some (arc_value tx) → (one_is : slice_get slots.kept.items i ≡ Some one)
+      → difference_from (arc_value tx) (record { view = (λ at. finite.get (layers_of (arc_value (task-of one one_is).view)) at); failed = one.failed }) done ≡ difference_in (txs_in h) st done
   found-is tx one tx_is one_is =
       let t = task-of one one_is in
-      let same : record { view = (λ at. finite.get (layers_of (arc_value one.view)) at); failed = one.failed } ≡ task = λ k. record { view = fun_ext t.view k; failed = t.failed k } in
+      let same : record { view = (λ at. finite.get (layers_of (arc_value t.view)) at); failed = one.failed } ≡ task = λ k. record { view = fun_ext t.shown k; failed = t.failed k } in
       let has : task_in (st.slots i) ≡ Some task = ap task_in running-is in
       ap (λ (x : Task). difference_from (arc_value tx) x done) same ∙ rw (tx_is, has) refl
 
-  pub found-code : (found : Option Difference) (tx : Arc Tx Global) (one : Kept) (shape : TxShape) (view : View) → slice_get (txs_in h) i ≡ Some (arc_value tx) → slice_get slots.kept.items i ≡ Some one
-      → shape ≡ arc_value tx → view ≡ arc_value one.view
-      → found ≡ difference_from shape (record { view = (λ at. finite.get (layers_of view) at); failed = one.failed }) done → found ≡ difference_in (txs_in h) st done
-  found-code found tx one shape view tx_is one_is shape_is view_is is_found =
-      is_found ∙ (ap (λ (x : TxShape). difference_from x (record { view = (λ at. finite.get (layers_of view) at); failed = one.failed }) done) shape_is
-      ∙ (ap (λ (x : View). difference_from (arc_value tx) (record { view = (λ at. finite.get (layers_of x) at); failed = one.failed }) done) view_is ∙ found-is tx one tx_is one_is))
+  pub found-code : (found : Option Difference) (tx : Arc Tx Global) (one : Kept) (shape : TxShape) → slice_get (txs_in h) i ≡ Some (arc_value tx) → slice_get slots.kept.items i ≡ Some one
+      → shape ≡ arc_value tx
+      → ((view : Arc View Global) → one.view ≡ Some view → found ≡ difference_from shape (record { view = (λ at. finite.get (layers_of (arc_value view)) at); failed = one.failed }) done)
+      → found ≡ difference_in (txs_in h) st done
+  found-code found tx one shape tx_is one_is shape_is is_found =
+      let t = task-of one one_is in
+      is_found t.view t.is ∙ (ap (λ (x : TxShape). difference_from x (record { view = (λ at. finite.get (layers_of (arc_value t.view)) at); failed = one.failed }) done) shape_is ∙ found-is tx one tx_is one_is)
 
   -- ---- a result that differs
 
@@ -170,7 +174,7 @@ module _ (h : History) (txs : List (Arc Tx Global)) (named : Edges) (slots : Slo
             go Waiting q m = absurd (grind arith)
             go (Running n job) q m = absurd (grind arith)
             go (Held job outcome) q m =
-                let r : IsResultAt h.steps one.place a outcome = ((is.slots_are.kept a one e).held job outcome q).1 in
+                let r : IsResultAt h.steps one.place a outcome = (is.slots_are.kept a one e).held job outcome q in
                 elim (slice_get_cases h.steps one.place).1 [
                   | inl found ↦ found.1
                   | inr past ↦ absurd (some≢none r.done (sym r.stands ∙ past.1))
@@ -199,18 +203,12 @@ module _ (h : History) (txs : List (Arc Tx Global)) (named : Edges) (slots : Slo
         kept_here = λ one e.
             let k = kept_here one runs.kept e runs.stands in
             let old = is.slots_are.kept i runs.kept runs.stands in
-            let t = task-of runs.kept runs.stands in
             record {
               attempts = k.attempts ∙ old.attempts;
               running = λ n job w. absurd (held≢runs n job (sym (put-same st.slots i held) ∙ w));
               held = λ job outcome w.
-                  let same = held-same (sym (put-same st.slots i held) ∙ w) in (
-                    record {
-                      view = λ at. ap (λ (view : _). finite.get (layers_of (arc_value view)) at) k.view ∙ (t.view at ∙ ap (λ (x : Task). x.view at) same.0);
-                      failed = k.failed ∙ (t.failed ∙ ap (λ (x : Task). x.failed) same.0);
-                    },
-                    record { done = done; stands = ap (slice_get (h.steps ++ Finish done ∷ [])) k.place_is ∙ get-last h.steps (Finish done); number = refl; outcome_is = same.1 },
-                  );
+                  let same = held-same (sym (put-same st.slots i held) ∙ w) in
+                  record { done = done; stands = ap (slice_get (h.steps ++ Finish done ∷ [])) k.place_is ∙ get-last h.steps (Finish done); number = refl; outcome_is = same };
             };
         counted = rw (queue, running) (let c = some-run h txs named slots lasts capacity is done.ticket runs (mark_by done.outcome) in let so = is.slots_are.counted in let none = not-running done.outcome in omega (arith, c, so, none));
       })
@@ -218,20 +216,14 @@ module _ (h : History) (txs : List (Arc Tx Global)) (named : Edges) (slots : Slo
           held≢runs : (n : ℕ) (job : Task) → held ≡ Running n job → ⊥
           held≢runs n job e = grind arith
 
-          task_or : Task → Slot → Task
-          task_or d Waiting = d
-          task_or d (Running n t) = t
-          task_or d (Held t o) = t
-          task_or d Closed = d
-
           outcome_or : Outcome → Slot → Outcome
           outcome_or d Waiting = d
           outcome_or d (Running n t) = d
           outcome_or d (Held t o) = o
           outcome_or d Closed = d
 
-          held-same : {job : Task} {outcome : Outcome} → held ≡ Held job outcome → (task ≡ job) × (done.outcome ≡ outcome)
-          held-same e = (ap (task_or task) e, ap (outcome_or done.outcome) e)
+          held-same : {job : Task} {outcome : Outcome} → held ≡ Held job outcome → done.outcome ≡ outcome
+          held-same e = ap (outcome_or done.outcome) e
 
           not-running : (outcome : Outcome) → one_if_running (mark_by outcome) ≡ 0
           not-running (Ok changes events) = refl
@@ -240,18 +232,44 @@ module _ (h : History) (txs : List (Arc Tx Global)) (named : Edges) (slots : Slo
       pub mid-state : HaveState (h.steps ++ Finish done ∷ []) new
       mid-state = record { order = order_in h; sizes = sizes_in h; state = mid; open_ = mid-open; are = mid-slots }
 
+      -- the place of the result
+      placed-behind : length h.steps ≤ place_in new.kept.items i
+      placed-behind = elim (slice_get_cases new.kept.items i).1 [
+        | inl found ↦ let p = (kept_here found.0 runs.kept found.2 runs.stands).place_is in rw found.2 (omega (arith, p))
+        | inr past ↦
+            let out : length new.kept.items ≤ i = past.0 in
+            let inner = inside h txs named slots lasts capacity is done.ticket runs in
+            let long = is.slots_are.kept_long in
+            absurd (omega (arith, out, inner, long, kept_long))
+      ]
+
+      -- what the layers show meanwhile
+      mid-lasts : AreLastsOf (h.steps ++ Finish done ∷ []) new lasts
+      mid-lasts = put-on h.steps (Finish done) slots new lasts i (mark_by done.outcome) is.lasts_are (record {
+        inside = inside h txs named slots lasts capacity is done.ticket runs;
+        queue = queue;
+        others = kept_others;
+        before = ap is_valid runs.mark;
+        after = inr placed-behind;
+        apart = not-undone h txs named slots lasts capacity is done.ticket runs;
+      })
+
+      pub mid-long : length lasts.undone ≡ length new.queue.marks
+      mid-long = mid-lasts.idle.long
+
       -- and once they have
-      pub accepted : (last : Slots) (steps : List Step) (room : ℕ)
+      pub accepted : (last : Slots) (undone : List Bool) (steps : List Step) (room : ℕ)
           → ((order : Order) (sizes : List ℕ) (x : State) → IsOpen x → AreSlotsOf order sizes x (h.steps ++ Finish done ∷ []) new → AreSlotsOf order sizes (settled order x) (h.steps ++ Finish done ∷ []) last)
-          → last.kept ≡ new.kept → last.running ≡ new.running → steps ≡ h.steps ++ Finish done ∷ [] → capacity ≤ room
-          → IsScheduleOf (record { batches = h.batches; steps = steps }) txs named last lasts room
-      accepted last steps room settles kept_last running_last steps_are more =
+          → last.kept ≡ new.kept → last.running ≡ new.running → length last.queue.marks ≡ length new.queue.marks → LeavesUndone new.queue.marks last.queue.marks lasts.undone undone
+          → steps ≡ h.steps ++ Finish done ∷ [] → capacity ≤ room
+          → IsScheduleOf (record { batches = h.batches; steps = steps }) txs named last (with_undone lasts undone) room
+      accepted last undone steps room settles kept_last running_last marks_last leaves steps_are more =
           let state : state_of (with_step h (Finish done)) ≡ settled (order_in h) mid = state-with_step h (Finish done) ∙ next-is in
           let long : length (h.steps ++ Finish done ∷ []) ≡ length h.steps + 1 = length-append h.steps (Finish done ∷ []) in
           let s = running-some h txs named slots lasts capacity is done.ticket runs in
           let r = is.room in
           let f = is.few in
-          subst (λ (all : List Step). IsScheduleOf (record { batches = h.batches; steps = all }) txs named last lasts room) (sym steps_are)
+          subst (λ (all : List Step). IsScheduleOf (record { batches = h.batches; steps = all }) txs named last (with_undone lasts undone) room) (sym steps_are)
           (record {
             txs_are = is.txs_are;
             counted = is.counted;
@@ -261,7 +279,7 @@ module _ (h : History) (txs : List (Arc Tx Global)) (named : Edges) (slots : Slo
             earlier = is.earlier;
             names = is.names;
             slots_are = subst (λ (x : State). AreSlotsOf (order_in h) (sizes_in h) x (h.steps ++ Finish done ∷ []) last) (sym state) (settles (order_in h) (sizes_in h) mid mid-open mid-slots);
-            lasts_are = lefts-behind h.steps (Finish done) lasts is.lasts_are;
+            lasts_are = settled-on (h.steps ++ Finish done ∷ []) new last undone lasts mid-lasts kept_last marks_last leaves;
             rising = subst (λ (x : State). DoPlacesRise x last.kept.items) (sym state)
                 (settled-rise (order_in h) mid last.kept.items (subst (λ (k : _). DoPlacesRise mid k.items) (sym kept_last)
                 (mid-rise new.kept.items kept_others (λ one e. (kept_here one runs.kept e runs.stands).place_is))));

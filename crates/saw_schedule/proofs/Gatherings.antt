@@ -158,7 +158,7 @@ module _ (order : Order) (sizes : List ℕ) (st : State) (steps : List Step) (sl
 
   -- the result that a held slot keeps
   result-of : (i : ℕ) (task : Task) (outcome : Outcome) (kept : Kept) → st.slots i ≡ Held task outcome → slice_get all_kept i ≡ Some kept → IsResultAt steps kept.place i outcome
-  result-of i task outcome kept held stands = ((are.kept i kept stands).held task outcome held).1
+  result-of i task outcome kept held stands = (are.kept i kept stands).held task outcome held
 
   -- two of them stand apart
   stand-apart : (i j : ℕ) (one other : Kept) → i ≢ j → IsHeld st i → IsHeld st j → slice_get all_kept i ≡ Some one → slice_get all_kept j ≡ Some other → one.place ≢ other.place

@@ -1,5 +1,5 @@
 -- A job is given back, or its result is refused: its transaction waits again.
-use Rattle.std.proofs.Common.{◌≡◌, ◌≢◌, ◌<◌, ◌≤◌, ◌+◌, ◌-◌, ℕ, List, [], ◌∷◌, ◌++◌, length, get_or, set, Option, Some, None, slice_get, refl, sym, ap, subst, ◌∙◌, arith}
+use Rattle.std.proofs.Common.{◌≡◌, ◌≢◌, ◌<◌, ◌≤◌, ◌+◌, ◌-◌, ℕ, List, [], ◌∷◌, ◌++◌, length, get_or, set, Option, Some, None, slice_get, refl, sym, ap, subst, ◌∙◌, arith, inl, inr}
 use Rattle.std.specs.Global.{Global}
 use Rattle.std.specs.declared.sync.Arc.{Arc}
 use Rattle.saw_messages.specs.declared.outcome.Outcome.{Outcome}
@@ -7,6 +7,8 @@ use Rattle.saw_messages.specs.declared.tx.Tx.{Tx}
 use Rattle.saw_context.specs.declared.job.Ticket.{Ticket}
 use Rattle.saw_machine.specs.Machine.{Held, Running, State, Task, Waiting, made, next, put}
 use Rattle.saw_machine.proofs.Puts.{put-other, put-same}
+use Rattle.saw_ready.specs.Hits.{IsIn}
+use Rattle.saw_ready.specs.Marks.{is_valid}
 use Rattle.saw_ready.specs.Queues.{with_mark}
 use Rattle.saw_ready.specs.declared.edges.Edges.{Edges}
 use Rattle.saw_ready.specs.declared.mark.Mark.TheVariants as marks
@@ -21,6 +23,7 @@ use Rattle.saw_schedule.proofs.Counting.{count-set}
 use Rattle.saw_schedule.proofs.Replays.{histories-are-kept}
 use Rattle.saw_schedule.proofs.ScheduleSteps.{inside-of, one-step, runs-iff}
 use Rattle.saw_schedule.proofs.SlotChanges.{changed}
+use Rattle.saw_schedule.proofs.Undoing.{Puts, put-on}
 
 -- where a slot waits again, what is held is what was
 pub rise-waiting : (st : State) (i : ℕ) (attempts : ℕ → ℕ) (kept new : List Kept) → ((j : ℕ) → j ≢ i → slice_get new j ≡ slice_get kept j) → DoPlacesRise st kept
@@ -50,6 +53,19 @@ module _ (h : History) (txs : List (Arc Tx Global)) (named : Edges) (slots : Slo
 
   pub unsettled : (state_of h).first ≤ i
   unsettled = (histories-are-kept h is.replay).running i ticket.attempt task-so.0 task-so.1
+
+  -- what runs was not undone
+  pub not-undone : IsIn lasts.undone i → ⊥
+  not-undone in_it = elim (is.lasts_are.idle.are i in_it) [
+    | inl waits ↦ runs≢waits (sym runs.mark ∙ waits)
+    | inr closed ↦ runs≢closed (sym runs.mark ∙ closed)
+  ]
+    where
+      runs≢waits : marks.Running ≡ marks.Waiting → ⊥
+      runs≢waits e = grind arith
+
+      runs≢closed : marks.Running ≡ marks.Closed → ⊥
+      runs≢closed e = grind arith
 
   -- at least this one runs
   pub some-run : (m : _) → running_in (set slots.queue.marks i m) + 1 ≡ running_in slots.queue.marks + one_if_running m
@@ -93,8 +109,11 @@ module _ (h : History) (txs : List (Arc Tx Global)) (named : Edges) (slots : Slo
         counted = rw (queue, running) (let c = some-run marks.Waiting in let so = is.slots_are.counted in omega (arith, c, so));
       })
       (rise-waiting (state_of h) i (state_of h).attempts slots.kept.items new.kept.items kept_others is.rising)
-      (rw running (omega (arith, s, r, more))) (rw running (omega (arith, f))))
+      (rw running (omega (arith, s, r, more))) (rw running (omega (arith, f))) (put-on h.steps step slots new lasts i marks.Waiting is.lasts_are puts))
     where
+      puts : Puts h.steps slots new lasts.undone i marks.Waiting
+      puts = record { inside = inside; queue = queue; others = kept_others; before = ap is_valid runs.mark; after = inl refl; apart = not-undone }
+
       waits≢runs : (n : ℕ) (task : Task) → Waiting ≡ Running n task → ⊥
       waits≢runs n task e = grind arith
 

@@ -5,7 +5,7 @@ use Rattle.saw_address.specs.Maps.{StateMap, value_at}
 use Rattle.saw_messages.specs.declared.outcome.Change.{Change}
 use Rattle.saw_messages.specs.declared.outcome.Outcome.{Outcome}
 use Rattle.saw_messages.specs.declared.outcome.Outcome.TheVariants.{Ok, Invalid}
-use Rattle.saw_context.proofs.Layers.{value_after, value_at-map_after}
+use Rattle.saw_context.proofs.OnTop.{value_after, value_at-map_after}
 use Rattle.saw_context.specs.Outcome.{map_after}
 use Rattle.saw_context.specs.Serial.{left_after, left_by, map_after_all}
 use Rattle.saw_context.specs.declared.batch_result.BatchResult.{BatchResult}

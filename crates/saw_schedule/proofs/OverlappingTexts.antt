@@ -1,14 +1,20 @@
 -- Overlaps of declared texts are those of the bytes of the prefixes among them.
-use Rattle.std.proofs.Common.{◌≡◌, ◌%◌, ℕ, Bool, true, false, ◌&&◌, ◌||◌, ◌==◌, nat_le, cond, List, [], ◌∷◌, filter, map, length, refl, sym, ap, ◌∙◌}
-use Rattle.std.specs.List.{list_all, list_any}
+use Rattle.std.proofs.Common.{◌≡◌, ◌%◌, ℕ, Bool, true, false, ◌&&◌, ◌||◌, ◌==◌, nat_eq, nat_le, cond, List, [], ◌∷◌, filter, map, length, refl, sym, ap, ap₂, subst, ◌∙◌, bytes_eq, true≢false, Vec, Result, Ok, Err, IfOk}
+use Rattle.std.specs.List.{list_all, list_any, starts_with}
 use Rattle.std.proofs.lemmas.Bool.{and_parts}
 use Rattle.std.proofs.lemmas.List.Folds.{list_all-map}
 use Rattle.hex.specs.Hex.{encode_lower}
 use Rattle.saw_address.specs.Prefixes.{covers, overlaps}
 use Rattle.saw_address.specs.Texts.{is_hex_digit, is_prefix_text}
+use Rattle.saw_context.specs.Conversation.{are_covering}
+use Rattle.std.specs.Global.{Global}
+use Rattle.std.proofs.lemmas.Slice.Eq.{bytes_eq-Decides}
+use Rattle.saw_messages.specs.TxEquality.{texts_eq}
+use Rattle.saw_messages.specs.TxShapes.{TxShape}
 use Rattle.saw_plan.specs.Precedence.{some_overlap as some_texts_overlap, texts_overlap}
 use Rattle.saw_predtree.specs.Entries.{some_overlap}
-use Rattle.saw_schedule.specs.Overlaps.{AreBytesOf}
+use Rattle.saw_predtree.specs.Trees.{Adds, Tree}
+use Rattle.saw_schedule.specs.Overlaps.{AddsTx, AreBytesOf}
 use Rattle.saw_schedule.proofs.Texts.{begins}
 
 -- ---- filtered lists
@@ -87,3 +93,40 @@ texts-overlap texts others prefixes other_prefixes are others_are =
     ∙ (ap (λ (all : List (List ℕ)). list_any (λ text. list_any (λ other. overlaps text other) (filter is_prefix_text others)) all) (sym are)
     ∙ (ap (λ (all : List (List ℕ)). list_any (λ text. list_any (λ other. overlaps text other) all) (map encode_lower prefixes)) (sym others_are)
     ∙ some-written prefixes other_prefixes (all-written texts prefixes are) (all-written others other_prefixes others_are))))
+
+-- ---- what texts cover
+
+covering-written : (prefixes : List (List ℕ)) (at : List ℕ) → list_all is_written prefixes ≡ true
+    → list_any (λ text. starts_with nat_eq (encode_lower at) text) (map encode_lower prefixes) ≡ list_any (λ prefix. covers prefix at) prefixes
+covering-written [] at all = refl
+covering-written (prefix ∷ prefixes) at all =
+    let parts = and_parts (is_written prefix) (list_all is_written prefixes) all in
+    rw (covers-written prefix at parts.0, covering-written prefixes at parts.1) refl
+
+-- texts cover what the prefixes that are written among them do
+pub texts-cover : (texts prefixes : List (List ℕ)) (at : List ℕ) → AreBytesOf texts prefixes → list_any (λ prefix. covers prefix at) prefixes ≡ are_covering texts at
+texts-cover texts prefixes at are =
+    sym (any-filtered is_prefix_text (λ text. starts_with nat_eq (encode_lower at) text) texts
+    ∙ (ap (λ (all : List (List ℕ)). list_any (λ text. starts_with nat_eq (encode_lower at) text) all) (sym are)
+    ∙ covering-written prefixes at (all-written texts prefixes are)))
+
+-- ---- a transaction that writes where it reads
+
+pub same-texts : (first second : List (List ℕ)) → texts_eq first second ≡ true → first ≡ second
+same-texts [] [] e = refl
+same-texts [] (text ∷ second) e = absurd (true≢false (sym e))
+same-texts (text ∷ first) [] e = absurd (true≢false (sym e))
+same-texts (text ∷ first) (other ∷ second) e =
+    let parts = and_parts (bytes_eq text other) (texts_eq first second) e in
+    ap₂ (λ (x : List ℕ) (xs : List (List ℕ)). x ∷ xs) ((bytes_eq-Decides text other).0 parts.0) (same-texts first second parts.1)
+
+pub adds-alike : {E : Type 0} (old new : Tree) (k : ℕ) (tx : TxShape) (inputs : List (List ℕ)) (result : Result (Vec ℕ Global) E) → AreBytesOf tx.header.inputs inputs
+    → tx.header.inputs ≡ tx.header.outputs → IfOk result (λ found. Adds old new k inputs inputs found.items) → IfOk result (λ found. AddsTx old new k tx found.items)
+adds-alike old new k tx inputs (Ok found) are same adds = record {
+  inputs = inputs;
+  outputs = inputs;
+  inputs_are = are;
+  outputs_are = subst (λ (texts : List (List ℕ)). AreBytesOf texts inputs) same are;
+  adds = adds;
+}
+adds-alike old new k tx inputs (Err e) are same adds = tt

@@ -18,11 +18,11 @@ use Rattle.saw_ready.specs.declared.mark.Mark.TheVariants as marks
 use Rattle.saw_schedule.specs.Histories.{History, MayHappen, RunsIn, move_of, order_in, sizes_in, state_of, txs_in, with_step}
 use Rattle.saw_schedule.specs.Inside.{AreSlotsOf, DoPlacesRise, IsRunning, IsScheduleOf}
 use Rattle.saw_schedule.specs.Shows.{mark_of}
+use Rattle.saw_schedule.specs.Layering.{AreLastsOf}
 use Rattle.saw_schedule.specs.declared.kept.Kept.{Kept}
 use Rattle.saw_schedule.specs.declared.lasts.Lasts.{Lasts}
 use Rattle.saw_schedule.specs.declared.slots.Slots.{Slots}
 use Rattle.saw_schedule.specs.declared.step.Step.{Step}
-use Rattle.saw_schedule.proofs.LeftsBehind.{lefts-behind}
 use Rattle.saw_schedule.proofs.Reached.{history-spans, replay-with_step, state-with_step}
 use Rattle.saw_schedule.proofs.SlotChanges.{Changes, changed, slot-changes}
 
@@ -99,9 +99,9 @@ module _ (h : History) (txs : List (Arc Tx Global)) (named : Edges) (slots : Slo
   pub one-step : (step : Step) (new : Slots) (i : ℕ) (slot : Slot) (attempts : ℕ → ℕ) (room : ℕ) → MayHappen (txs_in h) (state_of h) step
       → next (order_in h) (state_of h) (move_of (txs_in h) (state_of h) step) ≡ changed (state_of h) i slot attempts
       → Changes (state_of h) h.steps step slots new i slot attempts → DoPlacesRise (changed (state_of h) i slot attempts) new.kept.items
-      → length h.steps + 1 + new.running ≤ room → new.running ≤ length h.steps + 1
+      → length h.steps + 1 + new.running ≤ room → new.running ≤ length h.steps + 1 → AreLastsOf (h.steps ++ step ∷ []) new lasts
       → IsScheduleOf (with_step h step) txs named new lasts room
-  one-step step new i slot attempts room may next_is c rise enough few =
+  one-step step new i slot attempts room may next_is c rise enough few lasts_on =
       let state : state_of (with_step h step) ≡ changed (state_of h) i slot attempts = state-with_step h step ∙ next_is in
       let long : length (h.steps ++ step ∷ []) ≡ length h.steps + 1 = length-append h.steps (step ∷ []) in
       record {
@@ -114,7 +114,7 @@ module _ (h : History) (txs : List (Arc Tx Global)) (named : Edges) (slots : Slo
         names = is.names;
         slots_are = subst (λ (st : State). AreSlotsOf (order_in h) (sizes_in h) st (h.steps ++ step ∷ []) new) (sym state)
             (slot-changes (order_in h) (sizes_in h) (state_of h) h.steps step slots new i slot attempts is.slots_are c);
-        lasts_are = lefts-behind h.steps step lasts is.lasts_are;
+        lasts_are = lasts_on;
         rising = subst (λ (st : State). DoPlacesRise st new.kept.items) (sym state) rise;
         room = rw long enough;
         few = rw long few;

@@ -281,7 +281,7 @@ module _ (order : Order) (sizes : List ℕ) (st : State) (steps : List Step) (sl
       -- its reason stands where its result does
       pub reason-at : (one : Kept) → slice_get slots.kept.items (slots.queue.first + t) ≡ Some one → IsResultAt steps one.place (st.first + t) (Invalid broken-held.1)
       reason-at one stands =
-          ((are.kept (st.first + t) one (ap (λ first. slice_get slots.kept.items (first + t)) (sym are.shows.first) ∙ stands)).held broken-held.0 (Invalid broken-held.1) broken-held.2).1
+          (are.kept (st.first + t) one (ap (λ first. slice_get slots.kept.items (first + t)) (sym are.shows.first) ∙ stands)).held broken-held.0 (Invalid broken-held.1) broken-held.2
 
       pub broken-code : (new : Slots) → new.queue.preds ≡ slots.queue.preds → new.queue.starts ≡ slots.queue.starts → new.queue.first ≡ end
           → IsFailed slots.queue.preds slots.queue.first end slots.queue.marks new.queue.marks

@@ -1,10 +1,6 @@
 -- What is shown at an address: of the changes that stand in held results the last.
-use Rattle.std.proofs.Common.{◌≡◌, ◌<◌, ◌≤◌, ◌+◌, ℕ, zero, suc, Bool, true, false, List, [], ◌∷◌, ◌++◌, length, drop, get_or, Option, Some, None, refl, sym, ap, subst, ◌∙◌, arith, if◌then◌else◌, Vec, ◌⊎◌, inl, inr, bytes_eq, slice_get, true≢false}
-use Rattle.std.specs.BTreeMap.{get}
-use Rattle.std.specs.Cmp.Lexicographic.{slice_cmp}
-use Rattle.std.specs.Global.{Global}
+use Rattle.std.proofs.Common.{◌≡◌, ◌<◌, ◌≤◌, ◌+◌, ℕ, zero, suc, Bool, true, false, List, [], ◌∷◌, ◌++◌, length, drop, get_or, Option, Some, None, refl, sym, ap, subst, ◌∙◌, arith, if◌then◌else◌, ◌⊎◌, inl, inr, bytes_eq, slice_get, true≢false}
 use Rattle.std.specs.Option.{option_or}
-use Rattle.std.specs.Ordering.{nat_cmp}
 use Rattle.saw_messages.specs.declared.outcome.Change.{Change}
 use Rattle.std.proofs.lemmas.Bool.{and_parts, eq-eqb, eqb-true}
 use Rattle.std.proofs.lemmas.Option.{slice_get_cases}
@@ -19,10 +15,9 @@ use Rattle.saw_ready.specs.Marks.{is_valid}
 use Rattle.saw_ready.specs.declared.mark.Mark.TheVariants as marks
 use Rattle.saw_schedule.specs.Shows.{mark_of}
 use Rattle.saw_schedule.specs.Inside.{AreSlotsOf, DoPlacesRise, IsResultAt}
-use Rattle.saw_schedule.specs.Lasts.{changes_at, changes_by, changes_in, lefts_at, lefts_in, lefts_of}
+use Rattle.saw_schedule.specs.Lasts.{changes_at, changes_by, changes_in, lefts_in, lefts_of}
 use Rattle.saw_schedule.specs.Shown.{done_at, done_by, entry_at, entry_by, entry_of, is_held_at, is_held_by, is_place_of, last_held, shown_at, shown_by}
 use Rattle.saw_schedule.specs.declared.kept.Kept.{Kept}
-use Rattle.saw_schedule.specs.declared.lasts.Lasts.{Lasts}
 use Rattle.saw_schedule.specs.declared.lasts.Left.{Left}
 use Rattle.saw_schedule.specs.declared.slots.Slots.{Slots}
 use Rattle.saw_schedule.specs.declared.step.Step.{Step}
@@ -34,15 +29,6 @@ pub last-at : (test : Left → Bool) (xs : List Left) (i : ℕ) (d : Left) → i
 last-at test [] i d inside none passes = absurd (omega arith)
 last-at test (x ∷ xs) zero d inside none passes = rw (none, passes) refl
 last-at test (x ∷ xs) (suc i) d inside none passes = rw (last-at test xs i d (omega arith) none passes) refl
-
--- ---- at an address of the lists
-
-module _ (steps : List Step) (slots : Slots) (lasts : Lasts) (at : List ℕ) where
-  pub none-shown : get (slice_cmp nat_cmp) lasts.lists at ≡ None → shown_at steps slots lasts at ≡ None
-  none-shown e = rw e refl
-
-  pub some-shown : (list : Vec Left Global) → get (slice_cmp nat_cmp) lasts.lists at ≡ Some list → shown_at steps slots lasts at ≡ shown_by steps (last_held (is_held_at steps slots) list.items)
-  some-shown list e = rw e refl
 
 -- ---- the last of a row of options
 
@@ -70,7 +56,7 @@ module _ {A : Type 0} where
   or-assoc None b c = refl
   or-assoc (Some x) b c = refl
 
-  or-none : (a : Option A) → option_or a None ≡ a
+  pub or-none : (a : Option A) → option_or a None ≡ a
   or-none None = refl
   or-none (Some x) = refl
 
@@ -239,7 +225,7 @@ module _ (order : Order) (sizes : List ℕ) (st : State) (steps : List Step) (sl
       go (Held task (Ok changes events)) e is_made =
           let one = kept-at i lt in
           let valid : is_valid (get_or slots.queue.marks i marks.Waiting) ≡ true = ap is_valid (are.shows.marks i lt) ∙ ap (λ (slot : Slot). is_valid (mark_of slot)) e in
-          (one.0.place, result-made i value one.0 (Ok changes events) one.1 valid is_made is ((are.kept i one.0 one.1).held task (Ok changes events) e).1)
+          (one.0.place, result-made i value one.0 (Ok changes events) one.1 valid is_made is ((are.kept i one.0 one.1).held task (Ok changes events) e))
       go (Held task (Invalid reason)) e is_made = absurd (grind arith)
       go Closed e is_made = absurd (grind arith)
 
@@ -266,7 +252,7 @@ module _ (order : Order) (sizes : List ℕ) (st : State) (steps : List Step) (sl
       with-slot kept stands e valid Waiting is v = absurd (true≢false (sym v))
       with-slot kept stands e valid (Running n task) is v = absurd (true≢false (sym v))
       with-slot kept stands e valid (Held task (Ok changes events)) is v =
-          let outcome : done.outcome ≡ Ok changes events = one-result place done.ticket.index kept done (Ok changes events) e there ((are.kept done.ticket.index kept stands).held task (Ok changes events) is).1 in
+          let outcome : done.outcome ≡ Ok changes events = one-result place done.ticket.index kept done (Ok changes events) e there ((are.kept done.ticket.index kept stands).held task (Ok changes events) is) in
           ap (λ (slot : Slot). made slot at) is ∙ (ap (λ (o : Outcome). change_at (changes_by o) at) (sym outcome) ∙ change)
       with-slot kept stands e valid (Held task (Invalid reason)) is v = absurd (true≢false (sym v))
       with-slot kept stands e valid Closed is v = absurd (true≢false (sym v))
@@ -427,6 +413,6 @@ module _ (order : Order) (sizes : List ℕ) (st : State) (steps : List Step) (sl
         ∙ (shown-over (last_over (length steps) found_at) refl ∙ sym (below-is count))
 
 -- what is shown is the last change of those that the slots have made
-pub shown-is-last : (order : Order) (sizes : List ℕ) (st : State) (steps : List Step) (slots : Slots) (lasts : Lasts) → AreSlotsOf order sizes st steps slots → DoPlacesRise st slots.kept.items
-    → ((at : List ℕ) → lefts_at lasts at ≡ lefts_of 0 steps at) → (at : List ℕ) → shown_at steps slots lasts at ≡ last_below st.slots (length slots.queue.marks) at
-shown-is-last order sizes st steps slots lasts are rising lefts at = shown-last order sizes st steps slots at are rising (lefts_at lasts at) (lefts at)
+pub shown-is-last : (order : Order) (sizes : List ℕ) (st : State) (steps : List Step) (slots : Slots) → AreSlotsOf order sizes st steps slots → DoPlacesRise st slots.kept.items
+    → (at : List ℕ) → shown_at steps slots at ≡ last_below st.slots (length slots.queue.marks) at
+shown-is-last order sizes st steps slots are rising at = shown-last order sizes st steps slots at are rising (lefts_of 0 steps at) refl

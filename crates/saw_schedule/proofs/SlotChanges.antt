@@ -74,5 +74,5 @@ slot-changes order sizes st steps step slots new i slot attempts are c = record 
     kept-at j one apart k = record {
       attempts = k.attempts ∙ sym (c.others j apart);
       running = λ n task e. k.running n task (sym (put-other st.slots i slot j apart) ∙ e);
-      held = λ task outcome e. let h = k.held task outcome (sym (put-other st.slots i slot j apart) ∙ e) in (h.0, result-behind steps step one.place j outcome h.1);
+      held = λ task outcome e. result-behind steps step one.place j outcome (k.held task outcome (sym (put-other st.slots i slot j apart) ∙ e));
     }

@@ -1,5 +1,5 @@
 -- A transaction is taken.
-use Rattle.std.proofs.Common.{◌≡◌, ◌≢◌, ◌<◌, ◌≤◌, ◌+◌, ◌==◌, ℕ, zero, suc, Bool, true, false, if◌then◌else◌, List, [], ◌∷◌, ◌++◌, length, get_or, Option, Some, None, slice_get, refl, sym, ap, subst, ◌∙◌, arith, ◌⊎◌, inl, inr, get_or-set_other}
+use Rattle.std.proofs.Common.{◌≡◌, ◌≢◌, ◌<◌, ◌≤◌, ◌+◌, ◌==◌, ℕ, zero, suc, Bool, true, false, if◌then◌else◌, List, [], ◌∷◌, ◌++◌, length, get_or, Option, Some, None, slice_get, refl, sym, ap, subst, ◌∙◌, arith, ◌⊎◌, inl, inr, get_or-set_other, true≢false}
 use Rattle.std.proofs.lemmas.Option.{slice_get-map, slice_get_cases}
 use Rattle.std.specs.Arc.{arc_value}
 use Rattle.std.specs.FinMap as finite
@@ -18,13 +18,15 @@ use Rattle.saw_machine.specs.Machine as machine
 use Rattle.saw_machine.specs.Machine.{Closed, Held, IsReady, Running, Slot, Slots as Machine, State, Task, Waiting, closed_in, is_closed, made, next, put, seen, task_of, view_of}
 use Rattle.saw_machine.proofs.Lasts.{no-later-change, view-is-last}
 use Rattle.saw_machine.proofs.Puts.{put-other, put-same}
+use Rattle.saw_ready.specs.Marks.{is_valid, is_waiting}
 use Rattle.saw_ready.specs.Queues.{MayTake, with_mark}
+use Rattle.saw_ready.specs.Sets.{IsEmpty}
 use Rattle.saw_ready.specs.declared.edges.Edges.{Edges}
+use Rattle.saw_ready.specs.declared.mark.Mark.{Mark}
 use Rattle.saw_ready.specs.declared.mark.Mark.TheVariants as marks
 use Rattle.saw_schedule.specs.Histories.{History, IsTake, MayHappen, move_of, order_in, state_of, txs_in, with_step}
 use Rattle.saw_schedule.specs.Inside.{DoPlacesRise, IsScheduleOf}
 use Rattle.saw_schedule.specs.Jobs.{IsJobAt}
-use Rattle.saw_schedule.specs.Shown.{shown_at}
 use Rattle.saw_schedule.specs.Shows.{is_closed_mark}
 use Rattle.saw_schedule.specs.declared.kept.Kept.{Kept}
 use Rattle.saw_schedule.specs.declared.lasts.Lasts.{Lasts}
@@ -38,6 +40,10 @@ use Rattle.saw_schedule.proofs.Replays.{histories-are-kept}
 use Rattle.saw_schedule.proofs.ScheduleSteps.{one-step, txs-all}
 use Rattle.saw_schedule.proofs.Showing.{taken-ready}
 use Rattle.saw_schedule.proofs.SlotChanges.{changed}
+use Rattle.saw_schedule.proofs.Undoing.{Puts, put-on}
+
+waits-not-valid : (m : Mark) → is_waiting m ≡ true → is_valid m ≡ false
+waits-not-valid m e = grind arith
 
 -- where nothing was changed from k on, the last change is before k
 pub last-cut : (slots : Machine) (at : List ℕ) (k n : ℕ) → k ≤ n → ((j : ℕ) → k ≤ j → j < n → made (slots j) at ≡ None) → last_below slots n at ≡ last_below slots k at
@@ -101,8 +107,8 @@ module _ (h : History) (txs : List (Arc Tx Global)) (named : Edges) (slots : Slo
       go false e = rw (reads ∙ e, e) refl
 
   module _ (mid : Slots) (queue : mid.queue ≡ with_mark slots.queue k marks.Running) (kept_mid : mid.kept ≡ slots.kept) (job : Job) (view : Arc View Global)
-      (made_job : IsJobAt txs named mid lasts h.steps k job view)
-      (shown : (at : List ℕ) → shown_at h.steps mid lasts at ≡ last_below st.slots (length slots.queue.marks) at) where
+      (made_job : IsJobAt txs named mid lasts.layers k job view)
+      (shown : (at : List ℕ) → finite.get lasts.layers at ≡ last_below st.slots (length slots.queue.marks) at) where
     abbrev tx : Arc Tx Global
     tx = tx-there.0
 
@@ -143,10 +149,10 @@ module _ (h : History) (txs : List (Arc Tx Global)) (named : Edges) (slots : Slo
     pub taken : (new : Slots) (steps : List Step) (room : ℕ)
         → new.queue ≡ mid.queue → new.ends ≡ slots.ends → new.hits ≡ slots.hits → new.verdicts ≡ slots.verdicts
         → length new.kept.items ≡ length slots.kept.items → ((j : ℕ) → j ≢ k → slice_get new.kept.items j ≡ slice_get slots.kept.items j)
-        → ((one : Kept) → slice_get new.kept.items k ≡ Some one → one ≡ record { attempts = job.ticket.attempt + 1; view = view; failed = job.dependency_failed; place = 0 })
-        → new.running ≡ slots.running + 1 → steps ≡ h.steps ++ Take job.ticket ∷ [] → length h.steps + (slots.running + 2) ≤ room
+        → ((one : Kept) → slice_get new.kept.items k ≡ Some one → one ≡ record { attempts = job.ticket.attempt + 1; view = Some view; failed = job.dependency_failed; place = 0 })
+        → new.running ≡ slots.running + 1 → steps ≡ h.steps ++ Take job.ticket ∷ [] → length h.steps + (slots.running + 2) ≤ room → IsEmpty lasts.undone
         → IsScheduleOf (record { batches = h.batches; steps = steps }) txs named new lasts room
-    taken new steps room queue_new ends hits verdicts kept_long kept_others kept_here running steps_are more =
+    taken new steps room queue_new ends hits verdicts kept_long kept_others kept_here running steps_are more none_undone =
         let f = is.few in
         subst (λ (all : List Step). IsScheduleOf (record { batches = h.batches; steps = all }) txs named new lasts room) (sym steps_are)
         (one-step h txs named slots lasts capacity is (Take job.ticket) new k slot attempts room may-happen next-is
@@ -167,8 +173,9 @@ module _ (h : History) (txs : List (Arc Tx Global)) (named : Edges) (slots : Slo
                 running = λ n task w.
                     let both = running-same (sym (put-same st.slots k slot) ∙ w) in (
                       record {
-                        view = λ at. ap (λ (x : Kept). finite.get (layers_of (arc_value x.view)) at) k_is
-                            ∙ (ap (λ (v : View). finite.get (layers_of v) at) made_job.same ∙ (view-is at ∙ ap (λ (t : Task). t.view at) both.1));
+                        view = view;
+                        is = ap (λ (x : Kept). x.view) k_is;
+                        shown = λ at. ap (λ (v : View). finite.get (layers_of v) at) made_job.same ∙ (view-is at ∙ ap (λ (t : Task). t.view at) both.1);
                         failed = ap (λ (x : Kept). x.failed) k_is ∙ (failed-so ∙ ap (λ (t : Task). t.failed) both.1);
                       },
                       ap suc (sym both.0) ∙ (let a = attempt-is in omega (arith, a)) ∙ ap (λ (x : Kept). x.attempts) (sym k_is),
@@ -177,8 +184,18 @@ module _ (h : History) (txs : List (Arc Tx Global)) (named : Edges) (slots : Slo
               };
           counted = rw (queue_new ∙ queue, running) (let c = count-set slots.queue.marks k marks.Running may.inside in let so = is.slots_are.counted in omega (arith, c, so));
         })
-        rise (rw running (omega (arith, more))) (rw running (omega (arith, f))))
+        rise (rw running (omega (arith, more))) (rw running (omega (arith, f))) (put-on h.steps (Take job.ticket) slots new lasts k marks.Running is.lasts_are puts))
       where
+        puts : Puts h.steps slots new lasts.undone k marks.Running
+        puts = record {
+          inside = may.inside;
+          queue = queue_new ∙ queue;
+          others = kept_others;
+          before = waits-not-valid (get_or slots.queue.marks k marks.Waiting) may.waiting;
+          after = inl refl;
+          apart = λ in_it. absurd (true≢false (sym in_it ∙ none_undone k));
+        }
+
         slot : Slot
         slot = Running (st.attempts k) (task_of (order_in h) st.slots k)
 

@@ -1,21 +1,13 @@
 -- A text covers the addresses that the prefix which it is written for covers.
 use Rattle.std.proofs.Common.{◌≡◌, ◌<◌, ◌≤◌, ◌+◌, ◌-◌, ◌/◌, ◌%◌, ℕ, Bool, true, false, ◌&&◌, ◌||◌, ◌==◌, nat_eq, nat_le, nat_lt, List, [], ◌∷◌, length, take, slice_index, refl, sym, ap, ◌∙◌, arith, ◌⊎◌, inl, inr, true≢false, if◌then◌else◌, Option, Some, None, get_or}
-use Rattle.std.specs.FinMap as finite
 use Rattle.std.specs.List.{list_all, starts_with}
-use Rattle.std.specs.Option.{option_or}
 use Rattle.std.proofs.lemmas.List.Folds.{list_any_more}
 use Rattle.std.proofs.lemmas.List.{get_or_past}
 use Rattle.std.proofs.lemmas.Bool.{agree_below_at, and_from, and_parts, eqb-true, eq-eqb}
 use Rattle.hex.specs.Hex.{encode_lower, encode_with, lower_digits}
 use Rattle.saw_address.specs.Prefixes.{covers}
 use Rattle.saw_address.specs.Texts.{is_hex_digit, is_prefix_text}
-use Rattle.saw_address.proofs.Finite.{get-map_of}
 use Rattle.saw_context.specs.Conversation.{are_covering, text_covers}
-use Rattle.saw_context.specs.Views.{layers_of}
-use Rattle.saw_context.specs.declared.view.View.{View as Entered}
-use Rattle.saw_context.specs.declared.view.ViewEntry.{ViewEntry}
-use Rattle.saw_machine.specs.Machine.{View}
-use Rattle.saw_schedule.specs.Shown.{IsShownUnder}
 
 abbrev digit : ℕ → ℕ
 digit k = slice_index lower_digits k
@@ -96,39 +88,3 @@ isnt-prefix text no_prefix = go (is_prefix_text text) no_prefix
 -- a text that is none covers nothing
 pub text-covers-none : (text at : List ℕ) → is_prefix_text text ≡ false → text_covers text at ≡ false
 text-covers-none text at is = rw is refl
-
--- ---- what is shown under texts
-
-with-more : (before here : Bool) (shown old new : Option ViewEntry) → old ≡ (if before then shown else None) → new ≡ (if here then option_or shown old else old)
-    → new ≡ (if before || here then shown else None)
-with-more true true None old new was is = is ∙ was
-with-more true true (Some entry) old new was is = is
-with-more true false shown old new was is = is ∙ was
-with-more false true None old new was is = is ∙ was
-with-more false true (Some entry) old new was is = is
-with-more false false shown old new was is = is ∙ was
-
-module _ (texts : List (List ℕ)) (i : ℕ) (text : List ℕ) (inside : i < length texts) (is : text ≡ get_or texts i text) where
-  covering-more : (at : List ℕ) → are_covering (take (i + 1) texts) at ≡ (are_covering (take i texts) at || text_covers text at)
-  covering-more at =
-      list_any_more (λ one. text_covers one at) texts i text inside
-      ∙ ap (λ (one : List ℕ). are_covering (take i texts) at || text_covers one at) (sym is)
-
-  module _ (shown old new : View) (so_far : (at : List ℕ) → old at ≡ (if are_covering (take i texts) at then shown at else None)) where
-    -- what stands under one more text was added
-    pub one-more-text : (prefix : List ℕ) → is_prefix_text text ≡ true → encode_lower prefix ≡ text → IsShownUnder shown prefix old new
-        → (at : List ℕ) → new at ≡ (if are_covering (take (i + 1) texts) at then shown at else None)
-    one-more-text prefix prefixes written added at =
-        rw (covering-more at)
-        (with-more (are_covering (take i texts) at) (text_covers text at) (shown at) (old at) (new at) (so_far at)
-        (rw (text-covers text prefix at prefixes written) (added at)))
-
-    -- a text that is no prefix adds nothing
-    pub no-more-text : is_prefix_text text ≡ false → (at : List ℕ) → old at ≡ (if are_covering (take (i + 1) texts) at then shown at else None)
-    no-more-text isnt at =
-        rw (covering-more at)
-        (with-more (are_covering (take i texts) at) (text_covers text at) (shown at) (old at) (old at) (so_far at) (rw (text-covers-none text at isnt) refl))
-
--- a view without entries
-pub empty-view : (view : Entered) → view.entries.entries ≡ [] → (at : List ℕ) → finite.get (layers_of view) at ≡ None
-empty-view view e at = get-map_of view.entries.entries at ∙ rw e refl

@@ -11,6 +11,7 @@ use Rattle.saw_context.specs.declared.batch_result.BatchResult.{BatchResult}
 use Rattle.saw_context.specs.declared.batch_result.BatchResult.TheVariants as results
 use Rattle.saw_context.specs.declared.job.Done.{Done}
 use Rattle.saw_context.specs.declared.job.Ticket.{Ticket}
+use Rattle.saw_context.specs.declared.view.View.{View}
 use Rattle.saw_machine.specs.Machine.{Held, Running, State, Task, made}
 use Rattle.saw_machine.specs.Orders.{Order}
 use Rattle.saw_plan.specs.BatchShapes.{shapes_of}
@@ -19,7 +20,7 @@ use Rattle.saw_ready.specs.Sets.{IsEmpty}
 use Rattle.saw_ready.specs.declared.edges.Edges.{Edges}
 use Rattle.saw_ready.specs.declared.mark.Mark.{Mark}
 use Rattle.saw_ready.specs.declared.mark.Mark.TheVariants as marks
-use Rattle.saw_schedule.specs.Lasts.{AreLeftsTo}
+use Rattle.saw_schedule.specs.Layering.{AreLastsOf}
 use Rattle.saw_schedule.specs.Layout.{ends_of}
 use Rattle.saw_schedule.specs.Histories.{History, IsReplay, order_in, sizes_in, state_of, txs_in}
 use Rattle.saw_schedule.specs.Shows.{Shows, is_edge}
@@ -35,7 +36,9 @@ use Rattle.saw_schedule.specs.declared.verdict.Verdict.TheVariants.{Applied, Fai
 
 -- its task is that of the slot
 pub record IsTaskOf (kept : Kept) (task : Task) : Type 0 where
-  pub view : (at : List ℕ) → finite.get (layers_of (arc_value kept.view)) at ≡ task.view at
+  pub view : Arc View Global
+  pub is : kept.view ≡ Some view
+  pub shown : (at : List ℕ) → finite.get (layers_of (arc_value view)) at ≡ task.view at
   pub failed : kept.failed ≡ task.failed
 
 -- a result of transaction i with this outcome stands at a place of the steps
@@ -48,8 +51,7 @@ pub record IsResultAt (steps : List Step) (place i : ℕ) (outcome : Outcome) : 
 pub record IsKeptAt (st : State) (steps : List Step) (i : ℕ) (kept : Kept) : Type 0 where
   pub attempts : kept.attempts ≡ st.attempts i
   pub running : (n : ℕ) (task : Task) → st.slots i ≡ Running n task → IsTaskOf kept task × (suc n ≡ kept.attempts)
-  pub held : (task : Task) (outcome : Outcome) → st.slots i ≡ Held task outcome
-      → IsTaskOf kept task × IsResultAt steps kept.place i outcome
+  pub held : (task : Task) (outcome : Outcome) → st.slots i ≡ Held task outcome → IsResultAt steps kept.place i outcome
 
 -- that attempt runs
 pub record IsRunning (slots : Slots) (ticket : Ticket) : Type 0 where
@@ -58,11 +60,9 @@ pub record IsRunning (slots : Slots) (ticket : Ticket) : Type 0 where
   pub mark : get_or slots.queue.marks ticket.index marks.Waiting ≡ marks.Running
   pub attempt : kept.attempts ≡ suc ticket.attempt
 
--- the same, but for the place of its result
+-- as often taken, with its result at a place
 pub record IsMoved (old new : Kept) (place : ℕ) : Type 0 where
   pub attempts : new.attempts ≡ old.attempts
-  pub view : new.view ≡ old.view
-  pub failed : new.failed ≡ old.failed
   pub place_is : new.place ≡ place
 
 abbrev pub IsPlacedAt : List Kept → List Kept → ℕ → ℕ → Type 0
@@ -134,7 +134,7 @@ pub record IsScheduleOf (h : History) (txs : List (Arc Tx Global)) (named : Edge
   pub earlier : AreEarlier named (length txs)
   pub names : AreNamesOf (order_in h) named
   pub slots_are : AreSlotsOf (order_in h) (sizes_in h) (state_of h) h.steps slots
-  pub lasts_are : AreLeftsTo h.steps lasts
+  pub lasts_are : AreLastsOf h.steps slots lasts
   pub rising : DoPlacesRise (state_of h) slots.kept.items
   pub room : length h.steps + slots.running ≤ capacity
   pub few : slots.running ≤ length h.steps

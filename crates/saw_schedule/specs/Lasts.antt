@@ -2,6 +2,7 @@
 use Rattle.std.specs.Prelude.{◌≡◌, ◌≢◌, ◌≤◌, ℕ, suc, List, [], ◌∷◌, ◌++◌, length, take, Option, Some, None, slice_get, if◌then◌else◌}
 use Rattle.std.specs.BTreeMap.{get}
 use Rattle.std.specs.Cmp.Lexicographic.{slice_cmp}
+use Rattle.std.specs.FinMap as finite
 use Rattle.std.specs.Global.{Global}
 use Rattle.std.specs.Ordering.{nat_cmp}
 use Rattle.std.specs.Str.{bytes_eq}
@@ -9,6 +10,7 @@ use Rattle.std.specs.declared.vec.Vec.{Vec}
 use Rattle.saw_messages.specs.declared.outcome.Change.{Change}
 use Rattle.saw_messages.specs.declared.outcome.Outcome.{Outcome}
 use Rattle.saw_messages.specs.declared.outcome.Outcome.TheVariants.{Ok, Invalid}
+use Rattle.saw_ready.specs.Sets.{IsEmpty}
 use Rattle.saw_schedule.specs.declared.lasts.Lasts.{Lasts}
 use Rattle.saw_schedule.specs.declared.lasts.Left.{Left}
 use Rattle.saw_schedule.specs.declared.step.Step.{Step}
@@ -57,14 +59,11 @@ abbrev pub lefts_of : ℕ → List Step → List ℕ → List Left
 lefts_of place [] at = []
 lefts_of place (step ∷ steps) at = lefts_in place 0 (changes_in step) at ++ lefts_of (suc place) steps at
 
--- the changes that are kept are those before the place, and the first few of the step there
-pub record AreLeftsTo (steps : List Step) (lasts : Lasts) : Type 0 where
-  pub within : lasts.place ≤ length steps
-  pub some : lasts.change ≤ length (changes_at steps lasts.place)
-  pub are : (at : List ℕ) → lefts_at lasts at
-      ≡ lefts_of 0 (take lasts.place steps) at ++ lefts_in lasts.place 0 (take lasts.change (changes_at steps lasts.place)) at
-
-pub record NoLefts (lasts : Lasts) : Type 0 where
+-- nothing was gone through, of so many transactions
+pub record IsNothing (count : ℕ) (lasts : Lasts) : Type 0 where
   pub none : (at : List ℕ) → lefts_at lasts at ≡ []
+  pub no_layers : (at : List ℕ) → finite.get lasts.layers at ≡ None
+  pub long : length lasts.undone ≡ count
+  pub idle : IsEmpty lasts.undone
   pub place : lasts.place ≡ 0
   pub change : lasts.change ≡ 0

@@ -8,6 +8,7 @@ pub mod Shows
 pub mod Inside
 pub mod Settling
 pub mod Shown
+pub mod Layering
 pub mod Jobs
 pub mod Places
 pub mod Laws

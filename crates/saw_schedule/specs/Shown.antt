@@ -1,22 +1,14 @@
 -- What the held results show at an address.
-use Rattle.std.specs.Prelude.{◌≡◌, ◌==◌, ◌&&◌, ℕ, Bool, false, true, List, [], ◌∷◌, Option, Some, None, get_or, slice_get, if◌then◌else◌, ⊤}
-use Rattle.std.specs.Cmp.Lexicographic.{slice_cmp}
+use Rattle.std.specs.Prelude.{◌≡◌, ◌==◌, ◌&&◌, ℕ, Bool, false, true, List, [], ◌∷◌, Option, Some, None, get_or, slice_get, if◌then◌else◌}
 use Rattle.std.specs.Option.{option_or}
-use Rattle.std.specs.Ordering.{nat_cmp}
-use Rattle.std.specs.Range.Bound.{MatchBound}
-use Rattle.std.specs.Str.{bytes_eq}
-use Rattle.std.specs.declared.cmp.Ordering.TheVariants.{Less}
-use Rattle.std.specs.declared.ops.Bound.{Bound}
-use Rattle.saw_address.specs.Prefixes.{covers}
 use Rattle.saw_messages.specs.declared.outcome.Change.{Change}
 use Rattle.saw_context.specs.declared.job.Done.{Done}
 use Rattle.saw_context.specs.declared.view.ViewEntry.{ViewEntry}
 use Rattle.saw_machine.specs.Machine.{View}
 use Rattle.saw_ready.specs.Marks.{is_valid}
 use Rattle.saw_ready.specs.declared.mark.Mark.TheVariants.{Waiting}
-use Rattle.saw_schedule.specs.Lasts.{changes_by, lefts_at}
+use Rattle.saw_schedule.specs.Lasts.{changes_by, lefts_of}
 use Rattle.saw_schedule.specs.declared.kept.Kept.{Kept}
-use Rattle.saw_schedule.specs.declared.lasts.Lasts.{Lasts}
 use Rattle.saw_schedule.specs.declared.lasts.Left.{Left}
 use Rattle.saw_schedule.specs.declared.slots.Slots.{Slots}
 use Rattle.saw_schedule.specs.declared.step.Step.{Step}
@@ -66,24 +58,6 @@ abbrev pub shown_by : List Step → Option Left → Option ViewEntry
 shown_by steps None = None
 shown_by steps (Some left) = entry_at steps left
 
--- what is shown at an address
-abbrev pub shown_at : List Step → Slots → Lasts → View
-shown_at steps slots lasts at = shown_by steps (last_held (is_held_at steps slots) (lefts_at lasts at))
-
--- what is shown was added at each address under the prefix
-abbrev pub IsShownUnder : View → List ℕ → View → View → Type 0
-IsShownUnder shown prefix old new = (at : List ℕ) → new at ≡ (if covers prefix at then option_or (shown at) (old at) else old at)
-
--- what is shown was added at the address
-abbrev pub IsShownAt : Option ViewEntry → List ℕ → View → View → Type 0
-IsShownAt shown at old new = (q : List ℕ) → new q ≡ (if bytes_eq at q then option_or shown (old q) else old q)
-
--- ---- bounds of what a prefix covers
-
--- each address under the prefix stands behind the bound
-abbrev pub IsBefore : List ℕ → Bound (List ℕ) → Type 0
-IsBefore prefix bound = MatchBound bound (λ low. ⊥) (λ low. (at : List ℕ) → covers prefix at ≡ true → slice_cmp nat_cmp low at ≡ Less) ⊤
-
--- each stands before it
-abbrev pub IsBehind : List ℕ → Bound (List ℕ) → Type 0
-IsBehind prefix bound = MatchBound bound (λ high. ⊥) (λ high. (at : List ℕ) → covers prefix at ≡ true → slice_cmp nat_cmp at high ≡ Less) ⊤
+-- what is shown at an address once these steps happened
+abbrev pub shown_at : List Step → Slots → View
+shown_at steps slots at = shown_by steps (last_held (is_held_at steps slots) (lefts_of 0 steps at))

@@ -1,14 +1,19 @@
 //! Whether a result agrees with its job.
 
-ghost use Rattle.std.specs.Prelude.{◌≡◌, ◌&&◌, ◌==◌};
+ghost use Rattle.std.specs.Prelude.{◌≡◌, ◌&&◌, ◌==◌, Some};
+ghost use Rattle.std.specs.Arc.{arc_value};
+ghost use Rattle.std.specs.Global.{Global};
+ghost use Rattle.std.specs.declared.sync.Arc.{Arc};
 ghost use Rattle.std.specs.FinMap as finite;
 ghost use Rattle.std.specs.Str.{bytes_eq};
 ghost use Rattle.saw_context.specs.Conversation.{body_of};
 ghost use Rattle.saw_context.specs.SoundResults.{fits_dependency, is_early, is_of_dependency};
 ghost use Rattle.saw_context.specs.Views.{layers_of};
+ghost use Rattle.saw_context.specs.declared.view.View.{View};
 ghost use Rattle.saw_schedule.specs.Agreement.{difference_from, first_unseen, is_seen};
 
 use crate::ended::Difference;
+use crate::kept::Kept;
 use saw_context::{Done, Origin, Read, View, ViewEntry};
 use saw_messages::{Outcome, Reason, Tx};
 use saw_wire::Bytes;
@@ -33,11 +38,11 @@ fn is_seen(view: &View, read: &Read) -> bool
 {
     match read.from {
         Origin::Own => true,
-        Origin::Layer(index) => match view.entries.get(&read.address) {
+        Origin::Layer(index) => match view.get(&read.address) {
             Some(entry) => is_entry(entry, index, &read.body),
             None => false,
         },
-        Origin::Base => !view.entries.contains_key(&read.address),
+        Origin::Base => view.get(&read.address).is_none(),
     }
 }
 
@@ -90,12 +95,23 @@ fn fits_dependency(failed: bool, outcome: &Outcome) -> bool
     }
 }
 
-/// The first difference between a result and the job of a transaction, with this view and whether a dependency failed.
-pub(crate) fn difference(tx: &Tx, view: &View, failed: bool, done: &Done) -> Option<Difference>
+// The first difference between a result and the job of a transaction, with this view and whether a dependency failed.
+fn difference(tx: &Tx, view: &View, failed: bool, done: &Done) -> Option<Difference>
     ensures { result ≡ difference_from tx.now (record { view = (λ at. finite.get (layers_of view.now) at); failed = failed }) done.now }
 {
     if !done.tx.is_same(tx) || !fits_dependency(failed, &done.outcome) {
         return Some(Difference::Transaction);
     }
     first_unseen(view, done.reads.as_slice())
+}
+
+/// The first difference between a result and the job that is kept of a running transaction.
+pub(crate) fn difference_kept(tx: &Tx, kept: &Kept, done: &Done) -> Option<Difference>
+    ensures { (view : Arc View Global) → kept.now.view ≡ Some view → result
+        ≡ difference_from tx.now (record { view = (λ at. finite.get (layers_of (arc_value view)) at); failed = kept.now.failed }) done.now }
+{
+    match &kept.view {
+        Some(view) => difference(tx, view, kept.failed, done),
+        None => None,
+    }
 }

@@ -139,8 +139,8 @@ pub(crate) fn named(alloc: Global, txs: &[Arc<Tx>]) -> Result<Edges, AllocError>
     }
 }
 
-// The prefixes that are written among texts.
-fn prefixes_of(alloc: Global, texts: &[Text]) -> Result<Vec<Prefix>, AllocError>
+/// The prefixes that are written among texts.
+pub(crate) fn prefixes_of(alloc: Global, texts: &[Text]) -> Result<Vec<Prefix>, AllocError>
     ensures { IfOk result (λ prefixes. AreBytesOf texts.now prefixes.items) }
 {
     let mut prefixes = Vec::new(alloc);
@@ -164,6 +164,10 @@ fn add_tx(
     ensures next { OnOk result (tree.new.next ≡ k + 1) }
 {
     let inputs = prefixes_of(alloc, tx.header.inputs.as_slice())?;
+    // Most transactions write where they read.
+    if tx.header.inputs.as_slice() == tx.header.outputs.as_slice() {
+        return tree.add(alloc, k, &inputs, &inputs);
+    }
     let outputs = prefixes_of(alloc, tx.header.outputs.as_slice())?;
     tree.add(alloc, k, &inputs, &outputs)
 }

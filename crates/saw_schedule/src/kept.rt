@@ -7,7 +7,8 @@ use std::sync::Arc;
 #[derive(Drop)]
 pub(crate) struct Kept {
     pub(crate) attempts: u64,
-    pub(crate) view: Arc<View>,
+    /// Only while the transaction runs.
+    pub(crate) view: Option<Arc<View>>,
     pub(crate) failed: bool,
     pub(crate) place: usize,
 }

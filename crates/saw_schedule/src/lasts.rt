@@ -1,11 +1,16 @@
-//! Where each address was changed, as results came.
+//! Where each address was changed, as results came, and the last held change of each.
 
-ghost use Rattle.std.specs.Prelude.{◌≡◌, ◌<◌, ◌≤◌, ◌+◌, ℕ, List, length, option_map, slice_get, ◌^◌, IsSome, OnErr, OnOk};
-ghost use Rattle.saw_schedule.specs.Lasts.{AreLeftsTo, IsAdded, NoLefts, changes_at, lefts_at};
+ghost use Rattle.std.specs.Prelude.{◌≡◌, ◌<◌, ◌≤◌, ◌+◌, ℕ, List, length, option_map, slice_get, ◌^◌, IfOk, IsSome, OnErr, OnOk};
+ghost use Rattle.saw_schedule.specs.Lasts.{IsAdded, IsNothing, changes_at, lefts_at};
+ghost use Rattle.saw_schedule.specs.Layering.{AreLastsOf, Holds};
 
+use crate::held::{entry_at, is_held};
+use crate::slots::Slots;
 use crate::step::Step;
 use saw_address::Address;
+use saw_context::Layers;
 use saw_messages::{Change, Outcome};
+use saw_ready::ReadySet;
 use std::alloc::{AllocError, Global};
 use std::collections::BTreeMap;
 
@@ -16,17 +21,21 @@ pub(crate) struct Left {
     pub(crate) change: usize,
 }
 
-/// For each address its changes, in the order in which they came, of the results that stand before a place among the
-/// steps, and the first few of that one.
+/// The changes of the results that stand before a place among the steps, and the first few of that one.
 #[derive(Drop)]
 pub(crate) struct Lasts {
+    /// For each address, in the order in which they came, those that were held.
     pub(crate) lists: BTreeMap<Address, Vec<Left>>,
+    /// The last held one of each address.
+    pub(crate) layers: Layers,
+    /// Transactions whose results are held no more, while the layers may show them.
+    pub(crate) undone: ReadySet,
     pub(crate) place: usize,
     pub(crate) change: usize,
 }
 
-// The change of a result at a place among the steps.
-fn change_at<'a>(steps: &'a [Step], place: usize, n: usize) -> Option<&'a Change>
+/// The change of a result at a place among the steps.
+pub(crate) fn change_at<'a>(steps: &'a [Step], place: usize, n: usize) -> Option<&'a Change>
     ensures change { option_map (λ change. change.now) result ≡ slice_get (changes_at steps.now place) n }
     ensures few { IsSome result → n < 2 ^ 63 }
 {
@@ -40,15 +49,17 @@ fn change_at<'a>(steps: &'a [Step], place: usize, n: usize) -> Option<&'a Change
 }
 
 impl Lasts {
-    /// No changes.
-    pub(crate) fn new(alloc: Global) -> Self
-        ensures { NoLefts result }
+    /// No changes, of so many transactions.
+    pub(crate) fn new(alloc: Global, count: usize) -> Result<Self, AllocError>
+        ensures { IfOk result (IsNothing count) }
     {
-        Lasts {
+        Ok(Lasts {
             lists: BTreeMap::new(alloc),
+            layers: Layers::new(alloc),
+            undone: ReadySet::new(alloc, count)?,
             place: 0,
             change: 0,
-        }
+        })
     }
 
     // Adds a change of an address. An `Err` adds nothing.
@@ -56,6 +67,7 @@ impl Lasts {
         ensures ok { OnOk result (IsAdded self.old self.new at left) }
         ensures err { OnErr result ((address : List ℕ) → lefts_at self.new address ≡ lefts_at self.old address) }
         ensures stays { (self.new.place ≡ self.old.place) × (self.new.change ≡ self.old.change) }
+        ensures layers { (self.new.layers ≡ self.old.layers) × (self.new.undone ≡ self.old.undone) }
     {
         if let Some(list) = self.lists.get_mut(&at) {
             list.push(left)?;
@@ -67,11 +79,42 @@ impl Lasts {
         Ok(())
     }
 
-    // Adds the changes that are left of the step at its place.
-    fn absorb_step(&mut self, alloc: Global, steps: &[Step]) -> Result<(), AllocError>
+    // Adds a change where its result is held: it is what the layers show at its address. An `Err` adds nothing.
+    fn hold(
+        &mut self,
+        alloc: Global,
+        steps: &[Step],
+        slots: &Slots,
+        at: Address,
+        left: Left,
+    ) -> Result<(), AllocError>
+        requires long { length slots.now.kept.items ≡ length slots.now.queue.marks }
+        ensures ok { OnOk result (Holds steps.now slots.now self.old self.new at left) }
+        ensures err { OnErr result ((address : List ℕ) → lefts_at self.new address ≡ lefts_at self.old address) }
+        ensures same { OnErr result (self.new.layers ≡ self.old.layers) }
+        ensures stays { (self.new.place ≡ self.old.place) × (self.new.change ≡ self.old.change) }
+        ensures undone { self.new.undone ≡ self.old.undone }
+    {
+        if !is_held(steps, slots, left) {
+            return Ok(());
+        }
+        let layers = self.layers.with(alloc, at, entry_at(alloc, steps, left)?)?;
+        self.add(alloc, at, left)?;
+        self.layers = layers;
+        Ok(())
+    }
+
+    // Goes through the changes that are left of the step at its place.
+    fn absorb_step(
+        &mut self,
+        alloc: Global,
+        steps: &[Step],
+        slots: &Slots,
+    ) -> Result<(), AllocError>
         requires inside { self.old.place < length steps.now }
-        requires so { AreLeftsTo steps.now self.old }
-        ensures so { AreLeftsTo steps.now self.new }
+        requires long { length slots.now.kept.items ≡ length slots.now.queue.marks }
+        requires so { AreLastsOf steps.now slots.now self.old }
+        ensures so { AreLastsOf steps.now slots.now self.new }
         ensures ok { OnOk result (self.new.place ≡ self.old.place + 1) }
     {
         while let Some(change) = change_at(steps, self.place, self.change) {
@@ -79,7 +122,7 @@ impl Lasts {
                 place: self.place,
                 change: self.change,
             };
-            self.add(alloc, change.address, left)?;
+            self.hold(alloc, steps, slots, change.address, left)?;
             self.change += 1;
         }
         self.place += 1;
@@ -87,14 +130,20 @@ impl Lasts {
         Ok(())
     }
 
-    /// Adds the changes of the steps that it has not seen.
-    pub(crate) fn absorb(&mut self, alloc: Global, steps: &[Step]) -> Result<(), AllocError>
-        requires so { AreLeftsTo steps.now self.old }
-        ensures so { AreLeftsTo steps.now self.new }
+    /// Goes through the steps that it has not seen.
+    pub(crate) fn absorb(
+        &mut self,
+        alloc: Global,
+        steps: &[Step],
+        slots: &Slots,
+    ) -> Result<(), AllocError>
+        requires long { length slots.now.kept.items ≡ length slots.now.queue.marks }
+        requires so { AreLastsOf steps.now slots.now self.old }
+        ensures so { AreLastsOf steps.now slots.now self.new }
         ensures ok { OnOk result (self.new.place ≡ length steps.now) }
     {
         while self.place < steps.len() {
-            self.absorb_step(alloc, steps)?;
+            self.absorb_step(alloc, steps, slots)?;
         }
         Ok(())
     }

@@ -6,11 +6,8 @@ ghost use Rattle.saw_plan.specs.BatchShapes.{transactions_in, txs_of};
 ghost use Rattle.saw_schedule.specs.Layout.{ends_of, starts_of};
 
 use crate::kept::Kept;
-use saw_context::View;
 use saw_messages::TxBatch;
 use std::alloc::{AllocError, Global};
-use std::collections::BTreeMap;
-use std::sync::Arc;
 
 /// The number after the last transaction of each batch.
 pub(crate) fn ends_of(alloc: Global, batches: &[TxBatch]) -> Result<Vec<usize>, AllocError>
@@ -53,15 +50,11 @@ pub(crate) fn starts_of(alloc: Global, batches: &[TxBatch]) -> Result<Vec<usize>
 pub(crate) fn all_kept(alloc: Global, count: usize) -> Result<Vec<Kept>, AllocError>
     ensures { IfOk result (λ kept. (length kept.items ≡ count) × AllByRecursion (λ one. one.attempts ≡ 0) kept.items) }
 {
-    let view = View {
-        entries: BTreeMap::new(alloc),
-    };
-    let view = Arc::new(alloc, view)?;
     let mut kept = Vec::new(alloc);
     for _ in 0..count {
         kept.push(Kept {
             attempts: 0,
-            view: view.clone()?,
+            view: None,
             failed: false,
             place: 0,
         })?;

@@ -7,13 +7,15 @@ ghost use Rattle.std.specs.List.{list_any};
 ghost use Rattle.saw_ready.specs.Edges.{AreEarlier, AreEdges};
 ghost use Rattle.saw_ready.specs.declared.mark.Mark.TheVariants.{Invalid, Running, Valid, Waiting};
 ghost use Rattle.saw_ready.specs.Queues.{with_mark};
+ghost use Rattle.saw_ready.specs.Sets.{IsEmpty};
+ghost use Rattle.saw_schedule.specs.Layering.{AreIdle};
 ghost use Rattle.saw_schedule.specs.Jobs.{IsJobAt};
 ghost use Rattle.saw_schedule.specs.Inside.{AreSlotsOf, IsPlacedAt, IsRunning};
 ghost use Rattle.saw_schedule.specs.Orders.{names_in};
 ghost use Rattle.saw_schedule.specs.Shows.{is_closed_mark, is_edge, mark_by, targets_of};
 ghost use Rattle.saw_schedule.specs.Histories.{Finishes, Gives, IsReplay, Takes, begun, is_over, order_in, sizes_in, state_of, txs_in};
 
-use crate::agreement::difference;
+use crate::agreement::difference_kept;
 use crate::edges::{named, predecessors};
 use crate::ended::{Finished, Given};
 use crate::gathering::gather_results;
@@ -23,14 +25,13 @@ use crate::layout::{all_kept, ends_of, starts_of};
 use crate::results::Results;
 use crate::slots::{Slots, settle};
 use crate::step::Step;
-use crate::view::view_under;
-use saw_context::{Done, Job, Ticket, View};
+use crate::view::view_over;
+use saw_context::{Done, Job, Layers, Ticket, View};
 use saw_messages::{Outcome, Tx};
 use saw_plan::Plan;
 use saw_ready::{Edges, Mark, Queue, ReadySet};
 use saw_wire::Items;
 use std::alloc::{AllocError, Global};
-use std::collections::BTreeMap;
 use std::marker::Model;
 use std::sync::Arc;
 
@@ -126,14 +127,16 @@ fn hold(queue: &mut Queue, k: usize, valid: bool)
     }
 }
 
-// Notes where the result of transaction k stands among the steps.
+// Notes where the result of transaction k stands among the steps. Its job has ended.
 fn place_result(kept: &mut Vec<Kept>, k: usize, place: usize)
     requires { k < length kept.old.items }
     ensures long { length kept.new.items ≡ length kept.old.items }
     ensures others { (j : ℕ) → j ≢ k → slice_get kept.new.items j ≡ slice_get kept.old.items j }
     ensures here { IsPlacedAt kept.old.items kept.new.items k place }
 {
-    kept[k].place = place;
+    let kept = &mut kept[k];
+    kept.place = place;
+    kept.view = None;
 }
 
 // Adds a step, for which there is room.
@@ -154,8 +157,7 @@ fn job_of(
     txs: &[Arc<Tx>],
     named: &Edges,
     slots: &Slots,
-    lasts: &Lasts,
-    steps: &[Step],
+    layers: &Layers,
     k: usize,
 ) -> Result<(Job, Arc<View>), AllocError>
     requires long { length slots.now.kept.items ≡ length slots.now.queue.marks }
@@ -163,11 +165,11 @@ fn job_of(
     requires inside { k < length slots.now.queue.marks }
     requires there { k < length txs.now }
     requires few { k < 2 ^ 32 }
-    ensures { IfOk result (λ made. IsJobAt txs.now named.now slots.now lasts.now steps.now k made.0 made.1) }
+    ensures { IfOk result (λ made. IsJobAt txs.now named.now slots.now layers.now k made.0 made.1) }
 {
     let tx = txs[k].clone()?;
     let texts = tx.header.inputs.as_slice();
-    let view = Arc::new(alloc, view_under(alloc, steps, slots, lasts, texts)?)?;
+    let view = Arc::new(alloc, view_over(alloc, layers, texts)?)?;
     let kept = view.clone()?;
     let job = Job {
         ticket: Ticket {
@@ -188,26 +190,35 @@ fn keep_job(kept: &mut Vec<Kept>, k: usize, job: &Job, view: Arc<View>)
     ensures long { length kept.new.items ≡ length kept.old.items }
     ensures others { (j : ℕ) → j ≢ k → slice_get kept.new.items j ≡ slice_get kept.old.items j }
     ensures here { slice_get kept.new.items k
-        ≡ Some (record { attempts = job.now.ticket.attempt + 1; view = view; failed = job.now.dependency_failed; place = 0 }) }
+        ≡ Some (record { attempts = job.now.ticket.attempt + 1; view = Some view; failed = job.now.dependency_failed; place = 0 }) }
 {
     kept[k] = Kept {
         attempts: job.ticket.attempt + 1,
-        view,
+        view: Some(view),
         failed: job.dependency_failed,
         place: 0,
     };
 }
 
 // All wait, and what can be settled is.
-fn begin(alloc: Global, plan: &Plan, txs: &[Arc<Tx>], named: &Edges) -> Result<Slots, AllocError>
+fn begin(
+    alloc: Global,
+    plan: &Plan,
+    txs: &[Arc<Tx>],
+    named: &Edges,
+    undone: &mut ReadySet,
+) -> Result<Slots, AllocError>
     requires few { length txs.now < 2 ^ 32 }
     requires edges { AreEdges named.now (length txs.now) }
     requires earlier { AreEarlier named.now (length txs.now) }
     requires names { (i j : ℕ) → j < i → is_edge named.now j i ≡ names_in (shapes_of txs.now) i j }
     requires are { shapes_of txs.now ≡ txs_in (begun plan.now) }
     requires count { length txs.now ≡ transactions_in plan.now.batches }
+    requires long { length undone.old ≡ length txs.now }
+    requires empty { IsEmpty undone.old }
     ensures slots { IfOk result (AreSlotsOf (order_in (begun plan.now)) (sizes_in (begun plan.now)) (state_of (begun plan.now)) []) }
     ensures idle { IfOk result (λ slots. slots.running ≡ 0) }
+    ensures undone { IfOk result (λ slots. AreIdle slots.queue.marks undone.new) }
 {
     let batches = plan.batches.as_slice();
     let queue = Queue::new(
@@ -223,7 +234,7 @@ fn begin(alloc: Global, plan: &Plan, txs: &[Arc<Tx>], named: &Edges) -> Result<S
         verdicts: Vec::with_capacity(alloc, batches.len())?,
         running: 0,
     };
-    settle(&mut slots, &[]);
+    settle(&mut slots, undone, &[]);
     Ok(slots)
 }
 
@@ -235,13 +246,14 @@ impl Schedule {
     {
         let txs = plan.transactions(alloc)?;
         let named = named(alloc, txs.as_slice())?;
-        let slots = begin(alloc, &plan, txs.as_slice(), &named)?;
+        let mut lasts = Lasts::new(alloc, txs.len())?;
+        let slots = begin(alloc, &plan, txs.as_slice(), &named, &mut lasts.undone)?;
         Ok(Schedule {
             plan,
             txs,
             named,
             slots,
-            lasts: Lasts::new(alloc),
+            lasts,
             steps: Vec::new(alloc),
         })
     }
@@ -252,7 +264,8 @@ impl Schedule {
         ensures err { OnErr result (self.new ≡ self.old) }
     {
         self.steps.reserve(self.slots.running + 2)?;
-        self.lasts.absorb(alloc, &self.steps)?;
+        self.lasts.absorb(alloc, &self.steps, &self.slots)?;
+        self.lasts.refresh(alloc, &self.steps, &self.slots)?;
         let Some(k) = self.slots.queue.take() else {
             return Ok(None);
         };
@@ -261,8 +274,7 @@ impl Schedule {
             self.txs.as_slice(),
             &self.named,
             &self.slots,
-            &self.lasts,
-            &self.steps,
+            &self.lasts.layers,
             k,
         );
         let Ok((job, view)) = found else {
@@ -283,8 +295,7 @@ impl Schedule {
             return Finished::Stale;
         }
         let k = done.ticket.index as usize;
-        let kept = &self.slots.kept[k];
-        let found = difference(&self.txs.as_slice()[k], &kept.view, kept.failed, &done);
+        let found = difference_kept(&self.txs.as_slice()[k], &self.slots.kept[k], &done);
         let valid = is_valid(&done.outcome);
         place_result(&mut self.slots.kept, k, self.steps.len());
         add_step(&mut self.steps, Step::Finish(done));
@@ -294,7 +305,7 @@ impl Schedule {
             return Finished::Foreign(why);
         }
         hold(&mut self.slots.queue, k, valid);
-        settle(&mut self.slots, &self.steps);
+        settle(&mut self.slots, &mut self.lasts.undone, &self.steps);
         Finished::Accepted
     }
 

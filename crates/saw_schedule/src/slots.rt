@@ -6,7 +6,7 @@ ghost use Rattle.saw_machine.specs.Orders.{Order};
 ghost use Rattle.saw_messages.specs.declared.outcome.Outcome.TheVariants.{Invalid};
 ghost use Rattle.saw_messages.specs.declared.outcome.Reason.{Reason as Cause};
 ghost use Rattle.saw_schedule.specs.Inside.{AreSlotsOf, IsResultAt};
-ghost use Rattle.saw_schedule.specs.Settling.{GoesOnFrom, HaveState, IsOpen, settled};
+ghost use Rattle.saw_schedule.specs.Settling.{GoesOnFrom, HaveState, IsOpen, LeavesUndone, settled};
 
 use crate::kept::Kept;
 use crate::step::Step;
@@ -54,8 +54,9 @@ fn add_verdict(verdicts: &mut Vec<Verdict>, verdict: Verdict)
 }
 
 // Settles the first unsettled batch where it has a result, and says whether it did.
-fn settle_next(slots: &mut Slots, steps: &[Step]) -> bool
-    requires { HaveState steps.now slots.old }
+fn settle_next(slots: &mut Slots, undone: &mut ReadySet, steps: &[Step]) -> bool
+    requires state { HaveState steps.now slots.old }
+    requires long { length undone.old ≡ length slots.old.queue.marks }
     ensures state { HaveState steps.now slots.new }
     ensures on { result ≡ true → (order : Order) (sizes : List ℕ) (st : State) → IsOpen st
         → AreSlotsOf order sizes st steps.now slots.old → GoesOnFrom order sizes st steps.now slots.new }
@@ -66,6 +67,8 @@ fn settle_next(slots: &mut Slots, steps: &[Step]) -> bool
     ensures ends { slots.new.ends.items ≡ slots.old.ends.items }
     ensures stays { (slots.new.kept ≡ slots.old.kept) × (slots.new.running ≡ slots.old.running) }
     ensures within { result ≡ true → length slots.new.verdicts.items ≤ length slots.old.ends.items }
+    ensures undone { LeavesUndone slots.old.queue.marks slots.new.queue.marks undone.old undone.new }
+    ensures marks { length slots.new.queue.marks ≡ length slots.old.queue.marks }
 {
     let batch = slots.verdicts.len();
     if batch >= slots.ends.len() {
@@ -83,7 +86,7 @@ fn settle_next(slots: &mut Slots, steps: &[Step]) -> bool
             let Some(reason) = reason_in(steps, slots.kept[first + t].place) else {
                 return false;
             };
-            slots.queue.fail(end, &mut slots.hits);
+            slots.queue.fail(end, &mut slots.hits, undone);
             let t = t as u32;
             add_verdict(&mut slots.verdicts, Verdict::Failed { t, reason });
         }
@@ -91,13 +94,17 @@ fn settle_next(slots: &mut Slots, steps: &[Step]) -> bool
     true
 }
 
-/// Settles batches in order while the first unsettled one has a result.
-pub(crate) fn settle(slots: &mut Slots, steps: &[Step])
-    requires { HaveState steps.now slots.old }
+/// Settles batches in order while the first unsettled one has a result. What held a valid result and does no more is
+/// added to `undone`.
+pub(crate) fn settle(slots: &mut Slots, undone: &mut ReadySet, steps: &[Step])
+    requires state { HaveState steps.now slots.old }
+    requires long { length undone.old ≡ length slots.old.queue.marks }
     ensures settled { (order : Order) (sizes : List ℕ) (st : State) → IsOpen st
         → AreSlotsOf order sizes st steps.now slots.old
         → AreSlotsOf order sizes (settled order st) steps.now slots.new }
     ensures stays { (slots.new.kept ≡ slots.old.kept) × (slots.new.running ≡ slots.old.running) }
+    ensures undone { LeavesUndone slots.old.queue.marks slots.new.queue.marks undone.old undone.new }
+    ensures marks { length slots.new.queue.marks ≡ length slots.old.queue.marks }
 {
-    while settle_next(slots, steps) {}
+    while settle_next(slots, undone, steps) {}
 }

@@ -26,7 +26,7 @@ use Rattle.saw_context.specs.declared.fault.ContextFault.TheVariants as faults
 use Rattle.saw_context.specs.declared.job.Done.{Done}
 use Rattle.saw_context.specs.declared.job.Job.{Job}
 use Rattle.saw_context.specs.declared.reads.Read.{Read}
-use Rattle.saw_context.proofs.Layers.{seen_are_over}
+use Rattle.saw_context.proofs.OnTop.{seen_are_over}
 use Rattle.saw_context.proofs.Sound.{sound_comes}
 use Rattle.saw_station.specs.RunResults.{IsRefusal, IsResult, IsTalk}
 use Rattle.saw_station.specs.Serving.{built_in_own, next_by, processors_at, serving, tells_by}

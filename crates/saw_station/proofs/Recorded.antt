@@ -16,7 +16,7 @@ use Rattle.saw_context.specs.declared.reads.Read.{Read}
 use Rattle.saw_context.specs.declared.view.ViewEntry.{ViewEntry}
 use Rattle.saw_context.proofs.Alike.{granted_all}
 use Rattle.saw_context.proofs.Each.{all_map, all_weaker}
-use Rattle.saw_context.proofs.Layers.{value_at-over}
+use Rattle.saw_context.proofs.OnTop.{value_at-over}
 
 -- ---- what was asked
 

@@ -6,12 +6,13 @@ ghost use Rattle.saw_schedule.specs.Histories.{is_over};
 
 use crate::plans::{self, Planning, put_batches};
 use crate::words::{NoForm, put_hex, put_number, put_word, words_of};
+use saw_address::Address;
 use saw_context::{Done, Job, Ticket, View, ViewEntry};
-use saw_messages::PlainBase;
+use saw_messages::{Outcome, PlainBase};
 use saw_schedule::{Difference, Finished, Given, Schedule, Step};
 use saw_station::{Desk, NoStation, run_one};
 use std::alloc::{AllocError, Global};
-use std::collections::BTreeMap;
+use std::collections::{BTreeMap, BTreeSet};
 use std::sync::Arc;
 
 /// More rounds than a script takes.
@@ -120,7 +121,8 @@ fn ticket_of(index: &str, attempt: &str) -> anyhow::Result<Ticket> {
 fn take(alloc: Global, scheduling: &mut Scheduling, out: &mut Vec<u8>) -> anyhow::Result<()> {
     match scheduling.schedule.take(alloc)? {
         Some(job) => {
-            put_job(alloc, out, &job)?;
+            let changed = changed_in(alloc, scheduling.schedule.steps())?;
+            put_job(alloc, out, &job, &changed)?;
             scheduling.jobs.push(job)?;
         }
         None => out.extend_from_slice(b"none\n")?,
@@ -128,13 +130,40 @@ fn take(alloc: Global, scheduling: &mut Scheduling, out: &mut Vec<u8>) -> anyhow
     Ok(())
 }
 
-/// The ticket of a job, whether a dependency of it failed, and its view.
-fn put_job(alloc: Global, out: &mut Vec<u8>, job: &Job) -> Result<(), AllocError> {
+/// The addresses that the results so far change, refused and undone ones too.
+fn changed_in(alloc: Global, steps: &[Step]) -> Result<BTreeSet<Address>, AllocError> {
+    let mut changed = BTreeSet::new(alloc);
+    for step in steps {
+        add_changed(&mut changed, step)?;
+    }
+    Ok(changed)
+}
+
+fn add_changed(changed: &mut BTreeSet<Address>, step: &Step) -> Result<(), AllocError> {
+    let Step::Finish(done) = step else {
+        return Ok(());
+    };
+    let Outcome::Ok { changes, events: _ } = &done.outcome else {
+        return Ok(());
+    };
+    for change in changes.as_slice() {
+        changed.insert(change.address)?;
+    }
+    Ok(())
+}
+
+/// The ticket of a job, whether a dependency of it failed, and its view of these addresses.
+fn put_job(
+    alloc: Global,
+    out: &mut Vec<u8>,
+    job: &Job,
+    changed: &BTreeSet<Address>,
+) -> Result<(), AllocError> {
     out.extend_from_slice(b"job")?;
     put_number(alloc, out, job.ticket.index)?;
     put_word(out, job.ticket.attempt.to_string(alloc)?.as_bytes())?;
     put_word(out, failed_word(job.dependency_failed))?;
-    put_view(alloc, out, &job.view)?;
+    put_view(alloc, out, &job.view, changed)?;
     out.push(b'\n')?;
     Ok(())
 }
@@ -143,11 +172,18 @@ fn failed_word(failed: bool) -> &'static [u8] {
     if failed { b"failed" } else { b"sound" }
 }
 
-/// Each address of a view in order, who changed it, and what is there.
-fn put_view(alloc: Global, out: &mut Vec<u8>, view: &View) -> Result<(), AllocError> {
-    for (at, entry) in &view.entries {
-        put_hex(alloc, out, at.as_slice())?;
-        put_entry(alloc, out, entry)?;
+/// Each of the addresses that the view shows, in order, who changed it, and what is there.
+fn put_view(
+    alloc: Global,
+    out: &mut Vec<u8>,
+    view: &View,
+    changed: &BTreeSet<Address>,
+) -> Result<(), AllocError> {
+    for at in changed {
+        if let Some(entry) = view.get(at) {
+            put_hex(alloc, out, at.as_slice())?;
+            put_entry(alloc, out, entry)?;
+        }
     }
     Ok(())
 }

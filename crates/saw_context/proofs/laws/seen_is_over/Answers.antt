@@ -1,4 +1,4 @@
-use Rattle.saw_context.proofs.Layers.{seen_are_over}
+use Rattle.saw_context.proofs.OnTop.{seen_are_over}
 use Rattle.saw_context.proofs.laws.seen_is_over.Goals as goal
 
 pub returns : goal.returns

@@ -3,6 +3,8 @@ use Rattle.saw_ready.specs.Queues.{Waits, with_first}
 use Rattle.saw_ready.specs.Resets.{IsFailed}
 use Rattle.saw_schedule.specs.declared.verdict.Verdict.TheVariants.{Failed}
 use Rattle.saw_schedule.proofs.SettlingRounds.{at-place, some-inj, some-state, broken-code, kept-stands, none≢some, broken-held, ends-late, fewer, high, low, no-fewer, none-left, open-code, reason-at, room-for, valid-code, whole-code}
+use Rattle.saw_schedule.specs.Settling.{LeavesUndone}
+use Rattle.saw_schedule.proofs.Undoing.{leaves-failed}
 use Rattle.saw_schedule.proofs.slots.settle_next.Goals as goal
 
 pub returns-then-batch-len-clause-over : goal.returns-then-batch-len-clause-over
@@ -10,36 +12,36 @@ returns-then-batch-len-clause-over c = λ e order sizes st open_ are.
     (none-left order sizes st c.args.steps.now c.args.slots.now open_ are (no-fewer c.args.slots.now c.len-batch.result c.len.result c.len-batch.ensures c.len.ensures c.if-batch-len.true), are)
 
 pub overflow_sub-end : goal.overflow_sub-end
-overflow_sub-end c = rw c.first-first.ensures (low c.requires.order c.requires.sizes c.requires.state c.args.steps.now c.args.slots.now c.requires.open_ c.requires.are (fewer c.args.slots.now c.len-batch.result c.len.result c.len-batch.ensures c.len.ensures c.if-batch-len.false) c.index-end.result.now (at-place c.args.slots.now c.len-batch.result c.index-end.result.now c.len-batch.ensures c.index-end.ensures))
+overflow_sub-end c = rw c.first-first.ensures (low c.requires.state.order c.requires.state.sizes c.requires.state.state c.args.steps.now c.args.slots.now c.requires.state.open_ c.requires.state.are (fewer c.args.slots.now c.len-batch.result c.len.result c.len-batch.ensures c.len.ensures c.if-batch-len.false) c.index-end.result.now (at-place c.args.slots.now c.len-batch.result c.index-end.result.now c.len-batch.ensures c.index-end.ensures))
 
 pub front-requires : goal.front-requires
 front-requires c =
-    let a = low c.requires.order c.requires.sizes c.requires.state c.args.steps.now c.args.slots.now c.requires.open_ c.requires.are (fewer c.args.slots.now c.len-batch.result c.len.result c.len-batch.ensures c.len.ensures c.if-batch-len.false) c.index-end.result.now (at-place c.args.slots.now c.len-batch.result c.index-end.result.now c.len-batch.ensures c.index-end.ensures) in
-    let b = high c.requires.order c.requires.sizes c.requires.state c.args.steps.now c.args.slots.now c.requires.open_ c.requires.are (fewer c.args.slots.now c.len-batch.result c.len.result c.len-batch.ensures c.len.ensures c.if-batch-len.false) c.index-end.result.now (at-place c.args.slots.now c.len-batch.result c.index-end.result.now c.len-batch.ensures c.index-end.ensures) in
+    let a = low c.requires.state.order c.requires.state.sizes c.requires.state.state c.args.steps.now c.args.slots.now c.requires.state.open_ c.requires.state.are (fewer c.args.slots.now c.len-batch.result c.len.result c.len-batch.ensures c.len.ensures c.if-batch-len.false) c.index-end.result.now (at-place c.args.slots.now c.len-batch.result c.index-end.result.now c.len-batch.ensures c.index-end.ensures) in
+    let b = high c.requires.state.order c.requires.state.sizes c.requires.state.state c.args.steps.now c.args.slots.now c.requires.state.open_ c.requires.state.are (fewer c.args.slots.now c.len-batch.result c.len.result c.len-batch.ensures c.len.ensures c.if-batch-len.false) c.index-end.result.now (at-place c.args.slots.now c.len-batch.result c.index-end.result.now c.len-batch.ensures c.index-end.ensures) in
     let e = c.first-first.ensures in
     omega (arith, a, b, e)
 
 pub apply-requires-clause-within : goal.apply-requires-clause-within
-apply-requires-clause-within c = rw c.front.ensures.same (low c.requires.order c.requires.sizes c.requires.state c.args.steps.now c.args.slots.now c.requires.open_ c.requires.are (fewer c.args.slots.now c.len-batch.result c.len.result c.len-batch.ensures c.len.ensures c.if-batch-len.false) c.index-end.result.now (at-place c.args.slots.now c.len-batch.result c.index-end.result.now c.len-batch.ensures c.index-end.ensures), high c.requires.order c.requires.sizes c.requires.state c.args.steps.now c.args.slots.now c.requires.open_ c.requires.are (fewer c.args.slots.now c.len-batch.result c.len.result c.len-batch.ensures c.len.ensures c.if-batch-len.false) c.index-end.result.now (at-place c.args.slots.now c.len-batch.result c.index-end.result.now c.len-batch.ensures c.index-end.ensures))
+apply-requires-clause-within c = rw c.front.ensures.same (low c.requires.state.order c.requires.state.sizes c.requires.state.state c.args.steps.now c.args.slots.now c.requires.state.open_ c.requires.state.are (fewer c.args.slots.now c.len-batch.result c.len.result c.len-batch.ensures c.len.ensures c.if-batch-len.false) c.index-end.result.now (at-place c.args.slots.now c.len-batch.result c.index-end.result.now c.len-batch.ensures c.index-end.ensures), high c.requires.state.order c.requires.state.sizes c.requires.state.state c.args.steps.now c.args.slots.now c.requires.state.open_ c.requires.state.are (fewer c.args.slots.now c.len-batch.result c.len.result c.len-batch.ensures c.len.ensures c.if-batch-len.false) c.index-end.result.now (at-place c.args.slots.now c.len-batch.result c.index-end.result.now c.len-batch.ensures c.index-end.ensures))
 
 pub fail-requires-clause-within : goal.fail-requires-clause-within
-fail-requires-clause-within c = rw c.front.ensures.same (low c.requires.order c.requires.sizes c.requires.state c.args.steps.now c.args.slots.now c.requires.open_ c.requires.are (fewer c.args.slots.now c.len-batch.result c.len.result c.len-batch.ensures c.len.ensures c.if-batch-len.false) c.index-end.result.now (at-place c.args.slots.now c.len-batch.result c.index-end.result.now c.len-batch.ensures c.index-end.ensures), high c.requires.order c.requires.sizes c.requires.state c.args.steps.now c.args.slots.now c.requires.open_ c.requires.are (fewer c.args.slots.now c.len-batch.result c.len.result c.len-batch.ensures c.len.ensures c.if-batch-len.false) c.index-end.result.now (at-place c.args.slots.now c.len-batch.result c.index-end.result.now c.len-batch.ensures c.index-end.ensures))
+fail-requires-clause-within c = rw c.front.ensures.same (low c.requires.state.order c.requires.state.sizes c.requires.state.state c.args.steps.now c.args.slots.now c.requires.state.open_ c.requires.state.are (fewer c.args.slots.now c.len-batch.result c.len.result c.len-batch.ensures c.len.ensures c.if-batch-len.false) c.index-end.result.now (at-place c.args.slots.now c.len-batch.result c.index-end.result.now c.len-batch.ensures c.index-end.ensures), high c.requires.state.order c.requires.state.sizes c.requires.state.state c.args.steps.now c.args.slots.now c.requires.state.open_ c.requires.state.are (fewer c.args.slots.now c.len-batch.result c.len.result c.len-batch.ensures c.len.ensures c.if-batch-len.false) c.index-end.result.now (at-place c.args.slots.now c.len-batch.result c.index-end.result.now c.len-batch.ensures c.index-end.ensures))
 
 pub add_verdict-requires : goal.add_verdict-requires
-add_verdict-requires c = room-for c.args.steps.now c.args.slots.now c.requires (fewer c.args.slots.now c.len-batch.result c.len.result c.len-batch.ensures c.len.ensures c.if-batch-len.false)
+add_verdict-requires c = room-for c.args.steps.now c.args.slots.now c.requires.state (fewer c.args.slots.now c.len-batch.result c.len.result c.len-batch.ensures c.len.ensures c.if-batch-len.false)
 
 pub add_verdict-requires-in-Broken : goal.add_verdict-requires-in-Broken
-add_verdict-requires-in-Broken c = room-for c.args.steps.now c.args.slots.now c.requires (fewer c.args.slots.now c.len-batch.result c.len.result c.len-batch.ensures c.len.ensures c.if-batch-len.false)
+add_verdict-requires-in-Broken c = room-for c.args.steps.now c.args.slots.now c.requires.state (fewer c.args.slots.now c.len-batch.result c.len.result c.len-batch.ensures c.len.ensures c.if-batch-len.false)
 
 pub returns-in-Open-clause-over : goal.returns-in-Open-clause-over
 returns-in-Open-clause-over c = λ e order sizes st open_ are.
     (open-code order sizes st c.args.steps.now c.args.slots.now open_ are (fewer c.args.slots.now c.len-batch.result c.len.result c.len-batch.ensures c.len.ensures c.if-batch-len.false) c.index-end.result.now (at-place c.args.slots.now c.len-batch.result c.index-end.result.now c.len-batch.ensures c.index-end.ensures) c.first-first.result c.first-first.ensures c.in-Open.ensures.front, rw c.front.ensures.same are)
 
 pub apply-requires-clause-valid : goal.apply-requires-clause-valid
-apply-requires-clause-valid c = rw c.front.ensures.same (valid-code c.requires.order c.requires.sizes c.requires.state c.args.steps.now c.args.slots.now c.requires.open_ c.requires.are (fewer c.args.slots.now c.len-batch.result c.len.result c.len-batch.ensures c.len.ensures c.if-batch-len.false) c.index-end.result.now (at-place c.args.slots.now c.len-batch.result c.index-end.result.now c.len-batch.ensures c.index-end.ensures) c.first-first.result c.first-first.ensures c.in-Whole.ensures.front)
+apply-requires-clause-valid c = rw c.front.ensures.same (valid-code c.requires.state.order c.requires.state.sizes c.requires.state.state c.args.steps.now c.args.slots.now c.requires.state.open_ c.requires.state.are (fewer c.args.slots.now c.len-batch.result c.len.result c.len-batch.ensures c.len.ensures c.if-batch-len.false) c.index-end.result.now (at-place c.args.slots.now c.len-batch.result c.index-end.result.now c.len-batch.ensures c.index-end.ensures) c.first-first.result c.first-first.ensures c.in-Whole.ensures.front)
 
 pub fail-requires-clause-ends : goal.fail-requires-clause-ends
-fail-requires-clause-ends c = rw c.front.ensures.same (ends-late c.requires.order c.requires.sizes c.requires.state c.args.steps.now c.args.slots.now c.requires.open_ c.requires.are (fewer c.args.slots.now c.len-batch.result c.len.result c.len-batch.ensures c.len.ensures c.if-batch-len.false) c.index-end.result.now (at-place c.args.slots.now c.len-batch.result c.index-end.result.now c.len-batch.ensures c.index-end.ensures))
+fail-requires-clause-ends c = rw c.front.ensures.same (ends-late c.requires.state.order c.requires.state.sizes c.requires.state.state c.args.steps.now c.args.slots.now c.requires.state.open_ c.requires.state.are (fewer c.args.slots.now c.len-batch.result c.len.result c.len-batch.ensures c.len.ensures c.if-batch-len.false) c.index-end.result.now (at-place c.args.slots.now c.len-batch.result c.index-end.result.now c.len-batch.ensures c.index-end.ensures))
 
 pub returns-in-Whole-clause-on : goal.returns-in-Whole-clause-on
 returns-in-Whole-clause-on c = λ e order sizes st open_ are.
@@ -48,7 +50,7 @@ returns-in-Whole-clause-on c = λ e order sizes st open_ are.
 
 pub returns-in-Whole-clause-state : goal.returns-in-Whole-clause-state
 returns-in-Whole-clause-state c =
-    some-state c.args.steps.now _ (returns-in-Whole-clause-on c refl c.requires.order c.requires.sizes c.requires.state c.requires.open_ c.requires.are)
+    some-state c.args.steps.now _ (returns-in-Whole-clause-on c refl c.requires.state.order c.requires.state.sizes c.requires.state.state c.requires.state.open_ c.requires.state.are)
 
 pub returns-in_default-clause-over : goal.returns-in_default-clause-over
 returns-in_default-clause-over c = λ e order sizes st open_ are.
@@ -65,6 +67,14 @@ returns-in-Some-clause-on c = λ e order sizes st open_ are.
     refl c.fail.ensures.hits c.fail.ensures.idle refl
     (c.add_verdict-in-Broken.ensures.more ∙ ap (λ reason. c.args.slots.now.verdicts.items ++ Failed c.in-Broken.t reason ∷ []) (sym same)) c.add_verdict-in-Broken.ensures.room refl
 
+pub fail-requires-clause-undone : goal.fail-requires-clause-undone
+fail-requires-clause-undone c = rw c.front.ensures.same c.requires.long
+
+pub returns-in-Some-clause-undone : goal.returns-in-Some-clause-undone
+returns-in-Some-clause-undone c =
+    subst (λ (queue : Waits). LeavesUndone queue.marks c.fail.new.self.marks c.args.undone.now c.fail.new.undone) c.front.ensures.same
+    (leaves-failed _ _ _ _ _ _ _ c.fail.ensures.failed c.fail.ensures.undone)
+
 pub returns-in-Some-clause-state : goal.returns-in-Some-clause-state
 returns-in-Some-clause-state c =
-    some-state c.args.steps.now _ (returns-in-Some-clause-on c refl c.requires.order c.requires.sizes c.requires.state c.requires.open_ c.requires.are)
+    some-state c.args.steps.now _ (returns-in-Some-clause-on c refl c.requires.state.order c.requires.state.sizes c.requires.state.state c.requires.state.open_ c.requires.state.are)

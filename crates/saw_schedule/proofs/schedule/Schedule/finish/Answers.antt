@@ -9,7 +9,7 @@ use Rattle.saw_schedule.specs.Settling.{HaveState, IsOpen, settled}
 use Rattle.saw_schedule.specs.Histories.{History, RunsIn, difference_in, state_of, txs_in, with_step}
 use Rattle.saw_schedule.specs.declared.step.Step.{Step}
 use Rattle.saw_schedule.specs.declared.step.Step.TheVariants.{Finish}
-use Rattle.saw_schedule.proofs.Finishing.{accepted, found-code, kept-at, mid-state, refused, tx-at, tx-inside}
+use Rattle.saw_schedule.proofs.Finishing.{accepted, found-code, kept-at, mid-long, mid-state, refused, tx-at, tx-inside}
 use Rattle.saw_schedule.proofs.GivingBack.{has-room, running-some, task-so}
 use Rattle.saw_schedule.proofs.ScheduleSteps.{runs-iff}
 use Rattle.saw_schedule.proofs.schedule.Schedule.finish.Goals as goal
@@ -32,7 +32,7 @@ overflow_sub-self c = running-some _ c.self.inside.txs c.self.inside.named c.sel
 
 pub invariant_of-self : goal.invariant_of-self
 invariant_of-self c =
-    refused _ c.self.inside.txs c.self.inside.named c.self.inside.slots c.self.inside.lasts (vec_capacity c.self.inside.steps) c.self.invariant c.args.done (c.if-not-runs.ensures.yes refl) c.in-Some.why (sym (found-code _ c.self.inside.txs c.self.inside.named c.self.inside.slots c.self.inside.lasts (vec_capacity c.self.inside.steps) c.self.invariant c.args.done (c.if-not-runs.ensures.yes refl) c.difference-found.result c.index-as_slice-k.result c.index-kept.result.now c.deref.result.now c.deref-2.result.now (tx-at _ c.self.inside.txs c.self.inside.named c.self.inside.slots c.self.inside.lasts (vec_capacity c.self.inside.steps) c.self.invariant c.args.done (c.if-not-runs.ensures.yes refl) c.as_slice.result.now c.index-as_slice-k.result c.as_slice.ensures c.index-as_slice-k.is) (kept-at _ c.self.inside.txs c.self.inside.named c.self.inside.slots c.self.inside.lasts (vec_capacity c.self.inside.steps) c.self.invariant c.args.done (c.if-not-runs.ensures.yes refl) c.index-kept.result.now c.index-kept.ensures) c.deref.ensures c.deref-2.ensures c.difference-found.ensures) ∙ c.in-Some.is) _ c.add_step.new.steps.items (vec_capacity c.add_step.new.steps)
+    refused _ c.self.inside.txs c.self.inside.named c.self.inside.slots c.self.inside.lasts (vec_capacity c.self.inside.steps) c.self.invariant c.args.done (c.if-not-runs.ensures.yes refl) c.in-Some.why (sym (found-code _ c.self.inside.txs c.self.inside.named c.self.inside.slots c.self.inside.lasts (vec_capacity c.self.inside.steps) c.self.invariant c.args.done (c.if-not-runs.ensures.yes refl) c.difference_kept-found.result c.index-as_slice-k.result c.index.result.now c.deref.result.now (tx-at _ c.self.inside.txs c.self.inside.named c.self.inside.slots c.self.inside.lasts (vec_capacity c.self.inside.steps) c.self.invariant c.args.done (c.if-not-runs.ensures.yes refl) c.as_slice.result.now c.index-as_slice-k.result c.as_slice.ensures c.index-as_slice-k.is) (kept-at _ c.self.inside.txs c.self.inside.named c.self.inside.slots c.self.inside.lasts (vec_capacity c.self.inside.steps) c.self.invariant c.args.done (c.if-not-runs.ensures.yes refl) c.index.result.now c.index.ensures) c.deref.ensures c.difference_kept-found.ensures) ∙ c.in-Some.is) _ c.add_step.new.steps.items (vec_capacity c.add_step.new.steps)
     c.back.ensures refl refl refl c.place_result.ensures.long c.place_result.ensures.others (subst (λ (place : ℕ). IsPlacedAt c.self.inside.slots.kept.items c.place_result.new.kept.items c.args.done.ticket.index place) (c.len.ensures ∙ c.self.inside.steps.ok.0) c.place_result.ensures.here) refl c.add_step.ensures.more c.add_step.ensures.room
 
 pub returns-in-Some : goal.returns-in-Some
@@ -40,26 +40,30 @@ returns-in-Some c = (
   ap (λ (steps : List Step). record { batches = txs_of (arc_value c.self.inside.plan).batches; steps = steps }) c.add_step.ensures.more
       ∙ ap (λ (h : History). with_step h (Finish c.args.done)) c.self.view_is,
   subst (λ (h : History). RunsIn (state_of h) c.args.done.ticket) c.self.view_is (task-so _ c.self.inside.txs c.self.inside.named c.self.inside.slots c.self.inside.lasts (vec_capacity c.self.inside.steps) c.self.invariant c.args.done.ticket (c.if-not-runs.ensures.yes refl)),
-  subst (λ (h : History). difference_in (txs_in h) (state_of h) c.args.done ≡ Some c.in-Some.why) c.self.view_is (sym (found-code _ c.self.inside.txs c.self.inside.named c.self.inside.slots c.self.inside.lasts (vec_capacity c.self.inside.steps) c.self.invariant c.args.done (c.if-not-runs.ensures.yes refl) c.difference-found.result c.index-as_slice-k.result c.index-kept.result.now c.deref.result.now c.deref-2.result.now (tx-at _ c.self.inside.txs c.self.inside.named c.self.inside.slots c.self.inside.lasts (vec_capacity c.self.inside.steps) c.self.invariant c.args.done (c.if-not-runs.ensures.yes refl) c.as_slice.result.now c.index-as_slice-k.result c.as_slice.ensures c.index-as_slice-k.is) (kept-at _ c.self.inside.txs c.self.inside.named c.self.inside.slots c.self.inside.lasts (vec_capacity c.self.inside.steps) c.self.invariant c.args.done (c.if-not-runs.ensures.yes refl) c.index-kept.result.now c.index-kept.ensures) c.deref.ensures c.deref-2.ensures c.difference-found.ensures) ∙ c.in-Some.is),
+  subst (λ (h : History). difference_in (txs_in h) (state_of h) c.args.done ≡ Some c.in-Some.why) c.self.view_is (sym (found-code _ c.self.inside.txs c.self.inside.named c.self.inside.slots c.self.inside.lasts (vec_capacity c.self.inside.steps) c.self.invariant c.args.done (c.if-not-runs.ensures.yes refl) c.difference_kept-found.result c.index-as_slice-k.result c.index.result.now c.deref.result.now (tx-at _ c.self.inside.txs c.self.inside.named c.self.inside.slots c.self.inside.lasts (vec_capacity c.self.inside.steps) c.self.invariant c.args.done (c.if-not-runs.ensures.yes refl) c.as_slice.result.now c.index-as_slice-k.result c.as_slice.ensures c.index-as_slice-k.is) (kept-at _ c.self.inside.txs c.self.inside.named c.self.inside.slots c.self.inside.lasts (vec_capacity c.self.inside.steps) c.self.invariant c.args.done (c.if-not-runs.ensures.yes refl) c.index.result.now c.index.ensures) c.deref.ensures c.difference_kept-found.ensures) ∙ c.in-Some.is),
 )
 
-pub settle-requires : goal.settle-requires
-settle-requires c =
-    subst (λ (steps : List Step). HaveState steps (record { queue = c.hold.new.queue; ends = c.self.inside.slots.ends; hits = c.self.inside.slots.hits; kept = c.place_result.new.kept; verdicts = c.self.inside.slots.verdicts; running = c.self.inside.slots.running - 1 })) (sym (c.deref-3.ensures.value ∙ c.add_step.ensures.more))
-    (mid-state _ c.self.inside.txs c.self.inside.named c.self.inside.slots c.self.inside.lasts (vec_capacity c.self.inside.steps) c.self.invariant c.args.done (c.if-not-runs.ensures.yes refl) (sym (found-code _ c.self.inside.txs c.self.inside.named c.self.inside.slots c.self.inside.lasts (vec_capacity c.self.inside.steps) c.self.invariant c.args.done (c.if-not-runs.ensures.yes refl) c.difference-found.result c.index-as_slice-k.result c.index-kept.result.now c.deref.result.now c.deref-2.result.now (tx-at _ c.self.inside.txs c.self.inside.named c.self.inside.slots c.self.inside.lasts (vec_capacity c.self.inside.steps) c.self.invariant c.args.done (c.if-not-runs.ensures.yes refl) c.as_slice.result.now c.index-as_slice-k.result c.as_slice.ensures c.index-as_slice-k.is) (kept-at _ c.self.inside.txs c.self.inside.named c.self.inside.slots c.self.inside.lasts (vec_capacity c.self.inside.steps) c.self.invariant c.args.done (c.if-not-runs.ensures.yes refl) c.index-kept.result.now c.index-kept.ensures) c.deref.ensures c.deref-2.ensures c.difference-found.ensures) ∙ c.in_default.is) (record { queue = c.hold.new.queue; ends = c.self.inside.slots.ends; hits = c.self.inside.slots.hits; kept = c.place_result.new.kept; verdicts = c.self.inside.slots.verdicts; running = c.self.inside.slots.running - 1 }) (c.hold.ensures ∙ ap (λ mark. with_mark c.self.inside.slots.queue c.args.done.ticket.index mark) (sym c.is_valid-valid.ensures)) refl refl refl c.place_result.ensures.long c.place_result.ensures.others (subst (λ (place : ℕ). IsPlacedAt c.self.inside.slots.kept.items c.place_result.new.kept.items c.args.done.ticket.index place) (c.len.ensures ∙ c.self.inside.steps.ok.0) c.place_result.ensures.here) refl)
+pub settle-requires-clause-state : goal.settle-requires-clause-state
+settle-requires-clause-state c =
+    subst (λ (steps : List Step). HaveState steps (record { queue = c.hold.new.queue; ends = c.self.inside.slots.ends; hits = c.self.inside.slots.hits; kept = c.place_result.new.kept; verdicts = c.self.inside.slots.verdicts; running = c.self.inside.slots.running - 1 })) (sym (c.deref-2.ensures.value ∙ c.add_step.ensures.more))
+    (mid-state _ c.self.inside.txs c.self.inside.named c.self.inside.slots c.self.inside.lasts (vec_capacity c.self.inside.steps) c.self.invariant c.args.done (c.if-not-runs.ensures.yes refl) (sym (found-code _ c.self.inside.txs c.self.inside.named c.self.inside.slots c.self.inside.lasts (vec_capacity c.self.inside.steps) c.self.invariant c.args.done (c.if-not-runs.ensures.yes refl) c.difference_kept-found.result c.index-as_slice-k.result c.index.result.now c.deref.result.now (tx-at _ c.self.inside.txs c.self.inside.named c.self.inside.slots c.self.inside.lasts (vec_capacity c.self.inside.steps) c.self.invariant c.args.done (c.if-not-runs.ensures.yes refl) c.as_slice.result.now c.index-as_slice-k.result c.as_slice.ensures c.index-as_slice-k.is) (kept-at _ c.self.inside.txs c.self.inside.named c.self.inside.slots c.self.inside.lasts (vec_capacity c.self.inside.steps) c.self.invariant c.args.done (c.if-not-runs.ensures.yes refl) c.index.result.now c.index.ensures) c.deref.ensures c.difference_kept-found.ensures) ∙ c.in_default.is) (record { queue = c.hold.new.queue; ends = c.self.inside.slots.ends; hits = c.self.inside.slots.hits; kept = c.place_result.new.kept; verdicts = c.self.inside.slots.verdicts; running = c.self.inside.slots.running - 1 }) (c.hold.ensures ∙ ap (λ mark. with_mark c.self.inside.slots.queue c.args.done.ticket.index mark) (sym c.is_valid-valid.ensures)) refl refl refl c.place_result.ensures.long c.place_result.ensures.others (subst (λ (place : ℕ). IsPlacedAt c.self.inside.slots.kept.items c.place_result.new.kept.items c.args.done.ticket.index place) (c.len.ensures ∙ c.self.inside.steps.ok.0) c.place_result.ensures.here) refl)
+
+pub settle-requires-clause-long : goal.settle-requires-clause-long
+settle-requires-clause-long c =
+    mid-long _ c.self.inside.txs c.self.inside.named c.self.inside.slots c.self.inside.lasts (vec_capacity c.self.inside.steps) c.self.invariant c.args.done (c.if-not-runs.ensures.yes refl) (sym (found-code _ c.self.inside.txs c.self.inside.named c.self.inside.slots c.self.inside.lasts (vec_capacity c.self.inside.steps) c.self.invariant c.args.done (c.if-not-runs.ensures.yes refl) c.difference_kept-found.result c.index-as_slice-k.result c.index.result.now c.deref.result.now (tx-at _ c.self.inside.txs c.self.inside.named c.self.inside.slots c.self.inside.lasts (vec_capacity c.self.inside.steps) c.self.invariant c.args.done (c.if-not-runs.ensures.yes refl) c.as_slice.result.now c.index-as_slice-k.result c.as_slice.ensures c.index-as_slice-k.is) (kept-at _ c.self.inside.txs c.self.inside.named c.self.inside.slots c.self.inside.lasts (vec_capacity c.self.inside.steps) c.self.invariant c.args.done (c.if-not-runs.ensures.yes refl) c.index.result.now c.index.ensures) c.deref.ensures c.difference_kept-found.ensures) ∙ c.in_default.is) (record { queue = c.hold.new.queue; ends = c.self.inside.slots.ends; hits = c.self.inside.slots.hits; kept = c.place_result.new.kept; verdicts = c.self.inside.slots.verdicts; running = c.self.inside.slots.running - 1 }) (c.hold.ensures ∙ ap (λ mark. with_mark c.self.inside.slots.queue c.args.done.ticket.index mark) (sym c.is_valid-valid.ensures)) refl refl refl c.place_result.ensures.long c.place_result.ensures.others (subst (λ (place : ℕ). IsPlacedAt c.self.inside.slots.kept.items c.place_result.new.kept.items c.args.done.ticket.index place) (c.len.ensures ∙ c.self.inside.steps.ok.0) c.place_result.ensures.here) refl
 
 pub invariant_of-self-2 : goal.invariant_of-self-2
 invariant_of-self-2 c =
-    accepted _ c.self.inside.txs c.self.inside.named c.self.inside.slots c.self.inside.lasts (vec_capacity c.self.inside.steps) c.self.invariant c.args.done (c.if-not-runs.ensures.yes refl) (sym (found-code _ c.self.inside.txs c.self.inside.named c.self.inside.slots c.self.inside.lasts (vec_capacity c.self.inside.steps) c.self.invariant c.args.done (c.if-not-runs.ensures.yes refl) c.difference-found.result c.index-as_slice-k.result c.index-kept.result.now c.deref.result.now c.deref-2.result.now (tx-at _ c.self.inside.txs c.self.inside.named c.self.inside.slots c.self.inside.lasts (vec_capacity c.self.inside.steps) c.self.invariant c.args.done (c.if-not-runs.ensures.yes refl) c.as_slice.result.now c.index-as_slice-k.result c.as_slice.ensures c.index-as_slice-k.is) (kept-at _ c.self.inside.txs c.self.inside.named c.self.inside.slots c.self.inside.lasts (vec_capacity c.self.inside.steps) c.self.invariant c.args.done (c.if-not-runs.ensures.yes refl) c.index-kept.result.now c.index-kept.ensures) c.deref.ensures c.deref-2.ensures c.difference-found.ensures) ∙ c.in_default.is) (record { queue = c.hold.new.queue; ends = c.self.inside.slots.ends; hits = c.self.inside.slots.hits; kept = c.place_result.new.kept; verdicts = c.self.inside.slots.verdicts; running = c.self.inside.slots.running - 1 }) (c.hold.ensures ∙ ap (λ mark. with_mark c.self.inside.slots.queue c.args.done.ticket.index mark) (sym c.is_valid-valid.ensures)) refl refl refl c.place_result.ensures.long c.place_result.ensures.others (subst (λ (place : ℕ). IsPlacedAt c.self.inside.slots.kept.items c.place_result.new.kept.items c.args.done.ticket.index place) (c.len.ensures ∙ c.self.inside.steps.ok.0) c.place_result.ensures.here) refl
-    c.settle.new.slots c.add_step.new.steps.items (vec_capacity c.add_step.new.steps)
+    accepted _ c.self.inside.txs c.self.inside.named c.self.inside.slots c.self.inside.lasts (vec_capacity c.self.inside.steps) c.self.invariant c.args.done (c.if-not-runs.ensures.yes refl) (sym (found-code _ c.self.inside.txs c.self.inside.named c.self.inside.slots c.self.inside.lasts (vec_capacity c.self.inside.steps) c.self.invariant c.args.done (c.if-not-runs.ensures.yes refl) c.difference_kept-found.result c.index-as_slice-k.result c.index.result.now c.deref.result.now (tx-at _ c.self.inside.txs c.self.inside.named c.self.inside.slots c.self.inside.lasts (vec_capacity c.self.inside.steps) c.self.invariant c.args.done (c.if-not-runs.ensures.yes refl) c.as_slice.result.now c.index-as_slice-k.result c.as_slice.ensures c.index-as_slice-k.is) (kept-at _ c.self.inside.txs c.self.inside.named c.self.inside.slots c.self.inside.lasts (vec_capacity c.self.inside.steps) c.self.invariant c.args.done (c.if-not-runs.ensures.yes refl) c.index.result.now c.index.ensures) c.deref.ensures c.difference_kept-found.ensures) ∙ c.in_default.is) (record { queue = c.hold.new.queue; ends = c.self.inside.slots.ends; hits = c.self.inside.slots.hits; kept = c.place_result.new.kept; verdicts = c.self.inside.slots.verdicts; running = c.self.inside.slots.running - 1 }) (c.hold.ensures ∙ ap (λ mark. with_mark c.self.inside.slots.queue c.args.done.ticket.index mark) (sym c.is_valid-valid.ensures)) refl refl refl c.place_result.ensures.long c.place_result.ensures.others (subst (λ (place : ℕ). IsPlacedAt c.self.inside.slots.kept.items c.place_result.new.kept.items c.args.done.ticket.index place) (c.len.ensures ∙ c.self.inside.steps.ok.0) c.place_result.ensures.here) refl
+    c.settle.new.slots c.settle.new.undone c.add_step.new.steps.items (vec_capacity c.add_step.new.steps)
     (subst (λ (steps : List Step). (order : Order) (sizes : List ℕ) (x : State) → IsOpen x → AreSlotsOf order sizes x steps (record { queue = c.hold.new.queue; ends = c.self.inside.slots.ends; hits = c.self.inside.slots.hits; kept = c.place_result.new.kept; verdicts = c.self.inside.slots.verdicts; running = c.self.inside.slots.running - 1 }) → AreSlotsOf order sizes (settled order x) steps c.settle.new.slots)
-    (c.deref-3.ensures.value ∙ c.add_step.ensures.more) c.settle.ensures.settled)
-    c.settle.ensures.stays.0 c.settle.ensures.stays.1 c.add_step.ensures.more c.add_step.ensures.room
+    (c.deref-2.ensures.value ∙ c.add_step.ensures.more) c.settle.ensures.settled)
+    c.settle.ensures.stays.0 c.settle.ensures.stays.1 c.settle.ensures.marks c.settle.ensures.undone c.add_step.ensures.more c.add_step.ensures.room
 
 pub returns : goal.returns
 returns c = (
   ap (λ (steps : List Step). record { batches = txs_of (arc_value c.self.inside.plan).batches; steps = steps }) c.add_step.ensures.more
       ∙ ap (λ (h : History). with_step h (Finish c.args.done)) c.self.view_is,
   subst (λ (h : History). RunsIn (state_of h) c.args.done.ticket) c.self.view_is (task-so _ c.self.inside.txs c.self.inside.named c.self.inside.slots c.self.inside.lasts (vec_capacity c.self.inside.steps) c.self.invariant c.args.done.ticket (c.if-not-runs.ensures.yes refl)),
-  subst (λ (h : History). difference_in (txs_in h) (state_of h) c.args.done ≡ None) c.self.view_is (sym (found-code _ c.self.inside.txs c.self.inside.named c.self.inside.slots c.self.inside.lasts (vec_capacity c.self.inside.steps) c.self.invariant c.args.done (c.if-not-runs.ensures.yes refl) c.difference-found.result c.index-as_slice-k.result c.index-kept.result.now c.deref.result.now c.deref-2.result.now (tx-at _ c.self.inside.txs c.self.inside.named c.self.inside.slots c.self.inside.lasts (vec_capacity c.self.inside.steps) c.self.invariant c.args.done (c.if-not-runs.ensures.yes refl) c.as_slice.result.now c.index-as_slice-k.result c.as_slice.ensures c.index-as_slice-k.is) (kept-at _ c.self.inside.txs c.self.inside.named c.self.inside.slots c.self.inside.lasts (vec_capacity c.self.inside.steps) c.self.invariant c.args.done (c.if-not-runs.ensures.yes refl) c.index-kept.result.now c.index-kept.ensures) c.deref.ensures c.deref-2.ensures c.difference-found.ensures) ∙ c.in_default.is),
+  subst (λ (h : History). difference_in (txs_in h) (state_of h) c.args.done ≡ None) c.self.view_is (sym (found-code _ c.self.inside.txs c.self.inside.named c.self.inside.slots c.self.inside.lasts (vec_capacity c.self.inside.steps) c.self.invariant c.args.done (c.if-not-runs.ensures.yes refl) c.difference_kept-found.result c.index-as_slice-k.result c.index.result.now c.deref.result.now (tx-at _ c.self.inside.txs c.self.inside.named c.self.inside.slots c.self.inside.lasts (vec_capacity c.self.inside.steps) c.self.invariant c.args.done (c.if-not-runs.ensures.yes refl) c.as_slice.result.now c.index-as_slice-k.result c.as_slice.ensures c.index-as_slice-k.is) (kept-at _ c.self.inside.txs c.self.inside.named c.self.inside.slots c.self.inside.lasts (vec_capacity c.self.inside.steps) c.self.invariant c.args.done (c.if-not-runs.ensures.yes refl) c.index.result.now c.index.ensures) c.deref.ensures c.difference_kept-found.ensures) ∙ c.in_default.is),
 )

@@ -9,6 +9,7 @@ use Rattle.saw_plan.specs.declared.plan.Plan.{Plan}
 use Rattle.saw_ready.specs.Edges.{AreEarlier, AreEdges}
 use Rattle.saw_schedule.specs.Histories.{begun, order_in, sizes_in, state_of}
 use Rattle.saw_schedule.specs.Inside.{AreSlotsOf, IsScheduleOf}
+use Rattle.saw_schedule.specs.Lasts.{IsNothing}
 use Rattle.saw_schedule.specs.Orders.{names_in}
 use Rattle.saw_schedule.specs.Shows.{is_edge}
 use Rattle.saw_schedule.specs.declared.step.Step.{Step}
@@ -25,10 +26,11 @@ invariant_of-result c =
     let are : AreSlotsOf (order_in (begun (arc_value c.args.plan))) (sizes_in (begun (arc_value c.args.plan))) (state_of (begun (arc_value c.args.plan))) [] c.in_ok-slots.slots =
     subst (λ (p : Plan). AreSlotsOf (order_in (begun p)) (sizes_in (begun p)) (state_of (begun p)) [] c.in_ok-slots.slots) c.deref-2.ensures c.in_ok-slots.ensures.slots in
     subst (λ (steps : List Step). IsScheduleOf (record { batches = txs_of (arc_value c.args.plan).batches; steps = steps }) c.in_ok-txs.txs c.in_ok-named.named
-    c.in_ok-slots.slots c.new.result (vec_capacity c.new-2.result)) (sym c.new-2.ensures.items)
-    (begun-schedule (arc_value c.args.plan) c.in_ok-txs.txs c.in_ok-named.named c.in_ok-slots.slots c.in_ok-slots.slots c.new.result (vec_capacity c.new-2.result)
+    c.in_ok-slots.slots (record { lists = c.in_ok-lasts.lasts.lists; layers = c.in_ok-lasts.lasts.layers; undone = c.begin.new.undone; place = c.in_ok-lasts.lasts.place; change = c.in_ok-lasts.lasts.change }) (vec_capacity c.new-2.result)) (sym c.new-2.ensures.items)
+    (begun-schedule (arc_value c.args.plan) c.in_ok-txs.txs c.in_ok-named.named c.in_ok-slots.slots c.in_ok-slots.slots (record { lists = c.in_ok-lasts.lasts.lists; layers = c.in_ok-lasts.lasts.layers; undone = c.begin.new.undone; place = c.in_ok-lasts.lasts.place; change = c.in_ok-lasts.lasts.change }) c.in_ok-lasts.lasts.undone (vec_capacity c.new-2.result)
     txs_are few
     (subst (λ (xs : List (Arc Tx Global)). AreEdges c.in_ok-named.named (length xs)) c.as_slice.ensures c.in_ok-named.ensures.edges)
     (subst (λ (xs : List (Arc Tx Global)). AreEarlier c.in_ok-named.named (length xs)) c.as_slice.ensures c.in_ok-named.ensures.earlier)
     (subst (λ (xs : List (Arc Tx Global)). (i j : ℕ) → j < i → is_edge c.in_ok-named.named j i ≡ names_in (shapes_of xs) i j) c.as_slice.ensures c.in_ok-named.ensures.names)
-    are c.in_ok-slots.ensures.idle c.new.ensures)
+    are c.in_ok-slots.ensures.idle
+    (subst (λ (n : ℕ). IsNothing n c.in_ok-lasts.lasts) c.len.ensures c.in_ok-lasts.ensures) c.in_ok-slots.ensures.undone)

@@ -11,7 +11,7 @@ use Rattle.saw_ready.specs.Queues.{Waits, with_mark}
 use Rattle.saw_ready.specs.declared.mark.Mark.TheVariants as marks
 use Rattle.saw_schedule.specs.Histories.{History, IsTake, order_in, state_of, with_step}
 use Rattle.saw_schedule.specs.Jobs.{IsJobAt}
-use Rattle.saw_schedule.specs.Lasts.{AreLeftsTo}
+use Rattle.saw_schedule.specs.Layering.{AreLastsOf}
 use Rattle.saw_schedule.specs.declared.step.Step.{Step}
 use Rattle.saw_schedule.specs.declared.step.Step.TheVariants.{Take}
 use Rattle.saw_schedule.proofs.Showing.{ready-taken}
@@ -22,9 +22,9 @@ use Rattle.saw_schedule.proofs.schedule.Schedule.take.Goals as goal
 
 pub invariant_of-self-in_default : goal.invariant_of-self-in_default
 invariant_of-self-in_default c =
-    kept-on _ c.self.inside.txs c.self.inside.named c.self.inside.slots c.self.inside.lasts c.absorb.new.self (vec_capacity c.self.inside.steps) (vec_capacity c.reserve.new.self)
+    kept-on _ c.self.inside.txs c.self.inside.named c.self.inside.slots c.self.inside.lasts c.refresh.new.self (vec_capacity c.self.inside.steps) (vec_capacity c.reserve.new.self)
     c.take.new.self c.reserve.new.self.items c.self.invariant
-    (subst (λ (all : List Step). AreLeftsTo all c.absorb.new.self) (c.deref.ensures.value ∙ c.reserve.ensures.items) c.in_ok-absorb.ensures.so)
+    (subst (λ (all : List Step). AreLastsOf all c.self.inside.slots c.refresh.new.self) (c.deref-2.ensures.value ∙ c.reserve.ensures.items) c.in_ok-refresh.ensures.so)
     (let more = c.in_ok-reserve.ensures.capacity in let long = c.self.inside.steps.ok.0 in omega (arith, more, long)) c.in_default.ensures.taken.0 c.reserve.ensures.items
 
 pub returns-in_default-clause-ok : goal.returns-in_default-clause-ok
@@ -50,23 +50,22 @@ job_of-found-requires-clause-there c =
 
 pub invariant_of-self-in_default-found : goal.invariant_of-self-in_default-found
 invariant_of-self-in_default-found c =
-    kept-on _ c.self.inside.txs c.self.inside.named c.self.inside.slots c.self.inside.lasts c.absorb.new.self (vec_capacity c.self.inside.steps) (vec_capacity c.reserve.new.self)
+    kept-on _ c.self.inside.txs c.self.inside.named c.self.inside.slots c.self.inside.lasts c.refresh.new.self (vec_capacity c.self.inside.steps) (vec_capacity c.reserve.new.self)
     c.back.new.self c.reserve.new.self.items c.self.invariant
-    (subst (λ (all : List Step). AreLeftsTo all c.absorb.new.self) (c.deref.ensures.value ∙ c.reserve.ensures.items) c.in_ok-absorb.ensures.so)
+    (subst (λ (all : List Step). AreLastsOf all c.self.inside.slots c.refresh.new.self) (c.deref-2.ensures.value ∙ c.reserve.ensures.items) c.in_ok-refresh.ensures.so)
     (let more = c.in_ok-reserve.ensures.capacity in let long = c.self.inside.steps.ok.0 in omega (arith, more, long))
     (c.back.ensures ∙ (ap (λ (q : Waits). with_mark q c.in-Some.k marks.Waiting) c.in-Some.ensures.taken.0 ∙ back-is c.self.inside.slots.queue c.in-Some.k c.in-Some.ensures.taken.1))
     c.reserve.ensures.items
 
 pub keep_job-requires-clause-few : goal.keep_job-requires-clause-few
 keep_job-requires-clause-few c =
-    let lefts = (subst (λ (all : List Step). AreLeftsTo all c.absorb.new.self) (c.deref.ensures.value ∙ c.reserve.ensures.items) c.in_ok-absorb.ensures.so) in
-    let is = kept-still (record { batches = txs_of (arc_value c.self.inside.plan).batches; steps = c.self.inside.steps.items }) c.self.inside.txs c.self.inside.named c.self.inside.slots c.self.inside.lasts c.absorb.new.self (vec_capacity c.self.inside.steps) c.self.invariant lefts in
-    let job : IsJobAt c.self.inside.txs c.self.inside.named (record { queue = c.take.new.self; ends = c.self.inside.slots.ends; hits = c.self.inside.slots.hits; kept = c.self.inside.slots.kept; verdicts = c.self.inside.slots.verdicts; running = c.self.inside.slots.running }) c.absorb.new.self c.self.inside.steps.items c.in-Some.k c.in-Ok.job c.in-Ok.view =
-    subst (λ (xs : List (Arc Tx Global)). IsJobAt xs c.self.inside.named (record { queue = c.take.new.self; ends = c.self.inside.slots.ends; hits = c.self.inside.slots.hits; kept = c.self.inside.slots.kept; verdicts = c.self.inside.slots.verdicts; running = c.self.inside.slots.running }) c.absorb.new.self c.self.inside.steps.items c.in-Some.k c.in-Ok.job c.in-Ok.view) c.as_slice.ensures
-    (subst (λ (all : List Step). IsJobAt c.as_slice.result.now c.self.inside.named (record { queue = c.take.new.self; ends = c.self.inside.slots.ends; hits = c.self.inside.slots.hits; kept = c.self.inside.slots.kept; verdicts = c.self.inside.slots.verdicts; running = c.self.inside.slots.running }) c.absorb.new.self all c.in-Some.k c.in-Ok.job c.in-Ok.view) (c.deref-2.ensures.value ∙ c.reserve.ensures.items) c.in-Ok.ensures) in
-    let shown = shown-taken (record { batches = txs_of (arc_value c.self.inside.plan).batches; steps = c.self.inside.steps.items }) c.self.inside.txs c.self.inside.named c.self.inside.slots (record { queue = c.take.new.self; ends = c.self.inside.slots.ends; hits = c.self.inside.slots.hits; kept = c.self.inside.slots.kept; verdicts = c.self.inside.slots.verdicts; running = c.self.inside.slots.running }) c.self.inside.lasts c.absorb.new.self (vec_capacity c.self.inside.steps) c.in-Some.k c.self.invariant lefts (c.in_ok-absorb.ensures.ok ∙ ap (λ (all : List Step). length all) (c.deref.ensures.value ∙ c.reserve.ensures.items))
-    c.in-Some.ensures.taken.1 c.in-Some.ensures.taken.0 refl in
-    let attempt = attempt-is (record { batches = txs_of (arc_value c.self.inside.plan).batches; steps = c.self.inside.steps.items }) c.self.inside.txs c.self.inside.named c.self.inside.slots c.absorb.new.self (vec_capacity c.self.inside.steps) is c.in-Some.k c.in-Some.ensures.taken.1 (record { queue = c.take.new.self; ends = c.self.inside.slots.ends; hits = c.self.inside.slots.hits; kept = c.self.inside.slots.kept; verdicts = c.self.inside.slots.verdicts; running = c.self.inside.slots.running }) c.in-Some.ensures.taken.0 refl c.in-Ok.job c.in-Ok.view job shown in
+    let lefts = (subst (λ (all : List Step). AreLastsOf all c.self.inside.slots c.refresh.new.self) (c.deref-2.ensures.value ∙ c.reserve.ensures.items) c.in_ok-refresh.ensures.so) in
+    let is = kept-still (record { batches = txs_of (arc_value c.self.inside.plan).batches; steps = c.self.inside.steps.items }) c.self.inside.txs c.self.inside.named c.self.inside.slots c.self.inside.lasts c.refresh.new.self (vec_capacity c.self.inside.steps) c.self.invariant lefts in
+    let job : IsJobAt c.self.inside.txs c.self.inside.named (record { queue = c.take.new.self; ends = c.self.inside.slots.ends; hits = c.self.inside.slots.hits; kept = c.self.inside.slots.kept; verdicts = c.self.inside.slots.verdicts; running = c.self.inside.slots.running }) c.refresh.new.self.layers c.in-Some.k c.in-Ok.job c.in-Ok.view =
+    subst (λ (xs : List (Arc Tx Global)). IsJobAt xs c.self.inside.named (record { queue = c.take.new.self; ends = c.self.inside.slots.ends; hits = c.self.inside.slots.hits; kept = c.self.inside.slots.kept; verdicts = c.self.inside.slots.verdicts; running = c.self.inside.slots.running }) c.refresh.new.self.layers c.in-Some.k c.in-Ok.job c.in-Ok.view) c.as_slice.ensures c.in-Ok.ensures in
+    let shown = shown-taken (record { batches = txs_of (arc_value c.self.inside.plan).batches; steps = c.self.inside.steps.items }) c.self.inside.txs c.self.inside.named c.self.inside.slots c.self.inside.lasts c.refresh.new.self (vec_capacity c.self.inside.steps) c.self.invariant lefts
+    (c.refresh.ensures.stays ∙ (c.in_ok-absorb.ensures.ok ∙ ap (λ (all : List Step). length all) (c.deref.ensures.value ∙ c.reserve.ensures.items))) c.in_ok-refresh.ensures.ok in
+    let attempt = attempt-is (record { batches = txs_of (arc_value c.self.inside.plan).batches; steps = c.self.inside.steps.items }) c.self.inside.txs c.self.inside.named c.self.inside.slots c.refresh.new.self (vec_capacity c.self.inside.steps) is c.in-Some.k c.in-Some.ensures.taken.1 (record { queue = c.take.new.self; ends = c.self.inside.slots.ends; hits = c.self.inside.slots.hits; kept = c.self.inside.slots.kept; verdicts = c.self.inside.slots.verdicts; running = c.self.inside.slots.running }) c.in-Some.ensures.taken.0 refl c.in-Ok.job c.in-Ok.view job shown in
     let few = attempts-few (record { batches = txs_of (arc_value c.self.inside.plan).batches; steps = c.self.inside.steps.items }) c.in-Some.k in
     let long = c.self.inside.steps.ok.0 in
     let small = c.self.inside.steps.small in
@@ -74,32 +73,30 @@ keep_job-requires-clause-few c =
 
 pub invariant_of-self-2 : goal.invariant_of-self-2
 invariant_of-self-2 c =
-    let lefts = (subst (λ (all : List Step). AreLeftsTo all c.absorb.new.self) (c.deref.ensures.value ∙ c.reserve.ensures.items) c.in_ok-absorb.ensures.so) in
-    let is = kept-still (record { batches = txs_of (arc_value c.self.inside.plan).batches; steps = c.self.inside.steps.items }) c.self.inside.txs c.self.inside.named c.self.inside.slots c.self.inside.lasts c.absorb.new.self (vec_capacity c.self.inside.steps) c.self.invariant lefts in
-    let job : IsJobAt c.self.inside.txs c.self.inside.named (record { queue = c.take.new.self; ends = c.self.inside.slots.ends; hits = c.self.inside.slots.hits; kept = c.self.inside.slots.kept; verdicts = c.self.inside.slots.verdicts; running = c.self.inside.slots.running }) c.absorb.new.self c.self.inside.steps.items c.in-Some.k c.in-Ok.job c.in-Ok.view =
-    subst (λ (xs : List (Arc Tx Global)). IsJobAt xs c.self.inside.named (record { queue = c.take.new.self; ends = c.self.inside.slots.ends; hits = c.self.inside.slots.hits; kept = c.self.inside.slots.kept; verdicts = c.self.inside.slots.verdicts; running = c.self.inside.slots.running }) c.absorb.new.self c.self.inside.steps.items c.in-Some.k c.in-Ok.job c.in-Ok.view) c.as_slice.ensures
-    (subst (λ (all : List Step). IsJobAt c.as_slice.result.now c.self.inside.named (record { queue = c.take.new.self; ends = c.self.inside.slots.ends; hits = c.self.inside.slots.hits; kept = c.self.inside.slots.kept; verdicts = c.self.inside.slots.verdicts; running = c.self.inside.slots.running }) c.absorb.new.self all c.in-Some.k c.in-Ok.job c.in-Ok.view) (c.deref-2.ensures.value ∙ c.reserve.ensures.items) c.in-Ok.ensures) in
-    let shown = shown-taken (record { batches = txs_of (arc_value c.self.inside.plan).batches; steps = c.self.inside.steps.items }) c.self.inside.txs c.self.inside.named c.self.inside.slots (record { queue = c.take.new.self; ends = c.self.inside.slots.ends; hits = c.self.inside.slots.hits; kept = c.self.inside.slots.kept; verdicts = c.self.inside.slots.verdicts; running = c.self.inside.slots.running }) c.self.inside.lasts c.absorb.new.self (vec_capacity c.self.inside.steps) c.in-Some.k c.self.invariant lefts (c.in_ok-absorb.ensures.ok ∙ ap (λ (all : List Step). length all) (c.deref.ensures.value ∙ c.reserve.ensures.items))
-    c.in-Some.ensures.taken.1 c.in-Some.ensures.taken.0 refl in
+    let lefts = (subst (λ (all : List Step). AreLastsOf all c.self.inside.slots c.refresh.new.self) (c.deref-2.ensures.value ∙ c.reserve.ensures.items) c.in_ok-refresh.ensures.so) in
+    let is = kept-still (record { batches = txs_of (arc_value c.self.inside.plan).batches; steps = c.self.inside.steps.items }) c.self.inside.txs c.self.inside.named c.self.inside.slots c.self.inside.lasts c.refresh.new.self (vec_capacity c.self.inside.steps) c.self.invariant lefts in
+    let job : IsJobAt c.self.inside.txs c.self.inside.named (record { queue = c.take.new.self; ends = c.self.inside.slots.ends; hits = c.self.inside.slots.hits; kept = c.self.inside.slots.kept; verdicts = c.self.inside.slots.verdicts; running = c.self.inside.slots.running }) c.refresh.new.self.layers c.in-Some.k c.in-Ok.job c.in-Ok.view =
+    subst (λ (xs : List (Arc Tx Global)). IsJobAt xs c.self.inside.named (record { queue = c.take.new.self; ends = c.self.inside.slots.ends; hits = c.self.inside.slots.hits; kept = c.self.inside.slots.kept; verdicts = c.self.inside.slots.verdicts; running = c.self.inside.slots.running }) c.refresh.new.self.layers c.in-Some.k c.in-Ok.job c.in-Ok.view) c.as_slice.ensures c.in-Ok.ensures in
+    let shown = shown-taken (record { batches = txs_of (arc_value c.self.inside.plan).batches; steps = c.self.inside.steps.items }) c.self.inside.txs c.self.inside.named c.self.inside.slots c.self.inside.lasts c.refresh.new.self (vec_capacity c.self.inside.steps) c.self.invariant lefts
+    (c.refresh.ensures.stays ∙ (c.in_ok-absorb.ensures.ok ∙ ap (λ (all : List Step). length all) (c.deref.ensures.value ∙ c.reserve.ensures.items))) c.in_ok-refresh.ensures.ok in
     let enough : length c.self.inside.steps.items + (c.self.inside.slots.running + 2) ≤ vec_capacity c.reserve.new.self =
     (let more = c.in_ok-reserve.ensures.ok in let long = c.self.inside.steps.ok.0 in omega (arith, more, long)) in
     let room : vec_capacity c.reserve.new.self ≤ vec_capacity c.add_step.new.steps = c.add_step.ensures.room in
-    taken (record { batches = txs_of (arc_value c.self.inside.plan).batches; steps = c.self.inside.steps.items }) c.self.inside.txs c.self.inside.named c.self.inside.slots c.absorb.new.self (vec_capacity c.self.inside.steps) is c.in-Some.k c.in-Some.ensures.taken.1 (record { queue = c.take.new.self; ends = c.self.inside.slots.ends; hits = c.self.inside.slots.hits; kept = c.self.inside.slots.kept; verdicts = c.self.inside.slots.verdicts; running = c.self.inside.slots.running }) c.in-Some.ensures.taken.0 refl c.in-Ok.job c.in-Ok.view job shown
+    taken (record { batches = txs_of (arc_value c.self.inside.plan).batches; steps = c.self.inside.steps.items }) c.self.inside.txs c.self.inside.named c.self.inside.slots c.refresh.new.self (vec_capacity c.self.inside.steps) is c.in-Some.k c.in-Some.ensures.taken.1 (record { queue = c.take.new.self; ends = c.self.inside.slots.ends; hits = c.self.inside.slots.hits; kept = c.self.inside.slots.kept; verdicts = c.self.inside.slots.verdicts; running = c.self.inside.slots.running }) c.in-Some.ensures.taken.0 refl c.in-Ok.job c.in-Ok.view job shown
     (record { queue = c.take.new.self; ends = c.self.inside.slots.ends; hits = c.self.inside.slots.hits; kept = c.keep_job.new.kept; verdicts = c.self.inside.slots.verdicts; running = c.self.inside.slots.running + 1 })
     c.add_step.new.steps.items (vec_capacity c.add_step.new.steps)
     refl refl refl refl c.keep_job.ensures.long c.keep_job.ensures.others (λ one e. one-is c.keep_job.new.kept.items c.in-Some.k _ one c.keep_job.ensures.here e) refl
-    (c.add_step.ensures.more ∙ ap (λ (all : List Step). all ++ Take c.in-Ok.job.ticket ∷ []) c.reserve.ensures.items) (omega (arith, enough, room))
+    (c.add_step.ensures.more ∙ ap (λ (all : List Step). all ++ Take c.in-Ok.job.ticket ∷ []) c.reserve.ensures.items) (omega (arith, enough, room)) c.in_ok-refresh.ensures.ok
 
 pub returns-clause-ok : goal.returns-clause-ok
 returns-clause-ok c =
-    let lefts = (subst (λ (all : List Step). AreLeftsTo all c.absorb.new.self) (c.deref.ensures.value ∙ c.reserve.ensures.items) c.in_ok-absorb.ensures.so) in
-    let is = kept-still (record { batches = txs_of (arc_value c.self.inside.plan).batches; steps = c.self.inside.steps.items }) c.self.inside.txs c.self.inside.named c.self.inside.slots c.self.inside.lasts c.absorb.new.self (vec_capacity c.self.inside.steps) c.self.invariant lefts in
-    let job : IsJobAt c.self.inside.txs c.self.inside.named (record { queue = c.take.new.self; ends = c.self.inside.slots.ends; hits = c.self.inside.slots.hits; kept = c.self.inside.slots.kept; verdicts = c.self.inside.slots.verdicts; running = c.self.inside.slots.running }) c.absorb.new.self c.self.inside.steps.items c.in-Some.k c.in-Ok.job c.in-Ok.view =
-    subst (λ (xs : List (Arc Tx Global)). IsJobAt xs c.self.inside.named (record { queue = c.take.new.self; ends = c.self.inside.slots.ends; hits = c.self.inside.slots.hits; kept = c.self.inside.slots.kept; verdicts = c.self.inside.slots.verdicts; running = c.self.inside.slots.running }) c.absorb.new.self c.self.inside.steps.items c.in-Some.k c.in-Ok.job c.in-Ok.view) c.as_slice.ensures
-    (subst (λ (all : List Step). IsJobAt c.as_slice.result.now c.self.inside.named (record { queue = c.take.new.self; ends = c.self.inside.slots.ends; hits = c.self.inside.slots.hits; kept = c.self.inside.slots.kept; verdicts = c.self.inside.slots.verdicts; running = c.self.inside.slots.running }) c.absorb.new.self all c.in-Some.k c.in-Ok.job c.in-Ok.view) (c.deref-2.ensures.value ∙ c.reserve.ensures.items) c.in-Ok.ensures) in
-    let shown = shown-taken (record { batches = txs_of (arc_value c.self.inside.plan).batches; steps = c.self.inside.steps.items }) c.self.inside.txs c.self.inside.named c.self.inside.slots (record { queue = c.take.new.self; ends = c.self.inside.slots.ends; hits = c.self.inside.slots.hits; kept = c.self.inside.slots.kept; verdicts = c.self.inside.slots.verdicts; running = c.self.inside.slots.running }) c.self.inside.lasts c.absorb.new.self (vec_capacity c.self.inside.steps) c.in-Some.k c.self.invariant lefts (c.in_ok-absorb.ensures.ok ∙ ap (λ (all : List Step). length all) (c.deref.ensures.value ∙ c.reserve.ensures.items))
-    c.in-Some.ensures.taken.1 c.in-Some.ensures.taken.0 refl in
+    let lefts = (subst (λ (all : List Step). AreLastsOf all c.self.inside.slots c.refresh.new.self) (c.deref-2.ensures.value ∙ c.reserve.ensures.items) c.in_ok-refresh.ensures.so) in
+    let is = kept-still (record { batches = txs_of (arc_value c.self.inside.plan).batches; steps = c.self.inside.steps.items }) c.self.inside.txs c.self.inside.named c.self.inside.slots c.self.inside.lasts c.refresh.new.self (vec_capacity c.self.inside.steps) c.self.invariant lefts in
+    let job : IsJobAt c.self.inside.txs c.self.inside.named (record { queue = c.take.new.self; ends = c.self.inside.slots.ends; hits = c.self.inside.slots.hits; kept = c.self.inside.slots.kept; verdicts = c.self.inside.slots.verdicts; running = c.self.inside.slots.running }) c.refresh.new.self.layers c.in-Some.k c.in-Ok.job c.in-Ok.view =
+    subst (λ (xs : List (Arc Tx Global)). IsJobAt xs c.self.inside.named (record { queue = c.take.new.self; ends = c.self.inside.slots.ends; hits = c.self.inside.slots.hits; kept = c.self.inside.slots.kept; verdicts = c.self.inside.slots.verdicts; running = c.self.inside.slots.running }) c.refresh.new.self.layers c.in-Some.k c.in-Ok.job c.in-Ok.view) c.as_slice.ensures c.in-Ok.ensures in
+    let shown = shown-taken (record { batches = txs_of (arc_value c.self.inside.plan).batches; steps = c.self.inside.steps.items }) c.self.inside.txs c.self.inside.named c.self.inside.slots c.self.inside.lasts c.refresh.new.self (vec_capacity c.self.inside.steps) c.self.invariant lefts
+    (c.refresh.ensures.stays ∙ (c.in_ok-absorb.ensures.ok ∙ ap (λ (all : List Step). length all) (c.deref.ensures.value ∙ c.reserve.ensures.items))) c.in_ok-refresh.ensures.ok in
     subst (λ (h : History). IsTake c.args.self.now h c.in-Ok.job)
     (ap (λ (h : History). with_step h (Take c.in-Ok.job.ticket)) (sym c.self.view_is)
     ∙ sym (ap (λ (all : List Step). record { batches = txs_of (arc_value c.self.inside.plan).batches; steps = all }) (c.add_step.ensures.more ∙ ap (λ (all : List Step). all ++ Take c.in-Ok.job.ticket ∷ []) c.reserve.ensures.items)))
-    (subst (λ (h : History). IsTake h (with_step h (Take c.in-Ok.job.ticket)) c.in-Ok.job) c.self.view_is (is-take (record { batches = txs_of (arc_value c.self.inside.plan).batches; steps = c.self.inside.steps.items }) c.self.inside.txs c.self.inside.named c.self.inside.slots c.absorb.new.self (vec_capacity c.self.inside.steps) is c.in-Some.k c.in-Some.ensures.taken.1 (record { queue = c.take.new.self; ends = c.self.inside.slots.ends; hits = c.self.inside.slots.hits; kept = c.self.inside.slots.kept; verdicts = c.self.inside.slots.verdicts; running = c.self.inside.slots.running }) c.in-Some.ensures.taken.0 refl c.in-Ok.job c.in-Ok.view job shown))
+    (subst (λ (h : History). IsTake h (with_step h (Take c.in-Ok.job.ticket)) c.in-Ok.job) c.self.view_is (is-take (record { batches = txs_of (arc_value c.self.inside.plan).batches; steps = c.self.inside.steps.items }) c.self.inside.txs c.self.inside.named c.self.inside.slots c.refresh.new.self (vec_capacity c.self.inside.steps) is c.in-Some.k c.in-Some.ensures.taken.1 (record { queue = c.take.new.self; ends = c.self.inside.slots.ends; hits = c.self.inside.slots.hits; kept = c.self.inside.slots.kept; verdicts = c.self.inside.slots.verdicts; running = c.self.inside.slots.running }) c.in-Some.ensures.taken.0 refl c.in-Ok.job c.in-Ok.view job shown))
