@@ -3,8 +3,8 @@
 Run by hand, never by the gate, after `rt run` has built the program:
 python3 bench/schedule.py [PROGRAM]
 
-Each plan has so many counter transactions, ten in a batch, over so many names. A run that takes too long or too much
-memory is given up.
+Each plan has so many counter transactions, ten in a batch, over so many names. In the second table each reads all of its
+family's addresses and writes its own. A run that takes too long or too much memory is given up.
 """
 
 import os
@@ -18,17 +18,19 @@ sys.path.insert(0, os.path.join(ROOT, "tools"))
 
 from counters import address, operation  # noqa: E402
 
+FAMILY = "1cf126"
+
 KINDS = ["access", "families", "plans", "schedules", "trees", "states", "settings", "requests", "journal", "clashes"]
 SECONDS, BYTES = 300, 6 * 2**30
 
 
-def plan(count, names):
-    """The lines of the plan. The first transaction of each name sets it."""
+def plan(count, names, read=None):
+    """The lines of the plan. The first transaction of each name sets it; each reads its address, or this prefix."""
     lines = []
     for number in range(count):
         name = f"n{number % names}"
         at, what = address(name), operation("set" if number < names else "inc", name, 1)
-        lines.append(f"family intkey t{number} +{at} +{at} - {what.hex()}")
+        lines.append(f"family intkey t{number} +{read or at} +{at} - {what.hex()}")
         if number % 10 == 9:
             lines.append(f"batch b{number}")
     return lines
@@ -40,7 +42,7 @@ def limited():
 
 
 def measure(program, lines):
-    """The seconds of processor of one run, or none where it was given up."""
+    """The seconds of processor of one run and its bytes of memory, or none where it was given up."""
     with tempfile.TemporaryDirectory() as folder:
         for kind in KINDS:
             os.mkdir(f"{folder}/{kind}")
@@ -52,32 +54,43 @@ def measure(program, lines):
         _, status, usage = os.wait4(child.pid, 0)
     if status != 0 or said != b"1 passed, 0 failed\n":
         return None
-    return usage.ru_utime + usage.ru_stime
+    return usage.ru_utime + usage.ru_stime, usage.ru_maxrss * 1024
 
 
-def shown(seconds):
-    return "    given up" if seconds is None else f"{seconds:10.3f} s"
+def shown(run):
+    return "    given up" if run is None else f"{run[0]:10.3f} s"
+
+
+def memory(later, earlier):
+    """Megabytes that the later run took more."""
+    return "    given up" if later is None or earlier is None else f"{(later[1] - earlier[1]) / 1e6:9.1f} MB"
 
 
 def difference(later, earlier, count):
     """Microseconds for each transaction."""
-    return "    given up" if later is None or earlier is None else f"{(later - earlier) / count * 1e6:9.1f} us"
+    return "    given up" if later is None or earlier is None else f"{(later[0] - earlier[0]) / count * 1e6:9.1f} us"
 
 
-def main():
-    program = os.path.abspath(sys.argv[1] if len(sys.argv) > 1 else f"{ROOT}/crates/saw_steps/out/saw_steps")
-    print("transactions  names        plan    schedule       drain    schedule - plan, drain - schedule, each transaction")
-    for count in (2000, 20000):
-        for names in (count, 100, 1):
-            lines = plan(count, names)
+def table(program, counts, names_of, read):
+    print("transactions  names        plan    schedule       drain    each transaction      memory of the drain")
+    for count in counts:
+        for names in names_of(count):
+            lines = plan(count, names, read)
             alone = measure(program, lines)
             made = measure(program, lines + ["schedule"])
             drained = measure(program, lines + ["schedule", "drain"])
             print(
                 f"{count:12} {names:6}{shown(alone)}{shown(made)}{shown(drained)}"
-                f"{difference(made, alone, count)}{difference(drained, made, count)}",
+                f"{difference(made, alone, count)}{difference(drained, made, count)}{memory(drained, made)}",
                 flush=True,
             )
+
+
+def main():
+    program = os.path.abspath(sys.argv[1] if len(sys.argv) > 1 else f"{ROOT}/crates/saw_steps/out/saw_steps")
+    print("schedule - plan and drain - schedule are given for each transaction")
+    table(program, (2000, 20000), lambda count: (count, 100, 1), None)
+    table(program, (1000, 2000, 4000, 20000), lambda count: (count,), FAMILY)
 
 
 if __name__ == "__main__":
