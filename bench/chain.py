@@ -1,4 +1,4 @@
-"""Measures programs over a first block of names and a chain of small blocks behind it, side by side.
+"""Measures programs over first blocks of names and a chain of small blocks behind them, side by side.
 
 Run by hand, never by the gate, after `rt run` has built the program:
 python3 bench/chain.py NAMES BLOCKS SIZE TURNS PROGRAM..
@@ -15,47 +15,29 @@ import time
 sys.path.insert(0, os.path.join(os.path.dirname(__file__), "..", "tools"))
 
 import counters
+from generator import EMPTY, grown
+
+# A block has at most so many transactions.
+MOST = 20000
 
 
-class Tree:
-    """The tree of a state, of which only the changed paths are hashed anew. Nodes are shared by later trees."""
-
-    def __init__(self, children=None, value=None):
-        self.children = children or {}
-        self.value = value
-        self.hash = counters.half(self.encoding())
-
-    def encoding(self):
-        """The encoding of the node."""
-        if self.value is not None:
-            return b"\xa2\x61c\xa0\x61v" + counters.head(2, len(self.value)) + self.value
-        out = b"\xa2\x61c" + counters.head(5, len(self.children))
-        for byte in sorted(self.children):
-            out += counters.text("%02x" % byte) + counters.text(self.children[byte].hash)
-        return out + b"\x61v\xf6"
-
-    def with_entry(self, at, value):
-        """The tree with an entry at the rest of an address."""
-        if not at:
-            return Tree(value=value)
-        below = self.children.get(at[0]) or Tree()
-        return Tree(self.children | {at[0]: below.with_entry(at[1:], value)})
-
-
-def grown(tree, names):
-    for name, value in names.items():
-        for at, entry in counters.state({name: value}).items():
-            tree = tree.with_entry(at, entry)
-    return tree
+def names_first(names):
+    """The blocks that set so many names: the frames, how many there are, the last one's id and what it leaves."""
+    tree, name, out, number = EMPTY, "0" * 16, b"", 0
+    for at in range(0, names, MOST):
+        values = {f"n{index}": index for index in range(at, min(at + MOST, names))}
+        tree = grown(tree, values)
+        sets = [("set", each, value) for each, value in values.items()]
+        batches = [sets[at : at + 10] for at in range(0, len(sets), 10)]
+        name, frame = counters.block(batches, tree.hash, number, name)
+        out += frame
+        number += 1
+    return out, number, name, tree
 
 
 def stream(names, blocks, size, turns):
     """The frames, and how many blocks there are."""
-    first = {f"n{index}": index for index in range(names)}
-    tree = grown(Tree(), first)
-    sets = [("set", name, value) for name, value in first.items()]
-    batches = [sets[at : at + 10] for at in range(0, len(sets), 10)]
-    name, out = counters.block(batches, tree.hash)
+    out, first, name, tree = names_first(names)
     heads = [(tree, name)] * turns
     for index in range(blocks):
         turn = index % turns
@@ -63,10 +45,10 @@ def stream(names, blocks, size, turns):
         more = {f"m{index}x{at}": index for at in range(size)}
         tree = grown(tree, more)
         sets = [("set", name, value) for name, value in more.items()]
-        name, frame = counters.block([sets], tree.hash, index // turns + 1, previous)
+        name, frame = counters.block([sets], tree.hash, index // turns + first, previous)
         heads[turn] = (tree, name)
         out += frame
-    return out, blocks + 1
+    return out, first + blocks
 
 
 def measure(program, frames, count):

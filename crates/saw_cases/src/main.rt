@@ -7,6 +7,7 @@ mod said;
 use crate::given::{applied_of, given_of, stream_of, words_in};
 use crate::said::{Said, said_to, said_to_stream, said_to_words};
 use std::process::ExitCode;
+use std::sync::Wait;
 use std::thread::Threads;
 use std::{fs, io};
 
@@ -21,7 +22,7 @@ fn stored(rt: &HostRuntime, case: &str) -> io::Result<Said> {
 }
 
 /// Whether `apply` says what is stored for it, where something is, to the stream with the output behind it.
-fn is_applied<T: Threads + Sync>(
+fn is_applied<T: Threads + Wait + Sync>(
     rt: &T,
     host: &HostRuntime,
     case: &str,
@@ -36,11 +37,54 @@ fn is_applied<T: Threads + Sync>(
     Ok(said.says(&wanted))
 }
 
+/// Numbers of workers by which each case that names none is run too.
+const WORKERS: [&str; 3] = ["1", "3", "64"];
+
+/// Whether words name a number of workers.
+fn names_workers(words: &[String]) -> bool {
+    words
+        .iter()
+        .any(|word| word.as_str().starts_with("--workers"))
+}
+
+/// Whether a case has its stored output, notes and status by this number of workers.
+fn passes_by<T: Threads + Wait + Sync>(
+    rt: &T,
+    host: &HostRuntime,
+    case: &str,
+    wanted: &Said,
+    workers: &str,
+) -> io::Result<bool> {
+    let alloc = host.alloc();
+    let mut given = given_of(host, case)?;
+    if names_workers(&given.words) {
+        return Ok(true);
+    }
+    given.words.push(String::from_str(alloc, "--workers")?)?;
+    given.words.push(String::from_str(alloc, workers)?)?;
+    Ok(said_to(rt, alloc, given)?.is(wanted))
+}
+
+/// Whether it has them by each number of workers.
+fn passes_by_each<T: Threads + Wait + Sync>(
+    rt: &T,
+    host: &HostRuntime,
+    case: &str,
+    wanted: &Said,
+) -> io::Result<bool> {
+    for workers in WORKERS {
+        if !passes_by(rt, host, case, wanted, workers)? {
+            return Ok(false);
+        }
+    }
+    Ok(true)
+}
+
 /// Whether the case of this name has its stored output, notes and status.
-fn passes<T: Threads + Sync>(rt: &T, host: &HostRuntime, case: &str) -> io::Result<bool> {
+fn passes<T: Threads + Wait + Sync>(rt: &T, host: &HostRuntime, case: &str) -> io::Result<bool> {
     let wanted = stored(host, case)?;
     let said = said_to(rt, host.alloc(), given_of(host, case)?)?;
-    if !said.is(&wanted) {
+    if !said.is(&wanted) || !passes_by_each(rt, host, case, &wanted)? {
         return Ok(false);
     }
     is_applied(rt, host, case, &said.output)
@@ -67,7 +111,11 @@ impl Count {
 }
 
 /// Runs the case of each folder in `cases`.
-fn run_cases<T: Threads + Sync>(rt: &T, host: &HostRuntime, count: &mut Count) -> io::Result<()> {
+fn run_cases<T: Threads + Wait + Sync>(
+    rt: &T,
+    host: &HostRuntime,
+    count: &mut Count,
+) -> io::Result<()> {
     for entry in fs::read_dir(host, "cases")? {
         let entry = entry?;
         let passes = passes(rt, host, entry.file_name())?;
@@ -77,7 +125,11 @@ fn run_cases<T: Threads + Sync>(rt: &T, host: &HostRuntime, count: &mut Count) -
 }
 
 /// Runs each line of `words.txt`: words that are of no form.
-fn run_words<T: Threads + Sync>(rt: &T, host: &HostRuntime, count: &mut Count) -> io::Result<()> {
+fn run_words<T: Threads + Wait + Sync>(
+    rt: &T,
+    host: &HostRuntime,
+    count: &mut Count,
+) -> io::Result<()> {
     let alloc = host.alloc();
     let lines = fs::read_to_string(host, "words.txt")?;
     for line in lines.lines() {
@@ -88,7 +140,7 @@ fn run_words<T: Threads + Sync>(rt: &T, host: &HostRuntime, count: &mut Count) -
 }
 
 /// Runs all cases; gives whether all passed.
-fn run_all<T: Threads + Sync>(rt: &T, host: &HostRuntime) -> io::Result<bool> {
+fn run_all<T: Threads + Wait + Sync>(rt: &T, host: &HostRuntime) -> io::Result<bool> {
     let mut count = Count {
         passed: 0,
         failed: 0,

@@ -7,6 +7,7 @@ use saw_verify::{DevSigner, DevVerifier};
 use saw_wire::Text;
 use std::alloc::{AllocError, Global};
 use std::collections::BTreeMap;
+use std::sync::Wait;
 use std::thread::Threads;
 
 /// The key of development.
@@ -49,7 +50,7 @@ fn signer(alloc: Global) -> Result<DevSigner, AllocError> {
 }
 
 /// What a run says to what is given.
-pub(crate) fn said_to<T: Threads + Sync>(
+pub(crate) fn said_to<T: Threads + Wait + Sync>(
     rt: &T,
     alloc: Global,
     given: Given,
@@ -87,7 +88,7 @@ pub(crate) fn said_to<T: Threads + Sync>(
 }
 
 /// What `apply` says to a stream.
-pub(crate) fn said_to_stream<T: Threads + Sync>(
+pub(crate) fn said_to_stream<T: Threads + Wait + Sync>(
     rt: &T,
     alloc: Global,
     input: Vec<u8>,
@@ -110,7 +111,7 @@ pub(crate) fn said_to_stream<T: Threads + Sync>(
 }
 
 /// What a run says to words, where the first call of each side but the notes would fail.
-pub(crate) fn said_to_words<T: Threads + Sync>(
+pub(crate) fn said_to_words<T: Threads + Wait + Sync>(
     rt: &T,
     alloc: Global,
     words: Vec<String>,

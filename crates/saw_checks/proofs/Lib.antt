@@ -4,6 +4,6 @@ pub mod TxRuns
 pub mod Chains
 pub mod BatchRuns
 pub mod BlockRuns
-pub mod BatchSteps
+pub mod JudgedLists
 pub mod Repeats
 pub mod Faultless

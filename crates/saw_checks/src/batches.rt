@@ -2,14 +2,16 @@
 
 ghost use Rattle.std.specs.Prelude.{◌≡◌, ◌<◌, ◌^◌, length, IfOk};
 ghost use Rattle.saw_checks.specs.StructureFaults.{transactions_count};
-ghost use Rattle.saw_checks.specs.BlockParts.{BatchAtGives, BatchesGive};
+ghost use Rattle.saw_checks.specs.BlockParts.{BatchesGive, JudgedGive};
 
-use crate::batch::check_batch;
-use crate::fault::{BatchFault, StructureFault};
+use crate::fault::StructureFault;
+use crate::judged::Judged;
+use crate::sharing::check_batches;
 use saw_messages::{Batch, TxBatch};
 use saw_verify::Verifier;
 use saw_wire::Items;
 use std::alloc::{AllocError, Global};
+use std::thread::Threads;
 
 /// How many transactions the batches have in all. An `Err` says that so much fits no memory.
 pub(crate) fn count_transactions(batches: &[Batch]) -> Result<u32, AllocError>
@@ -30,35 +32,35 @@ pub(crate) fn count_transactions(batches: &[Batch]) -> Result<u32, AllocError>
     Ok(count)
 }
 
-fn check_batch_at<V: Verifier>(
-    alloc: Global,
-    batch: &Batch,
-    k: u32,
-    verifier: &V,
-) -> Result<TxBatch, StructureFault>
-    requires { length batch.now.transactions < 2 ^ 32 }
-    ensures { BatchAtGives (V.accepts verifier.now) k batch.now result }
-{
-    match check_batch(alloc, batch, verifier) {
-        Ok(read) => Ok(read),
-        Err(BatchFault::OutOfMemory) => Err(StructureFault::OutOfMemory),
-        Err(fault) => Err(StructureFault::Batch { k, fault }),
-    }
-}
-
-/// Checks all batches of a block, and reads them.
-pub(crate) fn check_all<V: Verifier>(
+/// Checks all batches of a block by so many threads, and reads them.
+pub(crate) fn check_all<T: Threads + Sync, V: Verifier>(
+    rt: &T,
     alloc: Global,
     batches: &[Batch],
     verifier: &V,
+    workers: u32,
 ) -> Result<Items<TxBatch>, StructureFault>
     requires few { length batches.now < 2 ^ 32 }
     requires small { transactions_count batches.now < 2 ^ 32 }
     ensures { BatchesGive (V.accepts verifier.now) batches.now result }
 {
+    let judged = check_batches(rt, alloc, batches, verifier, workers)?;
+    all_read(alloc, judged)
+}
+
+// What was read of the batches, or the first of them that is bad.
+fn all_read(alloc: Global, judged: Vec<Judged>) -> Result<Items<TxBatch>, StructureFault>
+    requires { length judged.items < 2 ^ 32 }
+    ensures { JudgedGive judged.items result }
+{
     let mut reads = Items::new(alloc);
-    for (k, batch) in batches.iter().enumerate() {
-        reads.push(check_batch_at(alloc, batch, k as u32, verifier)?)?;
+    for (k, one) in judged.into_iter().enumerate() {
+        match one {
+            Judged::Good(read) => reads.push(read)?,
+            Judged::Bad(fault) => {
+                return Err(StructureFault::Batch { k: k as u32, fault });
+            }
+        }
     }
     Ok(reads)
 }

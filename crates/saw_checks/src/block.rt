@@ -15,6 +15,7 @@ use saw_address::is_hex_text;
 use saw_messages::{Block, BlockHeader, decode_block, decode_block_header};
 use saw_verify::Verifier;
 use std::alloc::Global;
+use std::thread::Threads;
 
 const MAX_TRANSACTIONS: u32 = 20000;
 
@@ -61,11 +62,12 @@ fn test_signature<V: Verifier>(
 }
 
 /// Checks the structure of a block, and reads it where it has no fault. The faults stand in the order of `StructureFault`.
-pub fn check_block<V: Verifier>(
+pub fn check_block<T: Threads + Sync, V: Verifier>(
+    rt: &T,
     alloc: Global,
     bytes: &[u8],
     verifier: &V,
-    _workers: u32,
+    workers: u32,
 ) -> Result<CheckedBlock, StructureFault>
     requires { length bytes.now < 2 ^ 32 }
     ensures { BlockGives (V.accepts verifier.now) bytes.now result }
@@ -75,7 +77,7 @@ pub fn check_block<V: Verifier>(
     let count = count_transactions(block.batches.as_slice())?;
     test_block(&block, &header, count)?;
     test_ids(&block, &header)?;
-    let batches = check_all(alloc, block.batches.as_slice(), verifier)?;
+    let batches = check_all(rt, alloc, block.batches.as_slice(), verifier, workers)?;
     test_signature(&block, &header, verifier)?;
     Ok(CheckedBlock {
         id: block.header_signature,

@@ -29,12 +29,11 @@ fn judge<V: Verifier>(alloc: Global, batch: &Batch, verifier: &V) -> Result<Judg
     }
 }
 
-/// Checks each batch by itself, whatever the others are. An `Err` says that memory ran out.
-pub fn check_batches<V: Verifier>(
+/// Judges the batches in order, in this thread alone.
+pub(crate) fn judge_plainly<V: Verifier>(
     alloc: Global,
     batches: &[Batch],
     verifier: &V,
-    _workers: u32,
 ) -> Result<Vec<Judged>, AllocError>
     requires { All (λ batch. length batch.transactions < 2 ^ 32) batches.now }
     ensures { IfOk result (λ judged. AreJudged (V.accepts verifier.now) batches.now judged.items) }

@@ -9,11 +9,13 @@ mod fault;
 mod ids;
 mod judged;
 mod laws;
+mod sharing;
 mod transactions;
 
 pub use batch::check_batch;
 pub use block::check_block;
 pub use checked::CheckedBlock;
 pub use fault::{BatchFault, StructureFault};
-pub use judged::{Judged, check_batches};
+pub use judged::Judged;
 pub use laws::{faultless_batch_is_good, faultless_block_is_good};
+pub use sharing::check_batches;

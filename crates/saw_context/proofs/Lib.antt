@@ -6,7 +6,7 @@ pub mod Alike
 pub mod Covered
 pub mod OnTop
 pub mod Sound
-pub mod Trees
+pub mod Runs
 pub mod Views
 pub mod Overlays
 pub mod Undos

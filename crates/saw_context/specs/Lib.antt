@@ -2,7 +2,7 @@ pub mod Conversation
 pub mod Coverage
 pub mod Outcome
 pub mod Serial
-pub mod Trees
+pub mod Runs
 pub mod Views
 pub mod SoundResults
 pub mod Possible

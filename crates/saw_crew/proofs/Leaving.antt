@@ -1,5 +1,5 @@
 -- What is left of a desk by one call after another.
-use Rattle.std.proofs.Common.{◌≡◌, ◌≤◌, ◌<◌, ℕ, List, [], ◌∷◌, length, get_or, set, inl, inr, refl, sym, ◌∙◌, arith}
+use Rattle.std.proofs.Common.{◌≡◌, ◌≤◌, ◌<◌, ℕ, suc, List, [], ◌∷◌, length, get_or, set, inl, inr, refl, sym, ◌∙◌, arith}
 use Rattle.std.specs.List.{AllByRecursion}
 use Rattle.saw_faults.specs.Counts.{Rose}
 use Rattle.saw_station.specs.DeskPlaces.{Place, faults_by}
@@ -41,22 +41,32 @@ module _ {R : Type 0} (faults : R → ℕ) (offered : R → List Offer) where
   keep_all [] = tt
   keep_all (desk ∷ desks) = (keeps_same desk, keep_all desks)
 
-  module _ (d new : Place R) where
-    pub first_kept : (desks : List (Place R)) → 0 < length desks → KeepsDesk faults offered (get_or desks 0 d) new
-        → KeepsDesks faults offered desks (set desks 0 new)
-    first_kept [] some kept = absurd (omega arith)
-    first_kept (desk ∷ desks) some kept = (kept, keep_all desks)
+  -- each desk by its place is all of them
+  pub keeps_places : (olds news : List (Place R)) → length news ≡ length olds → ((i : ℕ) (d : Place R) → i < length olds → KeepsDesk faults offered (get_or olds i d) (get_or news i d))
+      → KeepsDesks faults offered olds news
+  keeps_places [] [] long each = tt
+  keeps_places [] (new ∷ news) long each = absurd (omega (arith, long))
+  keeps_places (old ∷ olds) [] long each = absurd (omega (arith, long))
+  keeps_places (old ∷ olds) (new ∷ news) long each = (each 0 old (omega arith), keeps_places olds news (omega (arith, long)) (λ i d less. each (suc i) d (omega (arith, less))))
 
--- a count that rose at the first desk rose at some desk
-pub first_failed : {R : Type 0} (faults : R → ℕ) (d new : Place R) (desks : List (Place R)) → 0 < length desks
-    → Rose (faults_by faults (get_or desks 0 d).remote) (faults_by faults new.remote)
-    → Failed faults desks (set desks 0 new)
-first_failed faults d new [] some rose = absurd (omega arith)
-first_failed faults d new (desk ∷ desks) some rose = inl rose
+  -- then the first goes on
+  pub first_kept : (olds news : List (Place R)) (d new : Place R) → 0 < length olds → KeepsDesks faults offered olds news → KeepsDesk faults offered (get_or news 0 d) new
+      → KeepsDesks faults offered olds (set news 0 new)
+  first_kept [] news d new some kept one = absurd (omega arith)
+  first_kept (old ∷ olds) [] d new some kept one = kept
+  first_kept (old ∷ olds) (mid ∷ news) d new some kept one = (keeps_trans old mid new kept.0 one, kept.1)
 
-pub first_offers : {R : Type 0} (desks : List (Place R)) (d : Place R) → 0 < length desks → (get_or desks 0 d).offers ≡ offers_at desks
-first_offers [] d some = absurd (omega arith)
-first_offers (desk ∷ desks) d some = refl
+  pub first_offers : (olds news : List (Place R)) (d : Place R) → 0 < length olds → KeepsDesks faults offered olds news → (get_or news 0 d).offers ≡ offers_at olds
+  first_offers [] news d some kept = absurd (omega arith)
+  first_offers (old ∷ olds) [] d some kept = absurd kept
+  first_offers (old ∷ olds) (mid ∷ news) d some kept = kept.0.offers
+
+  -- a count that rose at the first desk rose at some desk
+  pub first_failed : (olds news : List (Place R)) (d new : Place R) → 0 < length olds → KeepsDesks faults offered olds news
+      → Rose (faults_by faults (get_or news 0 d).remote) (faults_by faults new.remote) → Failed faults olds (set news 0 new)
+  first_failed [] news d new some kept rose = absurd (omega arith)
+  first_failed (old ∷ olds) [] d new some kept rose = absurd kept
+  first_failed (old ∷ olds) (mid ∷ news) d new some kept rose = inl (rose_later (faults_by faults old.remote) (faults_by faults mid.remote) (faults_by faults new.remote) kept.0.later rose)
 
 -- ---- what stays of a list of desks by one call after another
 

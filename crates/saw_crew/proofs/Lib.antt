@@ -1,4 +1,9 @@
 pub mod Leaving
 pub mod Agreed
 pub mod Results
+pub mod Sames
+pub mod Runnings
+pub mod Stores
 pub mod Alone
+pub mod Endings
+pub mod Lone

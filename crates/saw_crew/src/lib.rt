@@ -1,8 +1,15 @@
-//! Runs the batches of a plan over a base at desks.
+//! Runs the batches of a plan over a base, each desk a worker round the lock of their schedule.
 #![tactic(auto)]
 
+mod alike;
+mod based;
+mod ending;
 mod execution;
 mod fault;
+mod locked;
+mod work;
+mod workers;
 
 pub use execution::execute;
 pub use fault::CrewFault;
+pub use workers::workers_at;

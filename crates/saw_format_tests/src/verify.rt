@@ -56,7 +56,7 @@ fn bad_lines_count_from_1(rt: HostRuntime) {
 #[test]
 fn each_batch_is_judged_by_itself(rt: HostRuntime) -> Result<(), Fail> {
     let alloc = rt.alloc();
-    assert!(rt; check_batches(alloc, &[], &DevVerifier, 1)?.is_empty());
+    assert!(rt; check_batches(&rt, alloc, &[], &DevVerifier, 1)?.is_empty());
     let batch = Batch {
         header: Bytes::new(alloc),
         header_signature: Text::new(alloc),
@@ -65,7 +65,7 @@ fn each_batch_is_judged_by_itself(rt: HostRuntime) -> Result<(), Fail> {
     };
     let fault = check_batch(alloc, &batch, &DevVerifier).err();
     assert_eq!(rt; fault, Some(BatchFault::IdText));
-    let judged = check_batches(alloc, &[batch], &DevVerifier, 1)?;
+    let judged = check_batches(&rt, alloc, &[batch], &DevVerifier, 1)?;
     assert_eq!(rt; judged.len(), 1);
     for one in &judged {
         assert!(rt; matches!(one, Judged::Bad(BatchFault::IdText)));

@@ -38,6 +38,7 @@ use saw_station::{Desk, Station};
 use saw_verify::Verifier;
 use std::alloc::{AllocError, Global};
 use std::marker::Model;
+use std::sync::Wait;
 use std::thread::Threads;
 
 /// The accepted blocks, the ids of the branch of each, the maps that they leave, and the head.
@@ -256,7 +257,7 @@ impl<H: NodeHasher> Journal<H> {
     /// Judges the bytes of a block. It is accepted exactly where it has no fault. After a fault of this call the journal is
     /// as before. `Collision` may come in place of a fault of the root, of `Full` and of a verdict. The desks keep their
     /// offers and their remotes.
-    pub fn accept<T: Threads + Sync, V: Verifier, R: Station>(
+    pub fn accept<T: Threads + Wait + Sync, V: Verifier, R: Station>(
         &mut self,
         rt: &T,
         bytes: &[u8],

@@ -15,6 +15,7 @@ use crate::planned::plan_all;
 use crate::run::run;
 use crate::stop::Stop;
 use saw_checks::check_block;
+use saw_crew::workers_at;
 use saw_merkle::{Prepared, State};
 use saw_messages::Change;
 use saw_node::{NodeHash, NodeHasher, root_by};
@@ -24,6 +25,7 @@ use saw_verify::Verifier;
 use saw_wire::Items;
 use std::alloc::{AllocError, Global};
 use std::collections::BTreeMap;
+use std::sync::Wait;
 use std::thread::Threads;
 
 /// What is kept of a block without fault: its record, the changes that lead from the map under the root `before` to the
@@ -52,7 +54,7 @@ fn root_before<H: NodeHasher>(
 }
 
 /// Judges the bytes of a block. It stops at the first fault.
-pub(crate) fn judge<H: NodeHasher, T: Threads + Sync, V: Verifier, R: Station>(
+pub(crate) fn judge<H: NodeHasher, T: Threads + Wait + Sync, V: Verifier, R: Station>(
     rt: &T,
     alloc: Global,
     blocks: &BlockMap,
@@ -76,7 +78,7 @@ pub(crate) fn judge<H: NodeHasher, T: Threads + Sync, V: Verifier, R: Station>(
     ensures cause { IsErrOf result (Stop.Failed JournalFault.PeerFailed)
         → Failed R.faults desks.old desks.new }
 {
-    let checked = check_block(alloc, bytes, verifier, 1)?;
+    let checked = check_block(rt, alloc, bytes, verifier, workers_at(desks))?;
     let parent = parent_of(blocks, &checked.id, &checked.header)?;
     let known = ids_behind(alloc, blocks, ids, &checked.header.previous_block_id)?;
     let plan = plan_all(alloc, &known, checked.batches.as_slice())?;

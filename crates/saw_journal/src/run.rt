@@ -19,7 +19,7 @@ use crate::judge::New;
 use crate::results::{batch_records, test_results};
 use crate::stop::Stop;
 use saw_checks::CheckedBlock;
-use saw_crew::execute;
+use saw_crew::{execute, workers_at};
 use saw_merkle::State;
 use saw_messages::BlockHeader;
 use saw_node::{NodeHash, NodeHasher};
@@ -28,10 +28,11 @@ use saw_receipts::{BlockFault, BlockRecord};
 use saw_schedule::Results;
 use saw_station::{Desk, Station};
 use std::alloc::{AllocError, Global};
-use std::sync::Arc;
+use std::sync::{Arc, Wait};
 use std::thread::Threads;
 
-fn execute_over<H: NodeHasher, R: Station>(
+fn execute_over<H: NodeHasher, T: Threads + Wait + Sync, R: Station>(
+    rt: &T,
     alloc: Global,
     state: &State<H>,
     before: NodeHash,
@@ -57,7 +58,7 @@ fn execute_over<H: NodeHasher, R: Station>(
         None => unreachable!(),
         Some(tree) => {
             let plan = Arc::new(alloc, plan)?;
-            Ok(execute(alloc, plan, &tree, desks)?)
+            Ok(execute(rt, alloc, plan, &tree, desks)?)
         }
     }
 }
@@ -106,7 +107,7 @@ fn record_of(
 }
 
 /// Runs the planned batches of a block over the map under the root `before`. It stops at the tests that need their results.
-pub(crate) fn run<H: NodeHasher, T: Threads + Sync, R: Station>(
+pub(crate) fn run<H: NodeHasher, T: Threads + Wait + Sync, R: Station>(
     rt: &T,
     alloc: Global,
     state: &State<H>,
@@ -128,10 +129,11 @@ pub(crate) fn run<H: NodeHasher, T: Threads + Sync, R: Station>(
     ensures cause { IsErrOf result (Stop.Failed JournalFault.PeerFailed)
         → Failed R.faults desks.old desks.new }
 {
-    let results = execute_over(alloc, state, before, plan, desks)?;
+    let workers = workers_at(desks);
+    let results = execute_over(rt, alloc, state, before, plan, desks)?;
     test_results(&results)?;
     let changes = results.changes(alloc)?;
-    let prepared = state.prepare(rt, &before, changes.as_slice(), 1)?;
+    let prepared = state.prepare(rt, &before, changes.as_slice(), workers)?;
     let root = prepared.root();
     test_root(alloc, &checked.header, root)?;
     let block = record_of(alloc, checked, root, &results)?;

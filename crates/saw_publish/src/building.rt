@@ -1,6 +1,6 @@
 //! The call that builds a candidate.
 
-ghost use Rattle.std.specs.Prelude.{◌≡◌, ◌⊎◌, ◌<◌, ◌+◌, ◌^◌, List, length, option_copied, IfOk, IfSome, IsErrOf, IsSome};
+ghost use Rattle.std.specs.Prelude.{◌≡◌, ◌⊎◌, ◌<◌, ◌≤◌, ◌+◌, ◌^◌, List, length, option_copied, IfOk, IfSome, IsErrOf, IsSome};
 ghost use Rattle.saw_context.specs.Changed.{AreRising};
 ghost use Rattle.saw_crew.specs.Desks.{Failed, HaveSameOffers, KeepsDesks, offers_at};
 ghost use Rattle.saw_merkle.specs.States.{map_at, state_at};
@@ -20,6 +20,7 @@ use crate::fates::{Fate, losses, merged};
 use crate::fault::PublishFault;
 use crate::run::{Ran, run};
 use crate::sift::{Sifted, sift};
+use saw_crew::workers_at;
 use saw_merkle::State;
 use saw_messages::{Batch, encode_block_header};
 use saw_node::{NodeHash, NodeHasher, root_by};
@@ -30,6 +31,7 @@ use saw_verify::{Signer, Verifier};
 use saw_wire::Items;
 use std::alloc::{AllocError, Global};
 use std::collections::BTreeMap;
+use std::sync::Wait;
 use std::thread::Threads;
 
 fn root_behind<H: NodeHasher>(
@@ -72,17 +74,19 @@ fn losses_of(
 }
 
 // Makes the block of batches that were sifted and run.
-fn make<H: NodeHasher, T: Threads + Sync, G: Signer>(
+fn make<H: NodeHasher, T: Threads + Wait + Sync, G: Signer>(
     rt: &T,
     alloc: Global,
     parent: Option<&Parent>,
     state: &State<H>,
     before: &NodeHash,
     signer: &G,
+    workers: u32,
     sifted: Sifted,
     ran: Ran,
 ) -> Result<Candidate, PublishFault>
     requires before { IsSome (state_at state.now before.now) }
+    requires workers { 1 ≤ workers }
     requires rising { AreRising ran.changes }
     requires few { length sifted.fates < 2 ^ 32 }
     requires number { IfSome (option_copied parent) (λ parent. parent.number + 1 < 2 ^ 64) }
@@ -105,7 +109,7 @@ fn make<H: NodeHasher, T: Threads + Sync, G: Signer>(
     if ids.is_empty() {
         return Err(nothing_valid(alloc, fates, more));
     }
-    let root = state.root_after(rt, before, changes.as_slice(), 1)?;
+    let root = state.root_after(rt, before, changes.as_slice(), workers)?;
     let header = header_of(alloc, signer, parent, ids, root)?;
     let header = encode_block_header(alloc, &header)?;
     let signature = signer.sign(&header);
@@ -128,7 +132,7 @@ fn make<H: NodeHasher, T: Threads + Sync, G: Signer>(
 ///
 /// `NothingValid` comes exactly where no batch is applied. `Collision` may come in place of a candidate. The desks keep
 /// their offers and their remotes.
-pub fn build<H: NodeHasher, T: Threads + Sync, V: Verifier, G: Signer, R: Station>(
+pub fn build<H: NodeHasher, T: Threads + Wait + Sync, V: Verifier, G: Signer, R: Station>(
     rt: &T,
     alloc: Global,
     parent: Option<&Parent>,
@@ -152,9 +156,11 @@ pub fn build<H: NodeHasher, T: Threads + Sync, V: Verifier, G: Signer, R: Statio
     ensures cause { IsErrOf result PublishFault.PeerFailed → Failed R.faults desks.old desks.new }
 {
     state.sound();
-    let sifted = sift(alloc, batches, verifier)?;
+    let workers = workers_at(desks);
+    let sifted = sift(rt, alloc, batches, verifier, workers)?;
     let before = root_behind::<H>(alloc, parent)?;
     let ran = run(
+        rt,
         alloc,
         known,
         state,
@@ -162,5 +168,7 @@ pub fn build<H: NodeHasher, T: Threads + Sync, V: Verifier, G: Signer, R: Statio
         sifted.batches.as_slice(),
         desks,
     )?;
-    make(rt, alloc, parent, state, &before, signer, sifted, ran)
+    make(
+        rt, alloc, parent, state, &before, signer, workers, sifted, ran,
+    )
 }

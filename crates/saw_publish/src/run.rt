@@ -26,7 +26,8 @@ use saw_schedule::{BatchResult, Results};
 use saw_station::{Desk, Station};
 use saw_wire::Items;
 use std::alloc::{AllocError, Global};
-use std::sync::Arc;
+use std::sync::{Arc, Wait};
+use std::thread::Threads;
 
 /// The fates of batches that were run, and the changes of those that were applied.
 #[derive(Drop)]
@@ -35,7 +36,8 @@ pub(crate) struct Ran {
     pub(crate) changes: Items<Change>,
 }
 
-fn execute_over<H: NodeHasher, R: Station>(
+fn execute_over<H: NodeHasher, T: Threads + Wait + Sync, R: Station>(
+    rt: &T,
     alloc: Global,
     state: &State<H>,
     before: &NodeHash,
@@ -59,7 +61,7 @@ fn execute_over<H: NodeHasher, R: Station>(
         None => unreachable!(),
         Some(tree) => {
             let plan = Arc::new(alloc, plan)?;
-            Ok(execute(alloc, plan, &tree, desks)?)
+            Ok(execute(rt, alloc, plan, &tree, desks)?)
         }
     }
 }
@@ -87,7 +89,8 @@ fn run_fates(alloc: Global, results: &[BatchResult]) -> Result<Items<Fate>, Allo
 }
 
 /// Runs batches over the map under the root `before`, but for those that the static rules drop.
-pub(crate) fn run<H: NodeHasher, R: Station>(
+pub(crate) fn run<H: NodeHasher, T: Threads + Wait + Sync, R: Station>(
+    rt: &T,
     alloc: Global,
     known: &Known,
     state: &State<H>,
@@ -113,7 +116,7 @@ pub(crate) fn run<H: NodeHasher, R: Station>(
         dropped,
     } = precheck(alloc, known, batches)?;
     let left_out = static_fates(alloc, batches.len() as u32, dropped)?;
-    let results = execute_over(alloc, state, before, plan, desks)?;
+    let results = execute_over(rt, alloc, state, before, plan, desks)?;
     let failed = run_fates(alloc, results.batches.as_slice())?;
     Ok(Ran {
         fates: merged(alloc, left_out, failed)?,

@@ -15,6 +15,7 @@ use saw_receipts::LossCause;
 use saw_verify::Verifier;
 use saw_wire::{Bytes, Items};
 use std::alloc::{AllocError, Global};
+use std::thread::Threads;
 
 /// The most transactions of a candidate.
 const MAX_TRANSACTIONS: usize = 20_000;
@@ -114,16 +115,18 @@ fn test_counts(batches: &[Batch]) -> Result<(), AllocError>
 }
 
 /// Checks the batches of a list, and finds room for them one after another.
-pub(crate) fn sift<V: Verifier>(
+pub(crate) fn sift<T: Threads + Sync, V: Verifier>(
+    rt: &T,
     alloc: Global,
     batches: &[Batch],
     verifier: &V,
+    workers: u32,
 ) -> Result<Sifted, AllocError>
     ensures few { OnOk result (length batches.now < 2 ^ 32) }
     ensures sifted { IfOk result (IsSifted (V.accepts verifier.now) batches.now) }
 {
     test_counts(batches)?;
-    let mut waiting = check_batches(alloc, batches, verifier, 1)?.into_iter();
+    let mut waiting = check_batches(rt, alloc, batches, verifier, workers)?.into_iter();
     let mut sifted = Sifted::new(alloc);
     for batch in batches {
         match waiting.next() {

@@ -15,7 +15,7 @@ use saw_station::{Desk, NoStation};
 use saw_verify::{DevSigner, DevVerifier, Signer};
 use saw_wire::Text;
 use std::alloc::Global;
-use std::sync::Arc;
+use std::sync::{Arc, Wait};
 use std::test::Fail;
 use std::thread::Threads;
 
@@ -32,7 +32,7 @@ fn desk(alloc: Global) -> Result<Desk<NoStation>, Fail> {
 }
 
 /// The candidate of batches before any block.
-fn first<T: Threads + Sync>(
+fn first<T: Threads + Wait + Sync>(
     rt: &T,
     alloc: Global,
     batches: &[Batch],

@@ -1,5 +1,6 @@
 -- What a desk has.
 use Rattle.std.specs.Prelude.{◌≡◌, ℕ, Bool, false, true, List, [], Option, Some, None}
+use Rattle.std.specs.List.{AllByRecursion}
 use Rattle.saw_station.specs.declared.offer.Offer.{Offer}
 
 -- a remote processor or none, and the offers that all remotes have in common
@@ -11,6 +12,13 @@ pub record Place (R : Type 0) : Type 0 where
 abbrev pub IsOpen : {R : Type 0} → (R → Bool) → Option R → List Offer → Type 0
 IsOpen begun None offers = offers ≡ []
 IsOpen begun (Some remote) offers = begun remote ≡ true
+
+-- the built-in processors alone: no remote and no offers
+abbrev pub IsLone : {R : Type 0} → Place R → Type 0
+IsLone desk = (desk.remote ≡ None) × (desk.offers ≡ [])
+
+abbrev pub AreLone : {R : Type 0} → List (Place R) → Type 0
+AreLone desks = AllByRecursion IsLone desks
 
 -- the count of the remote's faults
 abbrev pub faults_by : {R : Type 0} → (R → ℕ) → Option R → ℕ

@@ -1,11 +1,12 @@
 //! A worker's place: the built-in processors, and maybe a remote one.
 
-ghost use Rattle.std.specs.Prelude.{◌≡◌};
+ghost use Rattle.std.specs.Prelude.{◌≡◌, IfOk};
 ghost use Rattle.std.specs.Arc.{arc_value};
 ghost use Rattle.saw_station.specs.DeskPlaces.{IsOpen};
 
 use crate::offer::Offer;
 use crate::station::Station;
+use std::alloc::AllocError;
 use std::marker::Model;
 use std::sync::Arc;
 
@@ -43,5 +44,19 @@ impl<R: Station> Desk<R> {
         ensures { result ≡ self.remote }
     {
         self.remote
+    }
+
+    /// What its remote offers.
+    pub fn offers(&self) -> &[Offer]
+        ensures { result.now ≡ self.now.offers }
+    {
+        self.offers.as_slice()
+    }
+
+    /// The same list, shared.
+    pub fn shared_offers(&self) -> Result<Arc<Vec<Offer>>, AllocError>
+        ensures { IfOk result (λ offers. (arc_value offers).items ≡ self.now.offers) }
+    {
+        self.offers.clone()
     }
 }

@@ -6,6 +6,7 @@ mod builtin;
 mod conversation;
 mod desk;
 mod fault;
+mod lone;
 mod offer;
 mod run;
 mod serving;
@@ -13,6 +14,7 @@ mod station;
 
 pub use desk::Desk;
 pub use fault::StationFault;
+pub use lone::lone_desks;
 pub use offer::Offer;
 pub use run::run_one;
 pub use station::{NoStation, Station};

@@ -13,10 +13,10 @@ use saw_verify::DevVerifier;
 use saw_wire::Text;
 use std::alloc::{AllocError, Global};
 use std::fs;
-use std::sync::Arc;
+use std::sync::{Arc, Wait};
 use std::thread::Threads;
 
-pub(crate) fn lines<T: Threads + Sync, H: NodeHasher>(
+pub(crate) fn lines<T: Threads + Wait + Sync, H: NodeHasher>(
     rt: &T,
     host: &HostRuntime,
     script: &str,
@@ -37,7 +37,7 @@ fn limit_of(line: &str) -> anyhow::Result<u32> {
     Ok(word.parse::<u32>()?)
 }
 
-fn call<T: Threads + Sync, H: NodeHasher>(
+fn call<T: Threads + Wait + Sync, H: NodeHasher>(
     rt: &T,
     host: &HostRuntime,
     journal: &mut Journal<H>,
@@ -63,7 +63,7 @@ fn block_in(host: &HostRuntime, name: &str) -> anyhow::Result<Vec<u8>> {
 }
 
 /// What the journal answers to the bytes of a block.
-fn answer<T: Threads + Sync, H: NodeHasher>(
+fn answer<T: Threads + Wait + Sync, H: NodeHasher>(
     rt: &T,
     alloc: Global,
     journal: &mut Journal<H>,
@@ -78,7 +78,7 @@ fn answer<T: Threads + Sync, H: NodeHasher>(
     Ok(journal.accept(rt, bytes, &DevVerifier, &mut desks))
 }
 
-fn accept<T: Threads + Sync, H: NodeHasher>(
+fn accept<T: Threads + Wait + Sync, H: NodeHasher>(
     rt: &T,
     alloc: Global,
     journal: &mut Journal<H>,

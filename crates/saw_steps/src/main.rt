@@ -17,6 +17,7 @@ use crate::words::NoForm;
 use saw_node::{OneByte, Sha512Half};
 use std::fs;
 use std::process::ExitCode;
+use std::sync::Wait;
 use std::thread::Threads;
 
 /// The kinds of calls, each with a folder of scripts.
@@ -34,7 +35,7 @@ const KINDS: [&str; 10] = [
 ];
 
 /// The lines that a script says, by the kind of its calls.
-fn said<T: Threads + Sync>(
+fn said<T: Threads + Wait + Sync>(
     rt: &T,
     host: &HostRuntime,
     kind: &str,
@@ -44,8 +45,8 @@ fn said<T: Threads + Sync>(
     match kind {
         "access" => access::lines(alloc, script),
         "families" => families::lines(alloc, script),
-        "plans" => plans::lines(alloc, script),
-        "schedules" => schedules::lines(alloc, script),
+        "plans" => plans::lines(rt, alloc, script),
+        "schedules" => schedules::lines(rt, alloc, script),
         "trees" => trees::lines(alloc, script),
         "states" => states::lines(rt, alloc, script),
         "settings" => settings::lines(alloc, script),
@@ -57,7 +58,7 @@ fn said<T: Threads + Sync>(
 }
 
 /// Whether the script of this kind and name says the stored lines.
-fn passes<T: Threads + Sync>(
+fn passes<T: Threads + Wait + Sync>(
     rt: &T,
     host: &HostRuntime,
     kind: &str,
@@ -83,7 +84,7 @@ struct Count {
 }
 
 /// Runs the scripts of a kind: those in the folder of this name.
-fn run_kind<T: Threads + Sync>(
+fn run_kind<T: Threads + Wait + Sync>(
     rt: &T,
     host: &HostRuntime,
     kind: &str,
@@ -104,7 +105,7 @@ fn run_kind<T: Threads + Sync>(
 }
 
 /// Runs all scripts; gives whether all passed.
-fn run_all<T: Threads + Sync>(rt: &T, host: &HostRuntime) -> anyhow::Result<bool> {
+fn run_all<T: Threads + Wait + Sync>(rt: &T, host: &HostRuntime) -> anyhow::Result<bool> {
     let mut count = Count {
         passed: 0,
         failed: 0,

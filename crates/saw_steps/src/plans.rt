@@ -11,12 +11,13 @@ use saw_crew::execute;
 use saw_messages::{Change, Outcome, PlainBase, Tx, TxBatch};
 use saw_plan::{DropCause, Dropped, Known, Plan, Sorted, pairs_predecessors, precheck};
 use saw_schedule::{BatchResult, Results};
-use saw_station::{Desk, NoStation};
+use saw_station::lone_desks;
 use saw_wire::{Items, Text};
 use std::alloc::{AllocError, Global};
 use std::collections::{BTreeMap, BTreeSet};
 use std::mem;
-use std::sync::Arc;
+use std::sync::{Arc, Wait};
+use std::thread::Threads;
 
 /// The ids that are there, the batches, and the transactions of the next one.
 #[derive(Drop)]
@@ -50,17 +51,22 @@ impl Planning {
     }
 }
 
-pub(crate) fn lines(alloc: Global, script: &str) -> anyhow::Result<Vec<u8>> {
+pub(crate) fn lines<T: Threads + Wait + Sync>(
+    rt: &T,
+    alloc: Global,
+    script: &str,
+) -> anyhow::Result<Vec<u8>> {
     let mut planning = Planning::new(alloc);
     let mut out = Vec::new(alloc);
     for line in script.lines() {
-        call(alloc, &mut planning, line, &mut out)?;
+        call(rt, alloc, &mut planning, line, &mut out)?;
     }
     Ok(out)
 }
 
 /// A line of a plan, or a call.
-pub(crate) fn call(
+pub(crate) fn call<T: Threads + Wait + Sync>(
+    rt: &T,
     alloc: Global,
     planning: &mut Planning,
     line: &str,
@@ -93,7 +99,8 @@ pub(crate) fn call(
         }
         ["batch", id] => add_batch(alloc, planning, id),
         ["precheck"] => put_sorted(alloc, planning, out),
-        ["execute"] => put_results(alloc, planning, out),
+        ["execute"] => put_results(rt, alloc, planning, 1, out),
+        ["execute", desks] => put_results(rt, alloc, planning, desks.parse::<u64>()?, out),
         ["precedence"] => put_precedence(alloc, planning, out),
         _ => Err(NoForm.into()),
     }
@@ -225,23 +232,32 @@ fn put_numbers(alloc: Global, out: &mut Vec<u8>, numbers: &[u32]) -> Result<(), 
     Ok(())
 }
 
-/// What comes of the batches over the empty map. They are gone then.
-fn put_results(alloc: Global, planning: &mut Planning, out: &mut Vec<u8>) -> anyhow::Result<()> {
-    let results = results_of(alloc, planning.take_plan(alloc)?)?;
+/// What comes of the batches over the empty map, run at so many desks. They are gone then.
+fn put_results<T: Threads + Wait + Sync>(
+    rt: &T,
+    alloc: Global,
+    planning: &mut Planning,
+    desks: u64,
+    out: &mut Vec<u8>,
+) -> anyhow::Result<()> {
+    let results = results_of(rt, alloc, planning.take_plan(alloc)?, desks)?;
     put_batches(alloc, out, results.batches.as_slice())?;
     Ok(())
 }
 
-fn results_of(alloc: Global, plan: Arc<Plan>) -> anyhow::Result<Results>
+fn results_of<T: Threads + Wait + Sync>(
+    rt: &T,
+    alloc: Global,
+    plan: Arc<Plan>,
+    desks: u64,
+) -> anyhow::Result<Results>
     requires { transactions_in (arc_value plan).batches < 2 ^ 32 }
 {
     let base = PlainBase {
         map: BTreeMap::new(alloc),
     };
-    let offers = Arc::new(alloc, Vec::new(alloc))?;
-    let desk: Desk<NoStation> = Desk::new(None, offers);
-    let mut desks = [desk];
-    Ok(execute(alloc, plan, &base, &mut desks)?)
+    let mut desks = lone_desks(alloc, desks)?;
+    Ok(execute(rt, alloc, plan, &base, &mut desks)?)
 }
 
 /// A line for each batch.

@@ -13,7 +13,8 @@ use saw_schedule::{Difference, Finished, Given, Schedule, Step};
 use saw_station::{Desk, NoStation, run_one};
 use std::alloc::{AllocError, Global};
 use std::collections::{BTreeMap, BTreeSet};
-use std::sync::Arc;
+use std::sync::{Arc, Wait};
+use std::thread::Threads;
 
 /// More rounds than a script takes.
 const MAX_ROUNDS: u32 = 1_000_000_000;
@@ -32,25 +33,35 @@ struct Playing {
     scheduling: Option<Scheduling>,
 }
 
-pub(crate) fn lines(alloc: Global, script: &str) -> anyhow::Result<Vec<u8>> {
+pub(crate) fn lines<T: Threads + Wait + Sync>(
+    rt: &T,
+    alloc: Global,
+    script: &str,
+) -> anyhow::Result<Vec<u8>> {
     let mut playing = Playing {
         planning: Planning::new(alloc),
         scheduling: None,
     };
     let mut out = Vec::new(alloc);
     for line in script.lines() {
-        call(alloc, &mut playing, line, &mut out)?;
+        call(rt, alloc, &mut playing, line, &mut out)?;
     }
     Ok(out)
 }
 
-fn call(alloc: Global, playing: &mut Playing, line: &str, out: &mut Vec<u8>) -> anyhow::Result<()> {
+fn call<T: Threads + Wait + Sync>(
+    rt: &T,
+    alloc: Global,
+    playing: &mut Playing,
+    line: &str,
+    out: &mut Vec<u8>,
+) -> anyhow::Result<()> {
     match line {
         "schedule" => begin(alloc, playing),
         "results" => end(alloc, playing, out),
         _ => match &mut playing.scheduling {
             Some(scheduling) => step(alloc, scheduling, line, out),
-            None => plans::call(alloc, &mut playing.planning, line, out),
+            None => plans::call(rt, alloc, &mut playing.planning, line, out),
         },
     }
 }

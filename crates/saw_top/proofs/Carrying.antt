@@ -119,10 +119,10 @@ unread accepts signing processors (Some wish) before some =
       does = nothing processors before before.shelf wish.task (prepared (world_with accepts signing processors at.0) (Some wish)) (Err runs.Memory) tt (λ bytes left. tt);
     }
 
-module _ (accepts : Accepts) (signing : Signing) (processors : Processors) (task : Task) (list batches : Option (List ℕ)) (before : Outside)
-    (held : End Files) where
+module _ (accepts : Accepts) (signing : Signing) (processors : Processors) (workers : ℕ) (task : Task) (list batches : Option (List ℕ))
+    (before : Outside) (held : End Files) where
   abbrev wish : Option Wish
-  wish = Some (record { task = task; list = list; batches = batches })
+  wish = Some (record { workers = workers; task = task; list = list; batches = batches })
 
   abbrev asked : Outside
   asked = record before { shelf = held }

@@ -23,7 +23,7 @@ use Rattle.saw_receipts.specs.declared.block.BlockRecord.{BlockRecord}
 use Rattle.saw_receipts.specs.declared.verdict.Verdict.{Verdict}
 use Rattle.saw_receipts.specs.declared.verdict.Verdict.TheVariants.{Committed, Stored, Refused}
 use Rattle.saw_receipts.specs.Verdicts.{is_accepted}
-use Rattle.saw_station.specs.DeskPlaces.{Place, faults_by}
+use Rattle.saw_station.specs.DeskPlaces.{AreLone, Place, faults_by}
 use Rattle.saw_intkey.specs.Actions as intkey
 use Rattle.saw_settings.specs.Actions as settings
 use Rattle.saw_station.specs.Serving.{is_family, is_offered, processors_at}
@@ -84,22 +84,23 @@ none_left before None same none = refl
 none_left None (Some remote) same none = absurd cc
 none_left (Some later) (Some remote) same none = absurd cc
 
-none_counted : {R : Type 0} (faults : R → ℕ) (remote : Option R) (offers : List Offer) → remote ≡ None
-    → counts_of faults (record { remote = remote; offers = offers } ∷ []) ≡ []
-none_counted faults None offers none = refl
-none_counted faults (Some remote) offers none = absurd cc
+module _ {R : Type 0} (faults : R → ℕ) (offered : R → List Offer) where
+  none_counted : (remote : Option R) (offers : List Offer) (desks : List (Place R)) → remote ≡ None → counts_of faults desks ≡ []
+      → counts_of faults (record { remote = remote; offers = offers } ∷ desks) ≡ []
+  none_counted None offers desks none rest = rest
+  none_counted (Some remote) offers desks none rest = absurd cc
 
--- a desk without a remote counts nothing, also later
-pub lone_counts : {R : Type 0} (faults : R → ℕ) (offered : R → List Offer) (desk : Place R) (news : List (Place R)) → desk.remote ≡ None
-    → KeepsDesks faults offered (desk ∷ []) news
-    → (counts_of faults (desk ∷ []) ≡ []) × (counts_of faults news ≡ [])
-lone_counts faults offered desk [] none keeps = absurd keeps
-lone_counts faults offered desk (new ∷ []) none keeps = (
-  none_counted faults desk.remote desk.offers none,
-  none_counted faults new.remote new.offers
-      (none_left desk.remote new.remote keeps.0.remote none),
-)
-lone_counts faults offered desk (new ∷ (other ∷ others)) none keeps = absurd keeps.1
+  -- desks without remotes count nothing, also later
+  pub lone_counts : (desks news : List (Place R)) → AreLone desks → KeepsDesks faults offered desks news
+      → (counts_of faults desks ≡ []) × (counts_of faults news ≡ [])
+  lone_counts [] [] lone keeps = (refl, refl)
+  lone_counts [] (new ∷ news) lone keeps = absurd keeps
+  lone_counts (desk ∷ desks) [] lone keeps = absurd keeps
+  lone_counts (desk ∷ desks) (new ∷ news) lone keeps =
+      let rest = lone_counts desks news lone.1 keeps.1 in (
+        none_counted desk.remote desk.offers desks lone.0.0 rest.0,
+        none_counted new.remote new.offers news (none_left desk.remote new.remote keeps.0.remote lone.0.0) rest.1,
+      )
 
 -- ---- all is told
 

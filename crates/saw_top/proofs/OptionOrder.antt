@@ -11,7 +11,7 @@ use Rattle.std.proofs.lemmas.List.{map-append}
 use Rattle.std.proofs.lemmas.Slice.Eq.{bytes_eq-Decides}
 use mathlib.Core.Path.{fun_ext}
 use Rattle.saw_messages.specs.Distinct.{are_distinct}
-use Rattle.saw_top.specs.Command.{Given, Wish, of_names, asks, attest, batch, batch_at, batches, candidate_of, prefix, state_under, are_of, given_in, is_joined, is_known, names_of, value_of}
+use Rattle.saw_top.specs.Command.{Given, Wish, of_names, asks, attest, batch, batch_at, batches, by_workers, candidate_of, workers, prefix, state_under, are_of, given_in, is_joined, is_known, names_of, value_of}
 use Rattle.saw_top.specs.Command.{wish_with}
 use Rattle.saw_top.specs.declared.task.Ending.TheVariants.{Head, Receipts}
 use Rattle.saw_top.specs.declared.task.Lines.TheVariants.{All, Refused}
@@ -115,9 +115,9 @@ pub order_of_options_does_not_show : (word : List ℕ) (before after : List Give
     → wish_with word (Some (before ++ one ∷ other ∷ after)) ≡ wish_with word (Some (before ++ other ∷ one ∷ after))
 order_of_options_does_not_show word before after one other =
     rw (
-      made_swapped (attest ∷ []) (λ value. Some (asks All Head (value attest))) before after one other,
-      made_swapped (attest ∷ prefix ∷ []) (λ value. state_under (unwrap_or (value prefix) []) (value attest)) before after one other,
-      made_swapped (attest ∷ batches ∷ []) (λ value. candidate_of (value batches) (value attest)) before after one other,
-      made_swapped (attest ∷ []) (λ value. Some (asks Refused Receipts (value attest))) before after one other,
-      made_swapped (attest ∷ batch ∷ []) (λ value. batch_at (value batch) (value attest)) before after one other,
+      made_swapped (workers ∷ attest ∷ []) (λ value. by_workers (value workers) (λ count. Some (asks count All Head (value attest)))) before after one other,
+      made_swapped (workers ∷ attest ∷ prefix ∷ []) (λ value. by_workers (value workers) (state_under (unwrap_or (value prefix) []) (value attest))) before after one other,
+      made_swapped (workers ∷ attest ∷ batches ∷ []) (λ value. by_workers (value workers) (candidate_of (value batches) (value attest))) before after one other,
+      made_swapped (workers ∷ attest ∷ []) (λ value. by_workers (value workers) (λ count. Some (asks count Refused Receipts (value attest)))) before after one other,
+      made_swapped (workers ∷ attest ∷ batch ∷ []) (λ value. by_workers (value workers) (batch_at (value batch) (value attest))) before after one other,
     ) refl

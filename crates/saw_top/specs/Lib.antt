@@ -5,6 +5,7 @@ pub mod Clashing
 pub mod KeptBlocks
 pub mod Reports
 pub mod Listing
+pub mod Numbers
 pub mod Command
 pub mod Options
 pub mod Wishes

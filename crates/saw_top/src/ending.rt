@@ -30,11 +30,19 @@ use saw_report::{RunFault, head_line};
 use saw_station::{Desk, Station};
 use saw_verify::{Signer, Verifier};
 use std::alloc::Global;
+use std::sync::Wait;
 use std::thread::Threads;
 
 /// Writes the end, and gives the status. After a fault a part of it was written. The desks keep their offers and their
 /// remotes.
-pub(crate) fn finish<T: Threads + Sync, O: Sink, N: Sink, V: Verifier, G: Signer, R: Station>(
+pub(crate) fn finish<
+    T: Threads + Wait + Sync,
+    O: Sink,
+    N: Sink,
+    V: Verifier,
+    G: Signer,
+    R: Station,
+>(
     rt: &T,
     alloc: Global,
     output: &mut O,

@@ -21,10 +21,11 @@ use saw_report::{RunFault, verdict_line};
 use saw_station::{Desk, Station};
 use saw_verify::Verifier;
 use std::alloc::Global;
+use std::sync::Wait;
 use std::thread::Threads;
 
 /// Judges the bytes of a block. After a fault the journal is as before. The desks keep their offers and their remotes.
-pub(crate) fn judge<T: Threads + Sync, R: Station, V: Verifier>(
+pub(crate) fn judge<T: Threads + Wait + Sync, R: Station, V: Verifier>(
     rt: &T,
     journal: &mut Journal<Sha512Half>,
     desks: &mut [Desk<R>],

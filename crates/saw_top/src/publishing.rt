@@ -29,6 +29,7 @@ use saw_station::{Desk, Station};
 use saw_verify::{Signer, Verifier};
 use saw_wire::Items;
 use std::alloc::Global;
+use std::sync::Wait;
 use std::thread::Threads;
 
 /// A candidate's block, if a batch is applied, and the batches that are left out.
@@ -46,7 +47,7 @@ fn few(journal: &Journal<Sha512Half>)
 }
 
 // Builds a candidate behind the head.
-fn make<T: Threads + Sync, V: Verifier, G: Signer, R: Station>(
+fn make<T: Threads + Wait + Sync, V: Verifier, G: Signer, R: Station>(
     rt: &T,
     alloc: Global,
     journal: &Journal<Sha512Half>,
@@ -140,7 +141,14 @@ fn tell<O: Sink, N: Sink>(
 
 /// Publishes a candidate of waiting batches behind the head, tells those that it leaves out, and gives the status. The
 /// desks keep their offers and their remotes.
-pub(crate) fn publish<T: Threads + Sync, O: Sink, N: Sink, V: Verifier, G: Signer, R: Station>(
+pub(crate) fn publish<
+    T: Threads + Wait + Sync,
+    O: Sink,
+    N: Sink,
+    V: Verifier,
+    G: Signer,
+    R: Station,
+>(
     rt: &T,
     alloc: Global,
     output: &mut O,

@@ -25,6 +25,7 @@ use saw_report::RunFault;
 use saw_station::{Desk, Station};
 use saw_verify::Verifier;
 use std::alloc::Global;
+use std::sync::Wait;
 use std::thread::Threads;
 
 /// The most bytes of a frame's content.
@@ -57,7 +58,7 @@ fn has_ended<S: Source>(input: &mut S) -> Result<bool, RunFault>
 
 /// Judges the blocks of the input one by one, writes their lines, and tells whether one was refused. The desks keep their
 /// offers and their remotes.
-pub(crate) fn judge_stream<T: Threads + Sync, S: Source, O: Sink, V: Verifier, R: Station>(
+pub(crate) fn judge_stream<T: Threads + Wait + Sync, S: Source, O: Sink, V: Verifier, R: Station>(
     rt: &T,
     alloc: Global,
     input: &mut S,

@@ -27,10 +27,11 @@ use saw_report::RunFault;
 use saw_station::{Desk, Station};
 use saw_verify::{Signer, Verifier};
 use std::alloc::Global;
+use std::sync::Wait;
 use std::thread::Threads;
 
 // Judges the blocks of the input, and writes their lines where they belong.
-fn judge_lines<T: Threads + Sync, S: Source, O: Sink, N: Sink, V: Verifier, R: Station>(
+fn judge_lines<T: Threads + Wait + Sync, S: Source, O: Sink, N: Sink, V: Verifier, R: Station>(
     rt: &T,
     alloc: Global,
     lines: Lines,
@@ -79,7 +80,7 @@ fn judge_lines<T: Threads + Sync, S: Source, O: Sink, N: Sink, V: Verifier, R: S
 
 /// Does a task over the blocks of the input. The desks keep their offers and their remotes.
 pub(crate) fn do_task<
-    T: Threads + Sync,
+    T: Threads + Wait + Sync,
     S: Source,
     O: Sink,
     N: Sink,

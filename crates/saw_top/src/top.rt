@@ -1,6 +1,6 @@
 //! The top call.
 
-ghost use Rattle.std.specs.Prelude.{◌≡◌, [], None, map, string_bytes, IfOk};
+ghost use Rattle.std.specs.Prelude.{[], map, string_bytes};
 ghost use Rattle.saw_publish.specs.Candidates.{Signing};
 ghost use Rattle.saw_station.specs.Serving.{alone};
 ghost use Rattle.saw_top.specs.Command.{wish_of};
@@ -15,23 +15,22 @@ use crate::prepare::prepare;
 use crate::tasks::do_task;
 use saw_io::{Shelf, Sink, Source};
 use saw_report::RunFault;
-use saw_station::{Desk, NoStation};
+use saw_station::lone_desks;
 use saw_verify::{Signer, Verifier};
-use std::alloc::{AllocError, Global};
-use std::sync::Arc;
+use std::alloc::Global;
+use std::sync::Wait;
 use std::thread::Threads;
 
-// A desk of the built-in processors alone.
-fn lone_desk(alloc: Global) -> Result<Desk<NoStation>, AllocError>
-    ensures remote { IfOk result (λ desk. desk.remote ≡ None) }
-    ensures offers { IfOk result (λ desk. desk.offers ≡ []) }
-{
-    let offers = Arc::new(alloc, Vec::new(alloc))?;
-    Ok(Desk::new(None, offers))
-}
-
 // Does what the words ask for.
-fn carry_out<T: Threads + Sync, S: Source, O: Sink, N: Sink, F: Shelf, V: Verifier, G: Signer>(
+fn carry_out<
+    T: Threads + Wait + Sync,
+    S: Source,
+    O: Sink,
+    N: Sink,
+    F: Shelf,
+    V: Verifier,
+    G: Signer,
+>(
     rt: &T,
     alloc: Global,
     words: &[String],
@@ -52,12 +51,13 @@ fn carry_out<T: Threads + Sync, S: Source, O: Sink, N: Sink, F: Shelf, V: Verifi
         return Err(RunFault::Words);
     };
     let Command {
+        workers,
         task,
         attest,
         batches,
     } = command;
     let ready = prepare(alloc, attest, batches, shelf, verifier)?;
-    let mut desks = [lone_desk(alloc)?];
+    let mut desks = lone_desks(alloc, workers)?;
     do_task(
         rt,
         alloc,
@@ -78,15 +78,15 @@ fn carry_out<T: Threads + Sync, S: Source, O: Sink, N: Sink, F: Shelf, V: Verifi
 /// `apply` writes a line for each block and then the head's. The others tell the refused blocks on the notes: `state` writes
 /// the entries of the head's state, `receipts` the receipts of the head's branch, a line each, and `status --batch ID` the
 /// block of that branch that holds the batch, or `UNKNOWN`. `publish --batches NAME` tells which batches of that list it leaves
-/// out, and writes a frame with the block of the others behind the head, if one is applied. Each takes `--attest NAME`, and
-/// `state` takes `--prefix P`. The attestation list is fetched before the batch list, and a file that both name once.
+/// out, and writes a frame with the block of the others behind the head, if one is applied. Each takes `--workers N` (1 to
+/// 64; 4 where none is given), which shows in no answer, and `--attest NAME`; `state` takes `--prefix P`. The attestation
+/// list is fetched before the batch list, and a file that both name once.
 ///
 /// The status is 0 where all was done, and of `apply` and `publish` 1 where a block was refused, of `publish` also where no
-/// batch is applied; 2 for words of no form; 3 for a stream
-/// that is none; 4 where reading failed, 5 where writing failed, 7 where memory was refused; 8 where there is nothing to
-/// list, or no block that holds the batch; 9 where two different nodes of one hash were met; 10 where no more blocks can be
-/// accepted; 11 for a list that is missing, too long, not read or bad.
-pub fn run<T: Threads + Sync, S: Source, O: Sink, N: Sink, F: Shelf, V: Verifier, G: Signer>(
+/// batch is applied; 2 for words of no form; 3 for a stream that is none; 4 where reading failed, 5 where writing failed, 7
+/// where memory was refused; 8 where there is nothing to list, or no block that holds the batch; 9 where two different nodes
+/// of one hash were met; 10 where no more blocks can be accepted; 11 for a list that is missing, too long, not read or bad.
+pub fn run<T: Threads + Wait + Sync, S: Source, O: Sink, N: Sink, F: Shelf, V: Verifier, G: Signer>(
     rt: &T,
     alloc: Global,
     words: &[String],

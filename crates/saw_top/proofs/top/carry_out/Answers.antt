@@ -1,8 +1,11 @@
-use Rattle.std.proofs.Common.{[], true, refl, sym}
+use Rattle.std.proofs.Common.{List, [], true, refl, sym, subst}
 use Rattle.std.proofs.lemmas.Result.{err_from_is_err_and}
 use Rattle.std.specs.Prelude.{option_map}
 use Rattle.saw_messages.specs.declared.outcome.Reason.TheVariants.{Remote}
 use Rattle.saw_messages.specs.declared.talk.Action.TheVariants as actions
+use Rattle.saw_crew.proofs.Lone.{lone_alike, lone_offers}
+use Rattle.saw_crew.specs.Desks.{offers_at}
+use Rattle.saw_station.specs.DeskPlaces.{AreLone, Place}
 use Rattle.saw_station.specs.Serving.{alone, processors_at}
 use Rattle.saw_station.specs.declared.station.NoStation.{NoStation}
 use Rattle.saw_top.specs.Outside.{outside, outside_with, shelf_end}
@@ -38,21 +41,21 @@ returns-in_err-ready g c =
     let asked = rw c.in-Some.is at c.in_ok-command.ensures.ok in
     record {
       carries = rw (p.1, p.2, ← asked)
-          (unprepared (g.V.Verifier.accepts c.args.verifier.now) signing (alone []) command.task (option_map (λ name. name.now) command.attest)
+          (unprepared (g.V.Verifier.accepts c.args.verifier.now) signing (alone []) command.workers command.task (option_map (λ name. name.now) command.attest)
           (option_map (λ name. name.now) command.batches)
           (outside g.S.Source g.O.Sink g.N.Sink g.F.Shelf c.args.input.now c.args.output.now c.args.notes.now c.args.shelf.now)
           (shelf_end g.F.Shelf c.prepare.new.shelf) c.in_err-ready.field-0.0 (c.in_err-ready.ensures.prepares signing));
     }
 
-pub returns-in_err-lone_desk : goal.returns-in_err-lone_desk
-returns-in_err-lone_desk g c =
+pub returns-in_err-desks : goal.returns-in_err-desks
+returns-in_err-desks g c =
     let signing = signs (g.G.Signer.key_text c.args.signer.now) (g.G.Signer.signature c.args.signer.now) in
-    let p = err_from_is_err_and c.from_residual-in_err-lone_desk.result c.from_residual-in_err-lone_desk.ensures.1 in
+    let p = err_from_is_err_and c.from_residual-in_err-desks.result c.from_residual-in_err-desks.ensures.1 in
     let command = c.in-Some.command in
     let asked = rw c.in-Some.is at c.in_ok-command.ensures.ok in
     record {
       carries = rw (p.1, p.2, ← asked)
-          (deskless (g.V.Verifier.accepts c.args.verifier.now) signing (alone []) command.task (option_map (λ name. name.now) command.attest)
+          (deskless (g.V.Verifier.accepts c.args.verifier.now) signing (alone []) command.workers command.task (option_map (λ name. name.now) command.attest)
           (option_map (λ name. name.now) command.batches)
           (outside g.S.Source g.O.Sink g.N.Sink g.F.Shelf c.args.input.now c.args.output.now c.args.notes.now c.args.shelf.now)
           (shelf_end g.F.Shelf c.prepare.new.shelf) _ (c.in_ok-ready.ensures.prepares signing));
@@ -64,17 +67,18 @@ returns g c =
     let command = c.in-Some.command in
     let asked = rw c.in-Some.is at c.in_ok-command.ensures.ok in
     let at = processors_at (λ tx turns. actions.Invalid Remote) true in
-    let counts = lone_counts (λ (r : NoStation). 0) (λ (r : NoStation). []) c.in_ok-lone_desk.field-0 c.do_task.new.desks
-    c.in_ok-lone_desk.ensures.remote c.do_task.ensures.desks in
+    let desks = c.deref_mut.result.now in
+    let lone : AreLone desks = subst (λ (l : List (Place NoStation)). AreLone l) (sym c.deref_mut.ensures.value) c.in_ok-desks.ensures.lone in
+    let counts = lone_counts (λ (r : NoStation). 0) (λ (r : NoStation). []) desks c.do_task.new.desks lone c.do_task.ensures.desks in
     record {
       carries = rw (← asked)
-          (with_ready (g.V.Verifier.accepts c.args.verifier.now) signing (alone []) command.task (option_map (λ name. name.now) command.attest)
+          (with_ready (g.V.Verifier.accepts c.args.verifier.now) signing (alone []) command.workers command.task (option_map (λ name. name.now) command.attest)
           (option_map (λ name. name.now) command.batches)
           (outside g.S.Source g.O.Sink g.N.Sink g.F.Shelf c.args.input.now c.args.output.now c.args.notes.now c.args.shelf.now)
           (shelf_end g.F.Shelf c.prepare.new.shelf) _ (c.in_ok-ready.ensures.prepares signing)
           (outside g.S.Source g.O.Sink g.N.Sink g.F.Shelf c.do_task.new.input c.do_task.new.output c.do_task.new.notes c.prepare.new.shelf)
           c.do_task.result refl
-          (λ from to. without_remotes at c.in_ok-lone_desk.field-0.offers c.in_ok-lone_desk.ensures.offers _ _ counts.0 counts.1 command.task _
+          (λ from to. without_remotes at (offers_at desks) (lone_offers desks lone) _ _ counts.0 counts.1 command.task _
           (outside_with g.S.Source g.O.Sink g.N.Sink c.args.input.now c.args.output.now c.args.notes.now from [])
           (outside_with g.S.Source g.O.Sink g.N.Sink c.do_task.new.input c.do_task.new.output c.do_task.new.notes to []) c.do_task.result
           (rw c.as_slice.ensures at (c.do_task.ensures.does from to))));

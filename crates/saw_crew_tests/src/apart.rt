@@ -1,0 +1,67 @@
+//! Batches of one transaction each, at addresses of their own.
+
+use saw_messages::{TransactionHeader, Tx, TxBatch, encode_transaction_header};
+use saw_plan::Plan;
+use saw_station::Offer;
+use saw_wire::{Bytes, Items, Text};
+use std::alloc::{AllocError, Global};
+use std::sync::Arc;
+use std::test::Fail;
+
+/// The family that the stations serve.
+const FAMILY: &str = "meeting";
+
+/// The first digits of the addresses; the digit of a transaction makes them whole.
+const FRONT: &str = "000000000000000000000000000000000000000000000000000000000000000000000";
+
+pub(crate) fn offers(alloc: Global) -> Result<Arc<Vec<Offer>>, AllocError> {
+    let mut offers = Vec::new(alloc);
+    let family = Text::from_str(alloc, FAMILY)?;
+    let version = Text::from_str(alloc, "1.0")?;
+    offers.push(Offer { family, version })?;
+    Ok(Arc::new(alloc, offers)?)
+}
+
+fn addresses(alloc: Global, digit: &str) -> Result<Items<Text>, AllocError> {
+    let mut texts = Items::new(alloc);
+    let address = format!(in alloc; "{FRONT}{digit}")?;
+    texts.push(Text::from_str(alloc, address.as_str())?)?;
+    Ok(texts)
+}
+
+fn header(alloc: Global, digit: &str) -> Result<TransactionHeader, AllocError> {
+    Ok(TransactionHeader {
+        batcher_public_key: Text::new(alloc),
+        dependencies: Items::new(alloc),
+        family_name: Text::from_str(alloc, FAMILY)?,
+        family_version: Text::from_str(alloc, "1.0")?,
+        inputs: addresses(alloc, digit)?,
+        nonce: Text::new(alloc),
+        outputs: addresses(alloc, digit)?,
+        payload_sha512: Text::new(alloc),
+        signer_public_key: Text::from_str(alloc, "K")?,
+    })
+}
+
+/// A batch of the transaction of this digit.
+fn batch(alloc: Global, digit: &str) -> Result<TxBatch, Fail> {
+    let id = Text::from_str(alloc, digit)?;
+    let header = encode_transaction_header(alloc, &header(alloc, digit)?)?;
+    let tx = Tx::read(alloc, id, Bytes::from_vec(header), Bytes::new(alloc))?;
+    let mut txs = Items::new(alloc);
+    txs.push(Arc::new(alloc, tx)?)?;
+    Ok(TxBatch {
+        id: Text::from_str(alloc, digit)?,
+        signer: Text::new(alloc),
+        txs,
+    })
+}
+
+/// The plan of a batch for each digit.
+pub(crate) fn plan(alloc: Global, digits: &[&str]) -> Result<Plan, Fail> {
+    let mut batches = Items::new(alloc);
+    for digit in digits {
+        batches.push(batch(alloc, digit)?)?;
+    }
+    Ok(Plan { batches })
+}
