@@ -51,25 +51,29 @@ def stream(names, blocks, size, turns):
     return out, first + blocks
 
 
-def measure(program, frames, count):
-    """The seconds of processor and the peak of memory, in KiB, of one run."""
-    with tempfile.TemporaryFile() as file, tempfile.TemporaryFile() as output:
+def measure(program, frames, first):
+    """The seconds of processor and the peak of memory, in KiB, of one run; the lines, and the wall time of a later block."""
+    times = []
+    with tempfile.TemporaryFile() as file:
         file.write(frames)
         file.seek(0)
-        child = subprocess.Popen([program, "apply"], stdin=file, stdout=output)
+        child = subprocess.Popen([program, "apply"], stdin=file, stdout=subprocess.PIPE)
+        for _ in child.stdout:
+            times.append(time.monotonic())
         _, status, usage = os.wait4(child.pid, 0)
-        output.seek(0)
-        told = output.read().decode().splitlines()
-    fine = os.waitstatus_to_exitcode(status) == 0 and len(told) == count + 1
-    return usage.ru_utime + usage.ru_stime, usage.ru_maxrss, fine
+    fine = os.waitstatus_to_exitcode(status) == 0
+    # Each block has its line before the next frame is read; the last line is the head's.
+    later = (times[-2] - times[first - 1]) / max(len(times) - 1 - first, 1)
+    return usage.ru_utime + usage.ru_stime, usage.ru_maxrss, len(times) if fine else 0, later
 
 
 def main():
     names, blocks, size, turns = (int(word) for word in sys.argv[1:5])
     frames, count = stream(names, blocks, size, turns)
     for program in sys.argv[5:]:
-        seconds, memory, fine = measure(program, frames, count)
-        print(f"{program}: {seconds:.3f} s, {memory} KiB{'' if fine else ', NOT AS EXPECTED'}")
+        seconds, memory, lines, later = measure(program, frames, count - blocks)
+        told = "" if lines == count + 1 else ", NOT AS EXPECTED"
+        print(f"{program}: {seconds:.3f} s, {memory} KiB, {1000 * later:.2f} ms a later block{told}")
 
 
 if __name__ == "__main__":

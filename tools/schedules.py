@@ -269,7 +269,8 @@ def three_hundred():
     batches = drawn(300, 20, 3)
     lines = serial(batches)
     plan = batched(*[[counting(*tx) for tx in txs] for txs in batches])
-    yield "plans", "three-hundred", plan + [("execute", "\n".join(lines))]
+    for name, call in [("three-hundred", "execute"), ("three-hundred-by-three", "execute 3"), ("three-hundred-by-eight", "execute 8")]:
+        yield "plans", name, plan + [(call, "\n".join(lines))]
     for name, call in [("one-at-a-time", "drain"), ("five-at-once", "drain 5"), ("all-at-once", "drain 300")]:
         yield scheduled(f"three-hundred-{name}", plan, [("finished", "no"), (call, "")], lines)
 

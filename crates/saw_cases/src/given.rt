@@ -55,14 +55,37 @@ fn bytes_of(rt: &HostRuntime, path: &str) -> io::Result<Option<Vec<u8>>> {
     }
 }
 
+fn put_zeros(out: &mut Vec<u8>, count: usize) -> Result<(), AllocError> {
+    out.resize(out.len().saturating_add(count), 0)
+}
+
+/// The bytes with zeros among them: of each two numbers the first is a place in the bytes, and the second how many zeros
+/// stand before it.
+fn with_zeros(alloc: Global, bytes: &[u8], runs: &[u64]) -> Result<Vec<u8>, AllocError> {
+    let mut out = Vec::new(alloc);
+    let mut done = 0;
+    for run in runs.chunks_exact(2) {
+        if let [at, count] = run {
+            let at = *at as usize;
+            out.extend_from_slice(bytes.get(done..at).unwrap_or(&[]))?;
+            put_zeros(&mut out, *count as usize)?;
+            done = at;
+        }
+    }
+    out.extend_from_slice(bytes.get(done..).unwrap_or(&[]))?;
+    Ok(out)
+}
+
 /// The files of a case that its words name.
 fn files_of(rt: &HostRuntime, case: &str, words: &[String]) -> io::Result<BTreeMap<Text, Vec<u8>>> {
     let alloc = rt.alloc();
+    let zeros = numbers_of(rt, case, "zeros")?;
     let mut files = BTreeMap::new(alloc);
     for word in words {
         let name = named(word.as_str());
         let path = format!(in alloc; "cases/{case}/files/{name}")?;
         if let Some(bytes) = bytes_of(rt, path.as_str())? {
+            let bytes = with_zeros(alloc, &bytes, &zeros)?;
             let _ = files.insert(Text::from_str(alloc, name)?, bytes)?;
         }
     }

@@ -42,7 +42,8 @@ pub fn execute<B: Base, R: Station, T: Threads + Wait + Sync>(
     ensures cause { IsErrOf result CrewFault.PeerFailed → Failed R.faults desks.old desks.new }
 {
     let schedule = Schedule::new(alloc, plan.clone()?)?;
-    let locked = Mutex::new(Locked::<R>::new(schedule, desks[0].shared_offers()?));
+    let shared = desks[0].shared_offers()?;
+    let locked = Mutex::new(Locked::<R>::new(schedule, shared, desks.len()));
     all_work(rt, alloc, desks, &locked, base);
     let first = &mut desks[0];
     let offers = first.offers();

@@ -2,6 +2,7 @@
 
 ghost use Rattle.std.specs.Prelude.{◌≡◌, []};
 ghost use Rattle.std.specs.Arc.{arc_value};
+ghost use Rattle.std.specs.List.{AllByRecursion};
 ghost use Rattle.saw_context.specs.SoundResults.{IsSoundDone};
 ghost use Rattle.saw_crew.specs.Stored.{AllSound};
 ghost use Rattle.saw_station.specs.Serving.{processors_at};
@@ -14,14 +15,23 @@ use std::alloc::{AllocError, Global};
 use std::marker::{Model, PhantomData};
 use std::sync::Arc;
 
+/// The most jobs that a worker takes at once.
+const MOST: usize = 16;
+
+// How many jobs each of so many workers takes at once, of so many batches: few enough that all find some until the end.
+fn share_of(batches: usize, workers: usize) -> usize {
+    (batches / workers.saturating_mul(4).max(1)).clamp(1, MOST)
+}
+
 /// A schedule and the offers of the first desk. Each result that it stores is true for the station type and these
 /// offers.
 #[derive(Drop)]
 pub(crate) struct Locked<R: Station> {
     schedule: Schedule,
     offers: Arc<Vec<Offer>>,
-    // How many jobs are in hand. It only says whether a worker waits.
+    // How many jobs are in hand, and how many a worker takes at once. No clause rests on them.
     running: usize,
+    share: usize,
     of: PhantomData<R>,
 }
 
@@ -38,20 +48,21 @@ impl<R: Station> Model for Locked<R> {
 }
 
 impl<R: Station> Locked<R> {
-    /// A schedule of which nothing was taken yet.
-    pub(crate) fn new(schedule: Schedule, offers: Arc<Vec<Offer>>) -> Self
+    /// A schedule of which nothing was taken yet, for so many workers.
+    pub(crate) fn new(schedule: Schedule, offers: Arc<Vec<Offer>>, workers: usize) -> Self
         requires { schedule.steps ≡ [] }
     {
+        let share = share_of(schedule.plan().batches.len(), workers);
         Locked {
             schedule,
             offers,
             running: 0,
+            share,
             of: PhantomData,
         }
     }
 
-    /// A job, where one may be taken.
-    pub(crate) fn take(&mut self, alloc: Global) -> Result<Option<Job>, AllocError> {
+    fn take(&mut self, alloc: Global) -> Result<Option<Job>, AllocError> {
         let job = self.schedule.take(alloc)?;
         if job.is_some() {
             self.running = self.running.saturating_add(1);
@@ -59,13 +70,35 @@ impl<R: Station> Locked<R> {
         Ok(job)
     }
 
+    // Puts a job that was taken to others; there is room for it.
+    fn put(&mut self, jobs: &mut Vec<Job>, job: Job) {
+        let ticket = job.ticket;
+        if jobs.push(job).is_err() {
+            self.give_back(ticket);
+        }
+    }
+
+    /// Jobs that may be taken, a worker's share of them; or none.
+    pub(crate) fn take_some(&mut self, alloc: Global) -> Result<Vec<Job>, AllocError> {
+        let mut jobs = Vec::with_capacity(alloc, self.share)?;
+        for _ in 0..self.share {
+            match self.take(alloc) {
+                Ok(Some(job)) => self.put(&mut jobs, job),
+                Ok(None) => return Ok(jobs),
+                Err(fault) if jobs.is_empty() => return Err(fault),
+                Err(_) => return Ok(jobs),
+            }
+        }
+        Ok(jobs)
+    }
+
     /// Whether no job is in hand.
     pub(crate) fn is_quiet(&self) -> bool {
         self.running == 0
     }
 
-    /// Stores a result where the offers that it was made by are those behind the lock; else gives the job back.
-    pub(crate) fn finish(&mut self, offers: &[Offer], done: Done) -> bool
+    // Stores a result where the offers that it was made by are those behind the lock; else gives the job back.
+    fn finish(&mut self, offers: &[Offer], done: Done) -> bool
         requires { IsSoundDone (processors_at R.next R.tells offers.now) done }
     {
         if !same_offers(&self.offers, offers) {
@@ -77,10 +110,27 @@ impl<R: Station> Locked<R> {
         true
     }
 
-    /// Gives a job back.
-    pub(crate) fn give_back(&mut self, ticket: Ticket) {
+    /// Stores results that were made by these offers. Whether all were stored.
+    pub(crate) fn finish_all(&mut self, offers: &[Offer], done: Vec<Done>) -> bool
+        requires { AllByRecursion (IsSoundDone (processors_at R.next R.tells offers.now)) done.items }
+    {
+        let mut kept = true;
+        for one in done {
+            kept = self.finish(offers, one) && kept;
+        }
+        kept
+    }
+
+    fn give_back(&mut self, ticket: Ticket) {
         self.running = self.running.saturating_sub(1);
         let _ = self.schedule.give_back(ticket);
+    }
+
+    /// Gives back the jobs behind the first so many of these.
+    pub(crate) fn give_others_back(&mut self, jobs: &[Job], count: usize) {
+        for job in jobs.iter().skip(count) {
+            self.give_back(job.ticket);
+        }
     }
 
     /// The schedule and the offers.

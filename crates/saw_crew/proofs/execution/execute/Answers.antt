@@ -18,8 +18,8 @@ returns-in_err-clone-clause-desks g c = keep_all g.R.Station.faults g.R.Station.
 pub returns-in_err-schedule-clause-desks : goal.returns-in_err-schedule-clause-desks
 returns-in_err-schedule-clause-desks g c = keep_all g.R.Station.faults g.R.Station.offered c.args.desks.now
 
-pub returns-in_err-shared_offers-clause-desks : goal.returns-in_err-shared_offers-clause-desks
-returns-in_err-shared_offers-clause-desks g c = keep_all g.R.Station.faults g.R.Station.offered c.args.desks.now
+pub returns-in_err-shared-clause-desks : goal.returns-in_err-shared-clause-desks
+returns-in_err-shared-clause-desks g c = keep_all g.R.Station.faults g.R.Station.offered c.args.desks.now
 
 pub returns-in_err-clone-2-clause-desks : goal.returns-in_err-clone-2-clause-desks
 returns-in_err-clone-2-clause-desks g c =
