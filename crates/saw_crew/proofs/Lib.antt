@@ -7,3 +7,4 @@ pub mod Stores
 pub mod Alone
 pub mod Endings
 pub mod Lone
+pub mod Telling

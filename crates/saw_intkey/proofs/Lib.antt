@@ -4,3 +4,4 @@ pub mod Replaces
 pub mod Kept
 pub mod Reasons
 pub mod ReadBack
+pub mod PayloadLemmas

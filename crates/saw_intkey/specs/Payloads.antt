@@ -1,8 +1,9 @@
--- The payload of an IntegerKey transaction: a CBOR map with a verb, a name and a value.
+-- The payload of an IntegerKey transaction: a CBOR map with a verb, a name and a value. How it is read and written.
 use Rattle.std.specs.Prelude.{ℕ, Bool, false, ◌&&◌, List, [], ◌∷◌, length, Option, Some, None, Result, Ok, Err, nat_le, if◌then◌else◌, codes}
 use Rattle.std.specs.Str.{bytes_eq, chars}
 use Rattle.saw_cbor.specs.Data.{Cbor, unsigned, negative, bytes, text, list, pairs, null, boolean, Pairs, no_pairs, pair}
 use Rattle.saw_cbor.specs.Reading.{reading}
+use Rattle.saw_cbor.specs.Writing.{written}
 use Rattle.saw_cbor.specs.declared.fault.CborFault.{CborFault}
 use Rattle.saw_intkey.specs.declared.payload.Payload.{Payload}
 use Rattle.saw_intkey.specs.declared.payload.Verb.{Verb}
@@ -115,3 +116,19 @@ payload_by (Some ps) = payload_in ps
 -- the payload that bytes say, or the number of the first check that fails: 101 they are a CBOR map, then as above
 unfoldable pub payload_of : List ℕ → Result Payload ℕ
 payload_of whole = payload_by (pairs_in (reading max_depth whole))
+
+-- ---- written
+
+abbrev pub verb_text : Verb → List ℕ
+verb_text Set = codes "set"
+verb_text Inc = codes "inc"
+verb_text Dec = codes "dec"
+
+abbrev pub pairs_of_payload : Payload → Pairs
+pairs_of_payload payload =
+    pair (text (codes "Verb")) (text (verb_text payload.verb))
+    (pair (text (codes "Name")) (text payload.name) (pair (text (codes "Value")) (unsigned payload.value) no_pairs))
+
+-- the map of the verb, the name and the value, in this order
+unfoldable pub payload_bytes : Payload → List ℕ
+payload_bytes payload = written (pairs (pairs_of_payload payload))

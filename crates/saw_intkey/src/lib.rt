@@ -8,4 +8,5 @@ mod payload;
 mod state;
 
 pub use action::{address_of, reasons_are_own, replies_decide, serves, step};
-pub use laws::kept_is_read;
+pub use laws::{kept_is_read, payload_is_read};
+pub use payload::{Payload, Verb, encode_payload};

@@ -1,12 +1,13 @@
 //! The payload of a transaction: a verb, a name and a value.
 
-ghost use Rattle.std.specs.Prelude.{◌≡◌, ◌&&◌, length, nat_le, IfOk, Some, option_map};
+ghost use Rattle.std.specs.Prelude.{◌≡◌, ◌&&◌, length, nat_le, IfOk, Some, codes, option_map};
 ghost use Rattle.std.specs.Str.{chars};
-ghost use Rattle.saw_cbor.specs.View.{pairs_view};
-ghost use Rattle.saw_intkey.specs.Payloads.{name_of, only_of, payload_in, payload_of, text_in, value_of, values_of, verb_in, verb_of};
+ghost use Rattle.saw_cbor.specs.Data.{text};
+ghost use Rattle.saw_cbor.specs.View.{pair_view, pairs_view, view};
+ghost use Rattle.saw_intkey.specs.Payloads.{name_of, only_of, pairs_of_payload, payload_bytes, payload_in, payload_of, text_in, value_of, values_of, verb_in, verb_of, verb_text};
 
 use crate::item::{as_text, as_value, only_value, read_pairs};
-use saw_cbor::Pair;
+use saw_cbor::{Item, Pair, encode};
 use saw_wire::Text;
 use std::alloc::{AllocError, Global};
 
@@ -24,7 +25,7 @@ const BAD_VALUE: u16 = 104;
 
 /// What is done with a value.
 #[derive(Clone, Copy, Debug, PartialEq, Eq)]
-pub(crate) enum Verb {
+pub enum Verb {
     Set,
     Inc,
     Dec,
@@ -32,10 +33,11 @@ pub(crate) enum Verb {
 
 /// What a transaction asks for.
 #[derive(Drop)]
-pub(crate) struct Payload {
-    pub(crate) verb: Verb,
-    pub(crate) name: Text,
-    pub(crate) value: u32,
+pub struct Payload {
+    pub verb: Verb,
+    /// 1 to 20 characters.
+    pub name: Text,
+    pub value: u32,
 }
 
 /// The payload that bytes say, or the number of the first check that fails.
@@ -114,4 +116,51 @@ fn value_of(pairs: &[Pair]) -> Option<u32>
     ensures { result ≡ value_of (pairs_view pairs.now) }
 {
     as_value(only_value(pairs, "Value")?)
+}
+
+fn verb_text(verb: Verb) -> &'static str
+    ensures { result.now ≡ verb_text verb }
+{
+    match verb {
+        Verb::Set => "set",
+        Verb::Inc => "inc",
+        Verb::Dec => "dec",
+    }
+}
+
+fn text_item(alloc: Global, content: &str) -> Result<Item, AllocError>
+    ensures { IfOk result (λ item. view item ≡ text content.now) }
+{
+    Ok(Item::Text(Text::from_str(alloc, content)?))
+}
+
+fn pair(alloc: Global, key: &str, value: Item) -> Result<Pair, AllocError>
+    ensures { IfOk result (λ pair. pair_view pair ≡ (text key.now, view value)) }
+{
+    Ok(Pair {
+        key: text_item(alloc, key)?,
+        value,
+    })
+}
+
+fn pairs_of_payload(alloc: Global, payload: &Payload) -> Result<Vec<Pair>, AllocError>
+    ensures { IfOk result (λ pairs. pairs_view pairs.items ≡ pairs_of_payload payload.now) }
+{
+    let verb = text_item(alloc, verb_text(payload.verb))?;
+    let name = text_item(alloc, payload.name.as_str())?;
+    let value = Item::Unsigned(u64::from(payload.value));
+    let mut pairs = Vec::new(alloc);
+    pairs.push(pair(alloc, "Verb", verb)?)?;
+    pairs.push(pair(alloc, "Name", name)?)?;
+    pairs.push(pair(alloc, "Value", value)?)?;
+    Ok(pairs)
+}
+
+/// The bytes of a payload: a CBOR map of its verb, its name and its value, in this order.
+#[tactic(auto, unfolding(crate::specs::Payloads::payload_bytes))]
+pub fn encode_payload(alloc: Global, payload: &Payload) -> Result<Vec<u8>, AllocError>
+    ensures { IfOk result (λ bytes. bytes.items ≡ payload_bytes payload.now) }
+{
+    let pairs = pairs_of_payload(alloc, payload)?;
+    encode(alloc, &Item::Map(pairs))
 }

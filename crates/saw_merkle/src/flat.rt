@@ -58,7 +58,7 @@ fn moved_along(alloc: Global, flat: Flat, answer: &NodeHash, changes: &[Change])
         × (map_of new.map.entries ≡ map_after (map_of flat.map.entries) changes.now)) }
 {
     let mut map = flat.map;
-    match apply_all(alloc, &mut map, changes) {
+    match change_map(alloc, &mut map, changes) {
         Ok(()) => Some(Flat {
             root: *answer,
             map,
@@ -68,8 +68,8 @@ fn moved_along(alloc: Global, flat: Flat, answer: &NodeHash, changes: &[Change])
     }
 }
 
-// Applies changes in order. After an error the map may have a part of them.
-fn apply_all(
+/// Applies changes to a map in order. After an error it may have a part of them.
+pub fn change_map(
     alloc: Global,
     map: &mut BTreeMap<Address, Bytes>,
     changes: &[Change],

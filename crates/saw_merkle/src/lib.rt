@@ -12,6 +12,7 @@ mod sharing;
 mod state;
 mod tree;
 
+pub use flat::change_map;
 pub use prepared::Prepared;
 pub use state::State;
 pub use tree::{Listed, Tree};

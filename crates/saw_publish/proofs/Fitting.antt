@@ -18,22 +18,22 @@ use Rattle.saw_publish.specs.Room.{bytes_in}
 -- ---- by the length of all
 
 -- what can be written if it is not too long
-abbrev MayFit : Content → Type 0
+abbrev pub MayFit : Content → Type 0
 MayFit (Number n) = n < 2 ^ 64
 MayFit (Fixed bytes) = (length bytes ≡ 8) ⊎ (length bytes ≡ 4)
 MayFit (Chunk bytes) = Unit {0}
 
-abbrev MayStand : Piece → Type 0
+abbrev pub MayStand : Piece → Type 0
 MayStand piece = IsFieldNumber piece.field × MayFit piece.content
 
-record AllMay (pieces : List Piece) : Type 0 where
-  each : AllByRecursion MayStand pieces
+pub record AllMay (pieces : List Piece) : Type 0 where
+  pub each : AllByRecursion MayStand pieces
 
 infixr 9 ◌and◌
-◌and◌ : {xs ys : List Piece} → AllMay xs → AllMay ys → AllMay (xs ++ ys)
+pub ◌and◌ : {xs ys : List Piece} → AllMay xs → AllMay ys → AllMay (xs ++ ys)
 first and second = record { each = all_append MayStand _ _ first.each second.each }
 
-bytes_may : (field : ℕ) (bytes : List ℕ) → IsFieldNumber field → AllMay (bytes_pieces field bytes)
+pub bytes_may : (field : ℕ) (bytes : List ℕ) → IsFieldNumber field → AllMay (bytes_pieces field bytes)
 bytes_may field bytes is =
     elim (length bytes == 0) as (λ none. AllMay (if none then [] else item_pieces field bytes)) [
       | true ↦ record { each = tt }
@@ -47,7 +47,7 @@ number_may field n is fits =
       | false ↦ record { each = ((is, fits), tt) }
     ]
 
-texts_may : (field : ℕ) (texts : List (List ℕ)) → IsFieldNumber field → AllMay (texts_pieces field texts)
+pub texts_may : (field : ℕ) (texts : List (List ℕ)) → IsFieldNumber field → AllMay (texts_pieces field texts)
 texts_may field [] is = record { each = tt }
 texts_may field (text ∷ texts) is = record { each = ((is, tt), (texts_may field texts is).each) }
 
@@ -59,7 +59,7 @@ content_fits field (Chunk bytes) may small =
     let a = length-append (varint (field * 8 + 2) ++ varint (length bytes)) bytes in
     omega (arith, a, small)
 
-all_fit : (pieces : List Piece) → AllByRecursion MayStand pieces → length (spelled pieces) < 2 ^ 64 → AreWritable pieces
+pub all_fit : (pieces : List Piece) → AllByRecursion MayStand pieces → length (spelled pieces) < 2 ^ 64 → AreWritable pieces
 all_fit [] all small = tt
 all_fit (piece ∷ pieces) all small =
     let bytes = content_bytes piece.field piece.content in

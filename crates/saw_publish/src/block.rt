@@ -51,7 +51,7 @@ fn digits_of(alloc: Global, root: NodeHash) -> Result<Text, AllocError>
 }
 
 /// The header of a block with these batches that leaves a map with this root.
-pub(crate) fn header_of<G: Signer>(
+pub fn header_of<G: Signer>(
     alloc: Global,
     signer: &G,
     parent: Option<&Parent>,

@@ -11,6 +11,7 @@ mod laws;
 mod run;
 mod sift;
 
+pub use block::header_of;
 pub use building::build;
 pub use candidate::Candidate;
 pub use fault::PublishFault;

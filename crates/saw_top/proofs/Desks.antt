@@ -3,10 +3,9 @@ use Rattle.std.proofs.Common.{◌≡◌, ◌⊎◌, ◌<◌, ◌≤◌, inl, inr
 use Rattle.std.proofs.Common.{subst, arith}
 use Rattle.std.specs.Prelude.{is_some}
 use Rattle.std.proofs.Math.Path.{fun_ext}
-use Rattle.saw_context.proofs.Coming.{from_told}
 use Rattle.saw_context.specs.Outcome.{Processors}
-use Rattle.saw_context.specs.Possible.{all_told, are_told}
 use Rattle.saw_context.specs.Serial.{serial}
+use Rattle.saw_crew.proofs.Telling.{all_families, told_serial}
 use Rattle.saw_crew.specs.Desks.{Failed, KeepsDesks}
 use Rattle.saw_faults.specs.Counts.{Rose}
 use Rattle.saw_journal.specs.Clashing.{Clashes}
@@ -24,11 +23,8 @@ use Rattle.saw_receipts.specs.declared.verdict.Verdict.{Verdict}
 use Rattle.saw_receipts.specs.declared.verdict.Verdict.TheVariants.{Committed, Stored, Refused}
 use Rattle.saw_receipts.specs.Verdicts.{is_accepted}
 use Rattle.saw_station.specs.DeskPlaces.{AreLone, Place, faults_by}
-use Rattle.saw_intkey.specs.Actions as intkey
-use Rattle.saw_settings.specs.Actions as settings
-use Rattle.saw_station.specs.Serving.{is_family, is_offered, processors_at}
+use Rattle.saw_station.specs.Serving.{processors_at}
 use Rattle.saw_station.specs.declared.offer.Offer.{Offer}
-use Rattle.saw_xo.specs.Actions as xo
 use Rattle.saw_top.specs.Outside.{SomeRose, counts_of}
 use Rattle.saw_top.specs.World.{Accepts, TellsAll, rules_by}
 
@@ -104,40 +100,15 @@ module _ {R : Type 0} (faults : R → ℕ) (offered : R → List Offer) where
 
 -- ---- all is told
 
--- a built-in family is told, and so is what a remote serves that tells its actions
-module _ (next : TxShape → List Turn → Action) (offers : List Offer) (family version : List ℕ) where
-  abbrev IsTold : Type 0
-  IsTold = (processors_at next true offers).tells family version ≡ true
-
-  abbrev Has : List ℕ → List ℕ → Bool → Type 0
-  Has name its_version b = is_family name its_version family version ≡ b
-
-  by_family : (one two three offered : Bool) → Has intkey.family_name intkey.family_version one → Has xo.family_name xo.family_version two
-      → Has settings.family_name settings.family_version three
-      → is_offered offers family version ≡ offered → IsTold
-  by_family true two three offered a b c d = rw a refl
-  by_family false true three offered a b c d = rw (a, b) refl
-  by_family false false true offered a b c d = rw (a, b, c) refl
-  by_family false false false true a b c d = rw (a, b, c, d) refl
-  by_family false false false false a b c d = rw (a, b, c, d) refl
-
 -- with a remote that tells its actions, or none
 pub tells_all : (next : TxShape → List Turn → Action) (offers : List Offer) → TellsAll (processors_at next true offers)
-tells_all next offers family version = by_family next offers family version _ _ _ _ refl refl refl refl
+tells_all next offers = all_families next offers
 
 module _ (processors : Processors) (told : TellsAll processors) where
-  txs_told : (txs : List TxShape) → all_told processors txs ≡ true
-  txs_told [] = refl
-  txs_told (tx ∷ txs) = rw (told tx.header.family_name tx.header.family_version) (txs_told txs)
-
-  batches_told : (batches : List (List TxShape)) → are_told processors batches ≡ true
-  batches_told [] = refl
-  batches_told (txs ∷ batches) = rw (txs_told txs) (batches_told batches)
-
   -- so there is one way to run batches
   pub one_way : (runs : Runs) → RunsBy processors runs → runs ≡ (λ m batches. serial processors m batches)
   one_way runs by =
-      fun_ext (λ m. fun_ext (λ batches. from_told processors [] m batches (runs m batches) (batches_told batches) (by.serial m batches)))
+      fun_ext (λ m. fun_ext (λ batches. told_serial processors told m batches (runs m batches) (by.serial m batches)))
 
 module _ (processors : Processors) (told : TellsAll processors) (accepts : Accepts) (old : Ledger) (content : List ℕ) (runs : Runs)
     (by : RunsBy processors runs) where
