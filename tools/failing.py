@@ -7,6 +7,8 @@ Usage: python3 tools/failing.py crates/saw_cases/data/cases
 import os
 import sys
 
+import generator
+
 FOLDER = sys.argv[1]
 # A frame without content: a block without a signature, whose id is no text of 128 digits.
 EMPTY = bytes(4)
@@ -19,7 +21,7 @@ def put(name, words, stdin=b"", stdout="", stderr="", status=0, files=(), **fail
     stored = {
         "words": "".join(word + "\n" for word in words).encode(),
         "stdin": stdin,
-        "stdout": stdout.encode(),
+        "stdout": stdout if isinstance(stdout, bytes) else stdout.encode(),
         "stderr": stderr.encode(),
         "status": f"{status}\n".encode(),
     }
@@ -98,6 +100,17 @@ def options():
         put(name, words, status=8, files=empty)
 
 
+def streams():
+    # A frame is two writes: its length, and its content. Neither stream nor files are asked for.
+    words = ["generate", "--start", "7", "--blocks=2", "--batches", "3"]
+    first, second = generator.frames(7, 2, 3, 10)
+    put("generate-without-input", words, EMPTY, first + second, fail_reads=[0], fail_fetches=[0], fail_notes=[0])
+    put("failed-generate-first", words, EMPTY, "", "fault 5 write\n", 5, fail_writes=[0])
+    put("failed-generate-content", words, EMPTY, first[:4], "fault 5 write\n", 5, fail_writes=[1])
+    put("failed-generate-second", words, EMPTY, first + second[:4], "fault 5 write\n", 5, fail_writes=[3])
+
+
 failing()
 endings()
 options()
+streams()

@@ -101,8 +101,8 @@ def block_of(number, previous, made, root):
     return mark(header), struct.pack(">I", len(content)) + content
 
 
-def frames(start, blocks, batches, conflicts):
-    """The frames of the stream."""
+def blocks_of(start, blocks, batches, conflicts):
+    """The id, the root and the frame of each block of the stream."""
     draws, values, tree, previous = Draws(start), {}, EMPTY, "0" * 16
     for block in range(blocks):
         made, changed = [], {}
@@ -113,7 +113,12 @@ def frames(start, blocks, batches, conflicts):
             made.append(batch_of([transaction(each, f"{block}/{batch}/{at}") for at, each in enumerate(both)]))
         tree = grown(tree, changed)
         previous, frame = block_of(block, previous, made, tree.hash)
-        yield frame
+        yield previous, tree.hash, frame
+
+
+def frames(start, blocks, batches, conflicts):
+    """The frames of the stream."""
+    return (frame for _, _, frame in blocks_of(start, blocks, batches, conflicts))
 
 
 def main():

@@ -1,5 +1,6 @@
 //! What a case gives to a run.
 
+use crate::said::Output;
 use saw_wire::Text;
 use std::alloc::{AllocError, Global};
 use std::collections::BTreeMap;
@@ -116,6 +117,16 @@ fn numbers_of(rt: &HostRuntime, case: &str, name: &str) -> io::Result<Vec<u64>> 
 /// The stream of a case.
 pub(crate) fn stream_of(rt: &HostRuntime, case: &str) -> io::Result<Vec<u8>> {
     fs::read(rt, format!(in rt.alloc(); "cases/{case}/stdin")?.as_str())
+}
+
+/// The output of a case: its bytes, or the digest of a large one.
+pub(crate) fn output_of(rt: &HostRuntime, case: &str) -> io::Result<Output> {
+    let alloc = rt.alloc();
+    if let Some(bytes) = bytes_of(rt, format!(in alloc; "cases/{case}/stdout")?.as_str())? {
+        return Ok(Output::Bytes(bytes));
+    }
+    let path = format!(in alloc; "cases/{case}/digest")?;
+    Ok(Output::Digest(fs::read_to_string(rt, path.as_str())?))
 }
 
 /// What `apply` says to a case's stream with its output behind it, where that is stored.

@@ -4,22 +4,25 @@
 mod given;
 mod said;
 
-use crate::given::{applied_of, given_of, stream_of, words_in};
-use crate::said::{Said, said_to, said_to_stream, said_to_words};
+use crate::given::{applied_of, given_of, output_of, stream_of, words_in};
+use crate::said::{Stored, said_to, said_to_stream, said_to_words};
 use std::process::ExitCode;
 use std::sync::Wait;
 use std::thread::Threads;
 use std::{fs, io};
 
-/// The stored output, notes and status of a case.
-fn stored(rt: &HostRuntime, case: &str) -> io::Result<Said> {
+/// What a case is to say.
+fn stored(rt: &HostRuntime, case: &str) -> io::Result<Stored> {
     let alloc = rt.alloc();
-    Ok(Said {
-        output: fs::read(rt, format!(in alloc; "cases/{case}/stdout")?.as_str())?,
+    Ok(Stored {
+        output: output_of(rt, case)?,
         notes: fs::read(rt, format!(in alloc; "cases/{case}/stderr")?.as_str())?,
         status: fs::read_to_string(rt, format!(in alloc; "cases/{case}/status")?.as_str())?,
     })
 }
+
+/// Numbers of workers by which `apply` judges the output of a case.
+const APPLIED_BY: [&str; 3] = ["1", "2", "8"];
 
 /// Whether `apply` says what is stored for it, where something is, to the stream with the output behind it.
 fn is_applied<T: Threads + Wait + Sync>(
@@ -31,20 +34,23 @@ fn is_applied<T: Threads + Wait + Sync>(
     let Some(wanted) = applied_of(host, case)? else {
         return Ok(true);
     };
-    let mut stream = stream_of(host, case)?;
-    stream.extend_from_slice(output)?;
-    let said = said_to_stream(rt, host.alloc(), stream)?;
-    Ok(said.says(&wanted))
+    for workers in APPLIED_BY {
+        let mut stream = stream_of(host, case)?;
+        stream.extend_from_slice(output)?;
+        let said = said_to_stream(rt, host.alloc(), stream, workers)?;
+        if !said.says(&wanted) {
+            return Ok(false);
+        }
+    }
+    Ok(true)
 }
 
 /// Numbers of workers by which each case that names none is run too.
 const WORKERS: [&str; 3] = ["1", "3", "64"];
 
-/// Whether words name a number of workers.
-fn names_workers(words: &[String]) -> bool {
-    words
-        .iter()
-        .any(|word| word.as_str().starts_with("--workers"))
+/// Whether a number of workers may be named behind these words.
+fn may_name_workers(words: &[String]) -> bool {
+    !words.iter().any(|word| word.as_str() == "generate" || word.as_str().starts_with("--workers"))
 }
 
 /// Whether a case has its stored output, notes and status by this number of workers.
@@ -52,17 +58,17 @@ fn passes_by<T: Threads + Wait + Sync>(
     rt: &T,
     host: &HostRuntime,
     case: &str,
-    wanted: &Said,
+    wanted: &Stored,
     workers: &str,
 ) -> io::Result<bool> {
     let alloc = host.alloc();
     let mut given = given_of(host, case)?;
-    if names_workers(&given.words) {
+    if !may_name_workers(&given.words) {
         return Ok(true);
     }
     given.words.push(String::from_str(alloc, "--workers")?)?;
     given.words.push(String::from_str(alloc, workers)?)?;
-    Ok(said_to(rt, alloc, given)?.is(wanted))
+    Ok(said_to(rt, alloc, given)?.is(alloc, wanted)?)
 }
 
 /// Whether it has them by each number of workers.
@@ -70,7 +76,7 @@ fn passes_by_each<T: Threads + Wait + Sync>(
     rt: &T,
     host: &HostRuntime,
     case: &str,
-    wanted: &Said,
+    wanted: &Stored,
 ) -> io::Result<bool> {
     for workers in WORKERS {
         if !passes_by(rt, host, case, wanted, workers)? {
@@ -84,7 +90,7 @@ fn passes_by_each<T: Threads + Wait + Sync>(
 fn passes<T: Threads + Wait + Sync>(rt: &T, host: &HostRuntime, case: &str) -> io::Result<bool> {
     let wanted = stored(host, case)?;
     let said = said_to(rt, host.alloc(), given_of(host, case)?)?;
-    if !said.is(&wanted) || !passes_by_each(rt, host, case, &wanted)? {
+    if !said.is(host.alloc(), &wanted)? || !passes_by_each(rt, host, case, &wanted)? {
         return Ok(false);
     }
     is_applied(rt, host, case, &said.output)

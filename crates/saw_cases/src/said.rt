@@ -5,6 +5,7 @@ use saw_io::{MemoryShelf, MemorySink, MemorySource};
 use saw_top::run;
 use saw_verify::{DevSigner, DevVerifier};
 use saw_wire::Text;
+use sha2::{Digest, Sha512};
 use std::alloc::{AllocError, Global};
 use std::collections::BTreeMap;
 use std::sync::Wait;
@@ -21,12 +22,43 @@ pub(crate) struct Said {
     pub(crate) status: String,
 }
 
+/// An output as it is stored.
+#[derive(Drop)]
+pub(crate) enum Output {
+    /// Its bytes.
+    Bytes(Vec<u8>),
+    /// The SHA-512 of a large one, in hex digits.
+    Digest(String),
+}
+
+impl Output {
+    fn is(&self, alloc: Global, bytes: &[u8]) -> Result<bool, AllocError> {
+        match self {
+            Output::Bytes(stored) => Ok(stored.as_slice() == bytes),
+            Output::Digest(stored) => {
+                let digits = hex::encode(alloc, &Sha512::digest(bytes))?;
+                Ok(stored.trim() == digits.as_str())
+            }
+        }
+    }
+}
+
+/// What a run is to say.
+#[derive(Drop)]
+pub(crate) struct Stored {
+    pub(crate) output: Output,
+    pub(crate) notes: Vec<u8>,
+    pub(crate) status: String,
+}
+
 impl Said {
-    /// Whether both are the same. Spaces round a status do not count.
-    pub(crate) fn is(&self, other: &Said) -> bool {
-        self.output.as_slice() == other.output.as_slice()
-            && self.notes.as_slice() == other.notes.as_slice()
-            && self.status.trim() == other.status.trim()
+    /// Whether it is what is stored. Spaces round a status do not count.
+    pub(crate) fn is(&self, alloc: Global, stored: &Stored) -> Result<bool, AllocError> {
+        Ok(
+            self.notes.as_slice() == stored.notes.as_slice()
+                && self.status.trim() == stored.status.trim()
+                && stored.output.is(alloc, &self.output)?,
+        )
     }
 
     /// Whether it is this output, without notes, and status 0.
@@ -87,14 +119,17 @@ pub(crate) fn said_to<T: Threads + Wait + Sync>(
     })
 }
 
-/// What `apply` says to a stream.
+/// What `apply` says to a stream, by this number of workers.
 pub(crate) fn said_to_stream<T: Threads + Wait + Sync>(
     rt: &T,
     alloc: Global,
     input: Vec<u8>,
+    workers: &str,
 ) -> Result<Said, AllocError> {
     let mut words = Vec::new(alloc);
-    words.push(String::from_str(alloc, "apply")?)?;
+    for word in ["apply", "--workers", workers] {
+        words.push(String::from_str(alloc, word)?)?;
+    }
     said_to(
         rt,
         alloc,

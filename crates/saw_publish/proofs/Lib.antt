@@ -3,9 +3,9 @@ pub mod AppliedAgain
 mod Drafting
 mod Drops
 mod Executed
-mod Fitting
+pub mod Fitting
 pub mod GoodBlocks
-mod HexTexts
+pub mod HexTexts
 mod Making
 mod Planned
 mod Putting

@@ -89,8 +89,9 @@ fn laws_of_blocks_and_streams(_rt: HostRuntime) {
     saw_journal::branch_is_chain();
     saw_journal::kept_branch_is();
     saw_journal::kept_is_left();
+    saw_generate::every_batch_applies();
     saw_top::frames_are_read();
-    saw_top::options_are_read();
+    saw_words::options_are_read();
     saw_top::order_of_options_does_not_show();
     saw_top::built_in_processors_tell();
     saw_top::candidate_is_accepted();

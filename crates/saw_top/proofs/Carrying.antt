@@ -11,13 +11,15 @@ use Rattle.saw_report.specs.declared.run_fault.RunFault.{RunFault}
 use Rattle.saw_report.specs.declared.run_fault.RunFault.TheVariants as runs
 use Rattle.saw_station.specs.declared.offer.Offer.{Offer}
 use Rattle.saw_top.specs.Answers.{Prepared, answer_for, prepared}
-use Rattle.saw_top.specs.Command.{Wish}
-use Rattle.saw_top.specs.Headline.{CarriesOut, Does, EndsBy, GoesOn, HasCause, HasFault, Shows}
+use Rattle.saw_generate.specs.Streams.{stream}
+use Rattle.saw_generate.specs.declared.wish.GenerateWish.{GenerateWish}
+use Rattle.saw_top.specs.Command.{Asked, Generate, Judge, Wish}
+use Rattle.saw_top.specs.Headline.{Carries, CarriesOut, Does, EndsBy, GoesOn, HasCause, HasFault, Shows, WritesBy}
 use Rattle.saw_top.specs.History.{ended, history}
 use Rattle.saw_top.specs.Outside.{End, Outside, sides, sides_of}
 use Rattle.saw_top.specs.Run.{faulty, noted_by, written_by}
 use Rattle.saw_top.specs.Vouching.{ComesBy, Prepares, prepared_in}
-use Rattle.saw_top.specs.World.{Accepts, TellsAll, world_with}
+use Rattle.saw_top.specs.World.{Accepts, TellsAll, World, world_with}
 use Rattle.saw_top.specs.declared.task.Lines.TheVariants.{All, Refused}
 use Rattle.saw_top.specs.declared.task.Task.{Task}
 use Rattle.saw_top.proofs.Prepares.{files_in}
@@ -93,9 +95,9 @@ module _ (processors : Processors) (before : Outside) (held : End Files) where
   faulted task fault cause ends = nothing task (Err fault) (Err fault) cause ends
 
 -- the words ask for nothing
-pub unasked : (accepts : Accepts) (signing : Signing) (processors : Processors) (wish : Option Wish) (before : Outside) → wish ≡ None
-    → CarriesOut (world_with accepts signing processors) wish before before (Err runs.Words)
-unasked accepts signing processors wish before none =
+pub unasked : (accepts : Accepts) (signing : Signing) (processors : Processors) (asked : Option Asked) (before : Outside) → asked ≡ None
+    → Carries (world_with accepts signing processors) asked before before (Err runs.Words)
+unasked accepts signing processors asked before none =
     let at = files_in before.shelf.tells in
     rw none (record {
       files = at.0;
@@ -106,10 +108,10 @@ unasked accepts signing processors wish before none =
     })
 
 -- memory was refused while the words were read
-pub unread : (accepts : Accepts) (signing : Signing) (processors : Processors) (wish : Option Wish) (before : Outside) → IsSome wish
-    → CarriesOut (world_with accepts signing processors) wish before before (Err runs.Memory)
+pub unread : (accepts : Accepts) (signing : Signing) (processors : Processors) (asked : Option Asked) (before : Outside) → IsSome asked
+    → Carries (world_with accepts signing processors) asked before before (Err runs.Memory)
 unread accepts signing processors None before some = absurd cc
-unread accepts signing processors (Some wish) before some =
+unread accepts signing processors (Some (Judge wish)) before some =
     let at = files_in before.shelf.tells in
     record {
       files = at.0;
@@ -118,6 +120,20 @@ unread accepts signing processors (Some wish) before some =
       named = λ same. absurd cc;
       does = nothing processors before before.shelf wish.task (prepared (world_with accepts signing processors at.0) (Some wish)) (Err runs.Memory) tt (λ bytes left. tt);
     }
+unread accepts signing processors (Some (Generate wish)) before some =
+    λ files. record { still = refl; wrote = no_front (stream signing wish) before.output.tells }
+
+-- a job was done
+pub judged : (given : Files → World) (asked : Option Asked) (wish : Wish) (before after : Outside) (came : Result ℕ RunFault) → Some (Judge wish) ≡ asked
+    → CarriesOut given (Some wish) before after came → Carries given asked before after came
+judged given asked wish before after came is does = subst (λ (a : Option Asked). Carries given a before after came) is does
+
+-- a new stream was written
+pub generated : (given : Files → World) (asked : Option Asked) (wish : GenerateWish) (before after : Outside) (came : Result ℕ RunFault)
+    → Some (Generate wish) ≡ asked → after ≡ record before { output = after.output }
+    → ((files : Files) → WritesBy (stream (given files).signing wish) before.output after.output came) → Carries given asked before after came
+generated given asked wish before after came is still wrote =
+    subst (λ (a : Option Asked). Carries given a before after came) is (λ files. record { still = still; wrote = wrote files })
 
 module _ (accepts : Accepts) (signing : Signing) (processors : Processors) (workers : ℕ) (task : Task) (list batches : Option (List ℕ))
     (before : Outside) (held : End Files) where

@@ -1,5 +1,5 @@
 -- A run that ended so gave its answer, unless memory was refused or a call failed.
-use Rattle.std.proofs.Common.{◌≡◌, ◌⊎◌, inl, inr, ℕ, ◌≤◌, true, List, [], ◌++◌, Option, Some, None, Result, Ok, Err, refl, sym, subst, ◌∙◌, arith}
+use Rattle.std.proofs.Common.{◌≡◌, ◌⊎◌, inl, inr, ℕ, ◌≤◌, true, List, [], ◌++◌, Option, Some, None, Result, Ok, Err, refl, sym, ap, subst, ◌∙◌, arith}
 use Rattle.std.specs.Prelude.{IfSome}
 use Rattle.std.specs.Io.KnownBytes.{Appends}
 use Rattle.std.proofs.KnownBytes.{Appends-nil, Appends-trans}
@@ -9,15 +9,17 @@ use Rattle.saw_io.specs.Shelf.{Files}
 use Rattle.saw_report.specs.RunFaults.{status_of}
 use Rattle.saw_report.specs.declared.run_fault.RunFault.{RunFault}
 use Rattle.saw_report.specs.declared.run_fault.RunFault.TheVariants.{Truncated, TooLong, Read, Write, Peer, Collision, Memory, FileFailed}
-use Rattle.saw_top.specs.Answers.{Prepared, answer_of, prepared, task_by}
-use Rattle.saw_top.specs.Command.{wish_of}
+use Rattle.saw_generate.specs.Streams.{stream}
+use Rattle.saw_top.specs.Answers.{Prepared, answer_by, answer_to, prepared, task_by}
+use Rattle.saw_top.specs.Command.{Asked, Generate, Judge, Wish, asked_of}
 use Rattle.saw_top.specs.EndingFaults.{is_told}
-use Rattle.saw_top.specs.Headline.{EndsBy, Gives, HasCause, HasEnded, HasFault, IsAnswered, IsWhole, Shows, TellsEnd, TellsFault}
+use Rattle.saw_top.specs.Headline.{Carries, CarriesOut, EndsBy, Gives, HasCause, HasEnded, HasFault, IsAnswered, IsWhole, Shows, TellsEnd, TellsFault, WhereRead, WritesBy}
 use Rattle.saw_node.specs.declared.node.Node.{Node}
 use Rattle.saw_top.specs.Outside.{End, Outside, SomeFailed, sides_of}
-use Rattle.saw_top.specs.Run.{Answer, line_by}
+use Rattle.saw_top.specs.Run.{Answer, line_by, whole}
 use Rattle.saw_top.specs.World.{TellsAll, World}
 use Rattle.saw_top.specs.declared.task.Task.{Task}
+use Rattle.saw_top.proofs.Prepares.{files_in}
 
 -- what follows from what is so of the bytes, where they are told
 some_map : (first : Option (List ℕ)) (P Q : List ℕ → Type 0) → ((bytes : List ℕ) → P bytes → Q bytes) → IfSome first P → IfSome first Q
@@ -88,19 +90,65 @@ module _ (answer : Answer) (bytes : List ℕ) (before after : Outside) (notes : 
       (subst (λ (e : End (List ℕ)). Appends notes.tells e.tells []) (sym tells.1) (Appends-nil notes.tells)))))
   by_end processors task ready (Err fault) ends cause tells first = by_fault processors task ready fault ends cause tells.0 first tells.1
 
+-- ---- by what was asked
+
+module _ (given : Files → World) (before after : Outside) (notes : End (List ℕ)) (status : ℕ) where
+  abbrev noted : Outside
+  noted = record after { notes = notes }
+
+  -- the answer, for the bytes and files that are told or some files
+  abbrev Holds : Option Asked → Type 0
+  Holds asked = (files : Files) × IfSome before.shelf.tells (λ told. files ≡ told)
+      × WhereRead asked before.input.tells (λ bytes. Answered (answer_by (given files) asked bytes) bytes before after notes status)
+
+  abbrev HoldsFor : Option Wish → Type 0
+  HoldsFor wish = (files : Files) × IfSome before.shelf.tells (λ told. files ≡ told)
+      × IfSome before.input.tells (λ bytes. Answered (answer_to (given files) wish bytes) bytes before after notes status)
+
+  of_job : (wish : Option Wish) (came : Result ℕ RunFault) → CarriesOut given wish before noted came → ((files : Files) → TellsAll (given files).processors)
+      → TellsEnd came notes after.notes status → HoldsFor wish
+  of_job wish came done tells told =
+      let does = done.does in
+      let world = given done.files in (
+        done.files,
+        done.held,
+        some_map before.input.tells
+            (λ bytes. TellsAll world.processors → Shows (answer_to world wish bytes) bytes after.input.tells (sides_of before noted) came)
+            (λ bytes. Answered (answer_to world wish bytes) bytes before after notes status)
+            (λ bytes shows. by_end (answer_to world wish bytes) bytes before after notes status world.processors (task_by wish)
+            (prepared world wish) came (shows (tells done.files)).ends does.cause told does.later)
+            does.shows,
+      )
+
+  module _ (text bytes : List ℕ) (still : noted ≡ record before { output = after.output }) where
+    -- the notes are as they were
+    same_notes : notes ≡ before.notes
+    same_notes = ap (λ (o : Outside). o.notes) still
+
+    of_stream : (came : Result ℕ RunFault) → WritesBy text before.output after.output came → TellsEnd came notes after.notes status
+        → Answered (whole text) bytes before after notes status
+    of_stream (Ok code) wrote told =
+        let same : after.notes ≡ before.notes = told.1 ∙ same_notes in
+        inr (inr (inr (record {
+          output = wrote.1;
+          notes = subst (λ (e : End (List ℕ)). Appends before.notes.tells e.tells []) (sym same) (Appends-nil before.notes.tells);
+          code = told.0 ∙ wrote.0;
+        })))
+    of_stream (Err Write) wrote told = inr (inr (inl (inr (inl wrote.0))))
+    of_stream (Err Memory) wrote told = inl (seven (whole text) bytes before after notes status told.0)
+    of_stream (Err fault) wrote told = absurd wrote
+
+  by_asked : (asked : Option Asked) (came : Result ℕ RunFault) → Carries given asked before noted came → ((files : Files) → TellsAll (given files).processors)
+      → TellsEnd came notes after.notes status → Holds asked
+  by_asked None came done tells told = of_job None came done tells told
+  by_asked (Some (Judge wish)) came done tells told = of_job (Some wish) came done tells told
+  by_asked (Some (Generate wish)) came done tells told =
+      let at = files_in before.shelf.tells in
+      let made = done at.0 in
+      (at.0, at.1, λ bytes. of_stream (stream (given at.0).signing wish) bytes made.still came made.wrote told)
+
 pub answered : (given : Files → World) (words : List (List ℕ)) (before after : Outside) (status : ℕ) → HasEnded given words before after status
     → IsAnswered given words before after status
 answered given words before after status ended =
-    let does = ended.done.does in
-    let world = given ended.done.files in
-    record {
-      files = ended.done.files;
-      held = ended.done.held;
-      gives = some_map before.input.tells
-          (λ bytes. TellsAll world.processors → Shows (answer_of world words bytes) bytes after.input.tells (sides_of before (record after { notes = ended.notes })) ended.came)
-          (λ bytes. (status ≡ 7)
-          ⊎ ((status ≡ 9) ⊎ (SomeFailed before after ⊎ Gives (answer_of world words bytes) (sides_of before after) status)))
-          (λ bytes shows. by_end (answer_of world words bytes) bytes before after ended.notes status world.processors (task_by (wish_of words))
-          (prepared world (wish_of words)) ended.came (shows ended.tells).ends does.cause ended.told does.later)
-          does.shows;
-    }
+    let holds = by_asked given before after ended.notes status (asked_of words) ended.came ended.done ended.tells ended.told in
+    record { files = holds.0; held = holds.1; gives = holds.2 }

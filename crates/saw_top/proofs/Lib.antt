@@ -12,7 +12,6 @@ pub mod Wholes
 pub mod Makings
 pub mod Tellings
 pub mod Doing
-pub mod Numerals
 pub mod OptionWords
 pub mod OptionOrder
 pub mod Prefixes

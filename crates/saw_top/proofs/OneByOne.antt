@@ -47,20 +47,3 @@ module _ {X : Type 0} (line : X → List ℕ) (all : List X) (i : ℕ) (x : X) (
 pub lines_before : {X : Type 0} (line : X → List ℕ) (all : List X) (i : ℕ) (x : X) → i < length all → x ≡ get_or all i x → (old new : Option (List ℕ))
     → Appends old new (flat_map line (take i all)) → (k : ℕ) × Appends old new (take k (flat_map line all))
 lines_before line all i x more is old new first = lines_cut line all i x more is old new new 0 (omega arith) first (Appends-nil new)
-
--- ---- one text behind another
-
--- a part of the first was written, as it was shown
-pub first_cut : (first rest shown : List ℕ) (old new : Option (List ℕ)) → shown ≡ first
-    → (n : ℕ) × (n < length shown) × Appends old new (take n shown) → (k : ℕ) × Appends old new (take k (first ++ rest))
-first_cut first rest shown old new same cut =
-    let less : cut.0 < length first = subst (λ (l : List ℕ). cut.0 < length l) same cut.1 in
-    let wrote : Appends old new (take cut.0 first) = subst (λ (l : List ℕ). Appends old new (take cut.0 l)) same cut.2 in
-    (cut.0, subst (Appends old new) (sym (take-append-le cut.0 first rest (omega (arith, less)))) wrote)
-
--- all of the first was, and a part of the other
-pub rest_cut : (first rest shown : List ℕ) (old mid new : Option (List ℕ)) → shown ≡ first → Appends old mid shown
-    → (n : ℕ) × (n < length rest) × Appends mid new (take n rest) → (k : ℕ) × Appends old new (take k (first ++ rest))
-rest_cut first rest shown old mid new same wrote cut =
-    let all : Appends old mid first = subst (Appends old mid) same wrote in
-    (length first + cut.0, subst (Appends old new) (sym (take-append-add first rest cut.0)) (Appends-trans old mid new first (take cut.0 rest) all cut.2))

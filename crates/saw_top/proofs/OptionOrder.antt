@@ -1,48 +1,17 @@
--- That options are read in both forms, and in any order.
-use Rattle.std.proofs.Common.{◌≡◌, ℕ, ◌==◌, Bool, true, false, List, [], ◌∷◌, ◌++◌, length, map, cond, Option, Some, None, option_map, unwrap_or}
-use Rattle.std.proofs.Common.{refl, sym, ap, ◌∙◌, arith}
+-- That the order of options does not show.
+use Rattle.std.proofs.Common.{◌≡◌, ℕ, Bool, true, false, List, [], ◌∷◌, ◌++◌, cond, Option, Some, None, refl, sym, ap, ◌∙◌}
 use Rattle.std.specs.Prelude.{◌&&◌, ◌||◌, not}
 use Rattle.std.specs.Cmp.Lexicographic.{nat_list_eq_equiv}
-use Rattle.std.specs.List.{AllByRecursion, flat_map, list_all, list_any, position_or_len}
+use Rattle.std.specs.List.{list_all, list_any}
 use Rattle.std.specs.Str.{bytes_eq}
-use Rattle.std.proofs.Math.Seq.{drop-append-add, take-append_seam}
-use Rattle.std.proofs.lemmas.Bool.{and_parts, false≢true, or_parts}
+use Rattle.std.proofs.lemmas.Bool.{and_parts, false≢true}
 use Rattle.std.proofs.lemmas.List.{map-append}
 use Rattle.std.proofs.lemmas.Slice.Eq.{bytes_eq-Decides}
 use mathlib.Core.Path.{fun_ext}
 use Rattle.saw_messages.specs.Distinct.{are_distinct}
-use Rattle.saw_top.specs.Command.{Given, Wish, of_names, asks, attest, batch, batch_at, batches, by_workers, candidate_of, workers, prefix, state_under, are_of, given_in, is_joined, is_known, names_of, value_of}
-use Rattle.saw_top.specs.Command.{wish_with}
-use Rattle.saw_top.specs.declared.task.Ending.TheVariants.{Head, Receipts}
-use Rattle.saw_top.specs.declared.task.Lines.TheVariants.{All, Refused}
-use Rattle.saw_top.specs.OptionLaws.{IsOption, spelled}
-
--- ---- both forms
-
--- a name without `=` ends at the first `=` behind it
-ends : (name value : List ℕ) → is_joined name ≡ false
-    → (is_joined (name ++ 61 ∷ value) ≡ true) × (position_or_len (λ b. b == 61) (name ++ 61 ∷ value) ≡ length name)
-ends [] value apart = (refl, refl)
-ends (b ∷ name) value apart =
-    let parts = or_parts (b == 61) (is_joined name) apart in
-    let later = ends name value parts.1 in
-    rw parts.0 (later.0, omega (arith, later.1))
-
--- an option in either form is the first of those that the words are
-option_read : (joined : Bool) (option : Given) (words : List (List ℕ)) → IsOption option
-    → given_in None (spelled joined option ++ words) ≡ option_map (λ given. option ∷ given) (given_in None words)
-option_read true (name, value) words is =
-    let at = ends name value is.0 in
-    rw (at.0, at.1, take-append_seam name (61 ∷ value), drop-append-add name (61 ∷ value) 1, is.1) refl
-option_read false (name, value) words is = rw (is.0, is.1) refl
-
-pub options_are_read : (options : List (Bool × Given)) → AllByRecursion (λ option. IsOption option.1) options
-    → given_in None (flat_map (λ option. spelled option.0 option.1) options) ≡ Some (map (λ option. option.1) options)
-options_are_read [] all = refl
-options_are_read ((joined, option) ∷ options) all = option_read joined option _ all.0
-    ∙ ap (option_map (λ given. option ∷ given)) (options_are_read options all.1)
-
--- ---- any order
+use Rattle.saw_words.specs.Given.{Given, are_of, is_known, names_of, value_of}
+use Rattle.saw_top.specs.Command.{Values, apply_by, asked_with, attest, batch, batches, blocks, conflicts, generate_by, of_names, prefix, publish_by}
+use Rattle.saw_top.specs.Command.{receipts_by, start, state_by, status_by, workers}
 
 -- two tests in either order
 or_swapped : (a b c : Bool) → (a || (b || c)) ≡ (b || (a || c))
@@ -96,9 +65,9 @@ value_swapped (first ∷ before) after one other distinct name =
     ap (cond (bytes_eq first.0 name) (Some first.1)) (value_swapped before after one other (and_parts _ _ distinct).1 name)
 
 -- what is made of the values of options of these names
-made_swapped : (names : List (List ℕ)) (made : (List ℕ → Option (List ℕ)) → Option Wish) (before after : List Given) (one other : Given)
+made_swapped : {A : Type 0} (names : List (List ℕ)) (made : Values → Option A) (before after : List Given) (one other : Given)
     → of_names names made (before ++ one ∷ other ∷ after) ≡ of_names names made (before ++ other ∷ one ∷ after)
-made_swapped names made before after one other =
+made_swapped {A} names made before after one other =
     let given = before ++ one ∷ other ∷ after in
     let swapped = before ++ other ∷ one ∷ after in
     let same : are_of names given ≡ are_of names swapped =
@@ -107,17 +76,18 @@ made_swapped names made before after one other =
     split (are_of names given) (are_of names swapped) same (λ fine.
     ap made (fun_ext (value_swapped before after one other (and_parts (list_all (is_known names) given) (are_distinct (names_of given)) fine).1)))
   where
-    split : (a b : Bool) {x y : Option Wish} → a ≡ b → (a ≡ true → x ≡ y) → cond a x None ≡ cond b y None
+    split : (a b : Bool) {x y : Option A} → a ≡ b → (a ≡ true → x ≡ y) → cond a x None ≡ cond b y None
     split true b same values = rw (← same) (values refl)
     split false b same values = rw (← same) refl
 
 pub order_of_options_does_not_show : (word : List ℕ) (before after : List Given) (one other : Given)
-    → wish_with word (Some (before ++ one ∷ other ∷ after)) ≡ wish_with word (Some (before ++ other ∷ one ∷ after))
+    → asked_with word (Some (before ++ one ∷ other ∷ after)) ≡ asked_with word (Some (before ++ other ∷ one ∷ after))
 order_of_options_does_not_show word before after one other =
     rw (
-      made_swapped (workers ∷ attest ∷ []) (λ value. by_workers (value workers) (λ count. Some (asks count All Head (value attest)))) before after one other,
-      made_swapped (workers ∷ attest ∷ prefix ∷ []) (λ value. by_workers (value workers) (state_under (unwrap_or (value prefix) []) (value attest))) before after one other,
-      made_swapped (workers ∷ attest ∷ batches ∷ []) (λ value. by_workers (value workers) (candidate_of (value batches) (value attest))) before after one other,
-      made_swapped (workers ∷ attest ∷ []) (λ value. by_workers (value workers) (λ count. Some (asks count Refused Receipts (value attest)))) before after one other,
-      made_swapped (workers ∷ attest ∷ batch ∷ []) (λ value. by_workers (value workers) (batch_at (value batch) (value attest))) before after one other,
+      made_swapped (workers ∷ attest ∷ []) apply_by before after one other,
+      made_swapped (workers ∷ attest ∷ prefix ∷ []) state_by before after one other,
+      made_swapped (workers ∷ attest ∷ batches ∷ []) publish_by before after one other,
+      made_swapped (workers ∷ attest ∷ []) receipts_by before after one other,
+      made_swapped (workers ∷ attest ∷ batch ∷ []) status_by before after one other,
+      made_swapped (start ∷ blocks ∷ batches ∷ conflicts ∷ []) generate_by before after one other,
     ) refl

@@ -57,7 +57,7 @@ by_block refused (Some content) status is = by_refused refused status is
 -- ---- texts
 
 -- a part of a text is a front of it
-part_front : (text : List ℕ) (n : ℕ) (old new : Option (List ℕ)) → Appends old new (take n text) → WritesFront text old new
+pub part_front : (text : List ℕ) (n : ℕ) (old new : Option (List ℕ)) → Appends old new (take n text) → WritesFront text old new
 part_front text n old new wrote = (take n text, drop n text, sym (take-append-drop n text), wrote)
 
 whole_front : (text : List ℕ) (old new : Option (List ℕ)) → Appends old new text → WritesFront text old new

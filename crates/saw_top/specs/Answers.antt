@@ -10,10 +10,11 @@ use Rattle.saw_report.specs.declared.run_fault.RunFault.{RunFault}
 use Rattle.saw_report.specs.declared.run_fault.RunFault.TheVariants.{Words, FileMissing, FileTooLong, BadLine, BadList}
 use Rattle.saw_verify.specs.Lists.{attests, first_bad_line}
 use Rattle.saw_wire.specs.declared.fault.MessageFault.{MessageFault}
-use Rattle.saw_top.specs.Command.{Wish, wish_of}
+use Rattle.saw_generate.specs.Streams.{stream}
+use Rattle.saw_top.specs.Command.{Asked, Generate, Judge, Wish, asked_of}
 use Rattle.saw_top.specs.Limits.{max_batches, max_list}
 use Rattle.saw_top.specs.Publishing.{Waiting}
-use Rattle.saw_top.specs.Run.{Answer, faulty, task_answer}
+use Rattle.saw_top.specs.Run.{Answer, faulty, task_answer, whole}
 use Rattle.saw_top.specs.World.{Accepts, World, rules_by}
 use Rattle.saw_top.specs.declared.task.Ending.TheVariants.{Head}
 use Rattle.saw_top.specs.declared.task.Lines.TheVariants.{All}
@@ -83,7 +84,16 @@ abbrev pub answer_for : Processors → Task → Result Prepared RunFault → Lis
 answer_for processors task (Err fault) bytes = faulty fault
 answer_for processors task (Ok ready) bytes = task_answer (rules_by ready.accepts processors) ready.waiting task bytes
 
+-- the answer to files and a stream, by what is done with its blocks
+abbrev pub answer_to : World → Option Wish → List ℕ → Answer
+answer_to world wish bytes = answer_for world.processors (task_by wish) (prepared world wish) bytes
+
+-- a new stream is written whatever files and stream are
+abbrev pub answer_by : World → Option Asked → List ℕ → Answer
+answer_by world None bytes = answer_to world None bytes
+answer_by world (Some (Judge wish)) bytes = answer_to world (Some wish) bytes
+answer_by world (Some (Generate wish)) bytes = whole (stream world.signing wish)
+
 -- the answer to words, files and a stream
 abbrev pub answer_of : World → List (List ℕ) → List ℕ → Answer
-answer_of world words bytes =
-    answer_for world.processors (task_by (wish_of words)) (prepared world (wish_of words)) bytes
+answer_of world words bytes = answer_by world (asked_of words) bytes

@@ -11,9 +11,12 @@ use Rattle.saw_node.specs.declared.node.Node.{Node}
 use Rattle.saw_report.specs.RunFaults.{fault_line, status_of}
 use Rattle.saw_report.specs.declared.run_fault.RunFault.{RunFault}
 use Rattle.saw_report.specs.declared.run_fault.RunFault.TheVariants.{Words, Truncated, TooLong, Read, Write, Peer, Collision, Memory, FileMissing, FileTooLong, FileFailed, BadLine, BadList}
+use Rattle.saw_publish.specs.Candidates.{Signing}
+use Rattle.saw_generate.specs.Streams.{stream}
+use Rattle.saw_generate.specs.declared.wish.GenerateWish.{GenerateWish}
 use Rattle.saw_top.specs.Answers.{Prepared, answer_for, answer_of, prepared, task_by}
 use Rattle.saw_top.specs.Clashing.{AreAlike, ClashIn}
-use Rattle.saw_top.specs.Command.{Wish, wish_of}
+use Rattle.saw_top.specs.Command.{Asked, Generate, Judge, Wish, asked_of}
 use Rattle.saw_top.specs.EndingFaults.{is_told}
 use Rattle.saw_top.specs.StreamJudging.{StopsAtLength, TakesNext}
 use Rattle.saw_top.specs.Limits.{max_frames}
@@ -182,6 +185,35 @@ pub record CarriesOut (given : Files → World) (wish : Option Wish) (before aft
   pub named : came ≡ Err FileFailed → names_file wish ≡ true
   pub does : Does (given files).processors (task_by wish) (prepared (given files) wish) before after came
 
+-- ---- a new stream
+
+-- what was written of it, by how that ended: all of it, or a front, since writing failed or memory was refused
+abbrev pub WritesBy : List ℕ → End (List ℕ) → End (List ℕ) → Result ℕ RunFault → Type 0
+WritesBy text before after (Ok status) = (status ≡ 0) × Appends before.tells after.tells text
+WritesBy text before after (Err Write) = Rose before.faults after.faults × WritesFront text before.tells after.tells
+WritesBy text before after (Err Memory) = WritesFront text before.tells after.tells
+WritesBy text before after (Err fault) = ⊥
+
+-- It was written, and nothing but the output was touched.
+pub record Generates (signing : Signing) (wish : GenerateWish) (before after : Outside) (came : Result ℕ RunFault) : Type 0 where
+  pub still : after ≡ record before { output = after.output }
+  pub wrote : WritesBy (stream signing wish) before.output after.output came
+
+-- ---- what was asked
+
+-- what was done of what was asked; a new stream is the same whatever the files are
+abbrev pub Carries : (Files → World) → Option Asked → Outside → Outside → Result ℕ RunFault → Type 0
+Carries given None before after came = CarriesOut given None before after came
+Carries given (Some (Judge wish)) before after came = CarriesOut given (Some wish) before after came
+Carries given (Some (Generate wish)) before after came =
+    (files : Files) → Generates (given files).signing wish before after came
+
+-- What holds for the bytes that are unread, where they are told. A new stream is written whatever they are.
+abbrev pub WhereRead : Option Asked → Option (List ℕ) → (List ℕ → Type 0) → Type 0
+WhereRead None told holds = IfSome told holds
+WhereRead (Some (Judge wish)) told holds = IfSome told holds
+WhereRead (Some (Generate wish)) told holds = (bytes : List ℕ) → holds bytes
+
 -- ---- what is told of it
 
 -- the status where the notes find no memory for the line of a fault
@@ -204,19 +236,23 @@ TellsEnd (Err fault) before after status =
 -- ---- the two promises of a run
 
 module _ (given : Files → World) (words : List (List ℕ)) (before after : Outside) (status : ℕ) where
-  -- Output, notes and status are the answer, where memory was not refused, no two different nodes of one hash were met and
-  -- no call failed.
+  -- output, notes and status are the answer, where memory was not refused, no two different nodes of one hash were met and
+  -- no call failed
+  abbrev pub Answers : World → List ℕ → Type 0
+  Answers world bytes =
+      (status ≡ 7) ⊎ ((status ≡ 9) ⊎ (SomeFailed before after ⊎ Gives (answer_of world words bytes) (sides_of before after) status))
+
+  -- It is so for some files, which are those that are told.
   pub record IsAnswered : Type 0 where
     pub files : Files
     pub held : IfSome before.shelf.tells (λ told. files ≡ told)
-    pub gives : IfSome before.input.tells (λ bytes. let answer = answer_of (given files) words bytes in
-        (status ≡ 7) ⊎ ((status ≡ 9) ⊎ (SomeFailed before after ⊎ Gives answer (sides_of before after) status)))
+    pub gives : WhereRead (asked_of words) before.input.tells (Answers (given files))
 
   -- How it ended: what it came to, what was done up to there, and what the notes tell then. Each processor tells its
   -- actions, so that what is said of the answer rests on nothing more.
   pub record HasEnded : Type 0 where
     pub came : Result ℕ RunFault
     pub notes : End (List ℕ)
-    pub done : CarriesOut given (wish_of words) before (record after { notes = notes }) came
-    pub tells : TellsAll (given done.files).processors
+    pub done : Carries given (asked_of words) before (record after { notes = notes }) came
+    pub tells : (files : Files) → TellsAll (given files).processors
     pub told : TellsEnd came notes after.notes status

@@ -7,7 +7,6 @@ pub mod Reports
 pub mod Listing
 pub mod Numbers
 pub mod Command
-pub mod Options
 pub mod Wishes
 pub mod EndingFaults
 pub mod Stream

@@ -48,6 +48,21 @@ faulty fault = record {
   maps_for = λ frames. [];
 }
 
+-- nothing but what is written, and status 0
+abbrev pub whole : List ℕ → Answer
+whole text = record {
+  output = text;
+  noted = [];
+  fault = None;
+  status = 0;
+  tried = [];
+  made = None;
+  judged = 0;
+  output_for = λ frames. [];
+  noted_for = λ frames. [];
+  maps_for = λ frames. [];
+}
+
 abbrev pub line_by : Option RunFault → List ℕ
 line_by None = []
 line_by (Some fault) = fault_line fault

@@ -1,7 +1,6 @@
 //! What is published behind the head: a candidate of waiting batches, and those that it leaves out on the notes.
 
-ghost use Rattle.std.specs.Prelude.{◌≡◌, ◌≤◌, ◌<◌, ◌^◌, ◌⊎◌, ℕ, length, take, IfOk, IfErr, IfSome, OnErr, OnOk, IsErrOf};
-ghost use Rattle.std.specs.Int.{to_be_bytes, w32};
+ghost use Rattle.std.specs.Prelude.{◌≡◌, ◌≤◌, ◌<◌, ◌^◌, ◌⊎◌, ℕ, length, take, IfErr, OnErr, OnOk, IsErrOf};
 ghost use Rattle.std.specs.Io.KnownBytes.{Appends};
 ghost use Rattle.std.specs.List.{flat_map};
 ghost use Rattle.saw_crew.specs.Desks.{Failed, HaveSameOffers, KeepsDesks, offers_at};
@@ -18,7 +17,7 @@ ghost use Rattle.saw_top.specs.declared.task.Ending.TheVariants.{Candidate};
 
 use crate::Status;
 use crate::line::write_lines;
-use saw_io::{Sink, write_all};
+use saw_io::{Sink, write_frame};
 use saw_journal::Journal;
 use saw_messages::Batch;
 use saw_node::Sha512Half;
@@ -92,30 +91,16 @@ fn make<T: Threads + Wait + Sync, V: Verifier, G: Signer, R: Station>(
     }
 }
 
-// The length of a frame's content. `None`: 32 bits do not count it.
-fn length_of(content: &[u8]) -> Option<[u8; 4]>
-    ensures { IfSome result (λ bytes. bytes ≡ to_be_bytes w32 (length content.now)) }
-{
-    match u32::try_from(content.len()) {
-        Ok(length) => Some(length.to_be_bytes()),
-        Err(_) => None,
-    }
-}
-
-// A content that 32 bits do not count is want of memory. After a fault a part of the frame was written.
-fn write_frame<O: Sink>(output: &mut O, content: &[u8]) -> Result<(), RunFault>
-    ensures ok { OnOk result (Appends (O.written output.old) (O.written output.new) (frame content.now)) }
+// After a fault a part of the block's frame was written.
+fn write_block<O: Sink>(output: &mut O, block: &[u8]) -> Result<(), RunFault>
+    ensures ok { OnOk result (Appends (O.written output.old) (O.written output.new) (frame block.now)) }
     ensures err { OnErr result ((n : ℕ) × Appends (O.written output.old) (O.written output.new)
-        (take n (frame content.now))) }
+        (take n (frame block.now))) }
     ensures fault { IfErr result (λ e. (e ≡ RunFault.Write) ⊎ (e ≡ RunFault.Memory)) }
     ensures later { O.faults output.old ≤ O.faults output.new }
     ensures cause { IsErrOf result RunFault.Write → Rose (O.faults output.old) (O.faults output.new) }
 {
-    let Some(length) = length_of(content) else {
-        return Err(RunFault::Memory);
-    };
-    write_all(output, &length)?;
-    write_all(output, content)?;
+    write_frame(output, block)?;
     Ok(())
 }
 
@@ -135,7 +120,7 @@ fn tell<O: Sink, N: Sink>(
     let Some(block) = &made.block else {
         return Ok(Status::new(1));
     };
-    write_frame(output, block)?;
+    write_block(output, block)?;
     Ok(Status::new(if refused { 1 } else { 0 }))
 }
 

@@ -1,18 +1,21 @@
 //! The top call.
 
-ghost use Rattle.std.specs.Prelude.{[], map, string_bytes};
+ghost use Rattle.std.specs.Prelude.{◌≤◌, [], Some, map, string_bytes};
+ghost use Rattle.saw_generate.specs.Streams.{stream};
 ghost use Rattle.saw_publish.specs.Candidates.{Signing};
 ghost use Rattle.saw_station.specs.Serving.{alone};
-ghost use Rattle.saw_top.specs.Command.{wish_of};
-ghost use Rattle.saw_top.specs.Headline.{CarriesOut, HasEnded, IsAnswered};
-ghost use Rattle.saw_top.specs.Outside.{outside};
+ghost use Rattle.saw_top.specs.Command.{asked_of};
+ghost use Rattle.saw_top.specs.Headline.{Carries, CarriesOut, HasEnded, IsAnswered, WritesBy};
+ghost use Rattle.saw_top.specs.Outside.{outside, sink_end};
+ghost use Rattle.saw_top.specs.Wishes.{wish_in};
 ghost use Rattle.saw_top.specs.World.{world_with};
 
 use crate::Status;
-use crate::command::{Command, read_command};
+use crate::command::{Command, Job, read_command};
 use crate::notes::tell;
 use crate::prepare::prepare;
 use crate::tasks::do_task;
+use saw_generate::{GenerateFault, GenerateWish, generate};
 use saw_io::{Shelf, Sink, Source};
 use saw_report::RunFault;
 use saw_station::lone_desks;
@@ -20,6 +23,66 @@ use saw_verify::{Signer, Verifier};
 use std::alloc::Global;
 use std::sync::Wait;
 use std::thread::Threads;
+
+// Does a job with the blocks of the input.
+fn judge<T: Threads + Wait + Sync, S: Source, O: Sink, N: Sink, F: Shelf, V: Verifier, G: Signer>(
+    rt: &T,
+    alloc: Global,
+    job: Job<'_>,
+    input: &mut S,
+    output: &mut O,
+    notes: &mut N,
+    shelf: &mut F,
+    verifier: &V,
+    signer: &G,
+) -> Result<Status, RunFault>
+    ensures carries { let signing : Signing = record { key = G.key_text signer.now; signature = G.signature signer.now } in
+        let world = outside S.Source O.Sink N.Sink F.Shelf in
+        CarriesOut (world_with (V.accepts verifier.now) signing (alone [])) (Some (wish_in job.entry))
+        (world input.old output.old notes.old shelf.old)
+        (world input.new output.new notes.new shelf.new) result }
+{
+    let Job {
+        workers,
+        task,
+        attest,
+        batches,
+    } = job;
+    let ready = prepare(alloc, attest, batches, shelf, verifier)?;
+    let mut desks = lone_desks(alloc, workers)?;
+    do_task(
+        rt,
+        alloc,
+        &task,
+        input,
+        output,
+        notes,
+        &ready.vouching,
+        signer,
+        ready.batches.as_slice(),
+        &mut desks,
+    )
+}
+
+// Writes a new stream.
+fn write_stream<T: Threads + Wait + Sync, O: Sink, G: Signer>(
+    rt: &T,
+    alloc: Global,
+    wish: &GenerateWish,
+    output: &mut O,
+    signer: &G,
+) -> Result<Status, RunFault>
+    requires blocks { wish.now.blocks ≤ 1000 }
+    requires batches { wish.now.batches ≤ 5000 }
+    ensures writes { let signing : Signing = record { key = G.key_text signer.now; signature = G.signature signer.now } in
+        WritesBy (stream signing wish.now) (sink_end O.Sink output.old) (sink_end O.Sink output.new) result }
+{
+    match generate(rt, alloc, wish, signer, output) {
+        Ok(()) => Ok(Status::new(0)),
+        Err(GenerateFault::WriteFailed) => Err(RunFault::Write),
+        Err(GenerateFault::OutOfMemory) => Err(RunFault::Memory),
+    }
+}
 
 // Does what the words ask for.
 fn carry_out<
@@ -43,33 +106,18 @@ fn carry_out<
 ) -> Result<Status, RunFault>
     ensures carries { let signing : Signing = record { key = G.key_text signer.now; signature = G.signature signer.now } in
         let world = outside S.Source O.Sink N.Sink F.Shelf in
-        CarriesOut (world_with (V.accepts verifier.now) signing (alone [])) (wish_of (map string_bytes words.now))
+        Carries (world_with (V.accepts verifier.now) signing (alone [])) (asked_of (map string_bytes words.now))
         (world input.old output.old notes.old shelf.old)
         (world input.new output.new notes.new shelf.new) result }
 {
-    let Some(command) = read_command(alloc, words)? else {
-        return Err(RunFault::Words);
-    };
-    let Command {
-        workers,
-        task,
-        attest,
-        batches,
-    } = command;
-    let ready = prepare(alloc, attest, batches, shelf, verifier)?;
-    let mut desks = lone_desks(alloc, workers)?;
-    do_task(
-        rt,
-        alloc,
-        &task,
-        input,
-        output,
-        notes,
-        &ready.vouching,
-        signer,
-        ready.batches.as_slice(),
-        &mut desks,
-    )
+    let command = read_command(alloc, words)?;
+    match command {
+        None => Err(RunFault::Words),
+        Some(Command::Judge(job)) => judge(
+            rt, alloc, job, input, output, notes, shelf, verifier, signer,
+        ),
+        Some(Command::Generate(wish)) => write_stream(rt, alloc, &wish, output, signer),
+    }
 }
 
 /// Answers the words and the block stream, and tells on the notes why a run ended early. The words are those after the
@@ -80,7 +128,9 @@ fn carry_out<
 /// block of that branch that holds the batch, or `UNKNOWN`. `publish --batches NAME` tells which batches of that list it leaves
 /// out, and writes a frame with the block of the others behind the head, if one is applied. Each takes `--workers N` (1 to
 /// 64; 4 where none is given), which shows in no answer, and `--attest NAME`; `state` takes `--prefix P`. The attestation
-/// list is fetched before the batch list, and a file that both name once.
+/// list is fetched before the batch list, and a file that both name once. `generate --start N --blocks N --batches N` and
+/// `--conflicts N` (0 to 100; 10 where none is given) reads and fetches nothing, and writes a new stream of blocks, all of
+/// whose batches apply.
 ///
 /// The status is 0 where all was done, and of `apply` and `publish` 1 where a block was refused, of `publish` also where no
 /// batch is applied; 2 for words of no form; 3 for a stream that is none; 4 where reading failed, 5 where writing failed, 7
@@ -99,7 +149,8 @@ pub fn run<T: Threads + Wait + Sync, S: Source, O: Sink, N: Sink, F: Shelf, V: V
 ) -> Status
     // Unless memory was refused (7), two different nodes of one hash were met (9) or a call failed, output,
     // notes and status are the answer, where input and output tell their bytes, and verifier and signer are
-    // functions, as their traits say. It rests on nothing more. Files that are not told are some files.
+    // functions, as their traits say. It rests on nothing more. Files that are not told are some files. A new stream
+    // is the answer whatever the input tells.
     ensures answered { let signing : Signing = record { key = G.key_text signer.now; signature = G.signature signer.now } in
         let world = outside S.Source O.Sink N.Sink F.Shelf in
         IsAnswered (world_with (V.accepts verifier.now) signing (alone [])) (map string_bytes words.now)

@@ -1,6 +1,8 @@
 //! The program: judges the block stream of its standard input.
 #![tactic(auto)]
 
+mod help;
+
 use saw_io::{DirShelf, StdSink, StdSource};
 use saw_top::run;
 use saw_verify::{DevSigner, DevVerifier};
@@ -34,6 +36,9 @@ fn main(rt: HostRuntime) -> ExitCode {
         // Words that are no text are of no form, as no words are.
         Err(_) => Vec::new(alloc),
     };
+    if help::asks_about(&words) {
+        return help::tell(&rt, &words);
+    }
     let Some(signer) = signer(alloc) else {
         return ExitCode::from(MEMORY);
     };

@@ -1,16 +1,9 @@
-use Rattle.std.proofs.Common.{List, [], true, refl, sym, subst}
+use Rattle.std.proofs.Common.{[], refl, sym}
 use Rattle.std.proofs.lemmas.Result.{err_from_is_err_and}
-use Rattle.std.specs.Prelude.{option_map}
-use Rattle.saw_messages.specs.declared.outcome.Reason.TheVariants.{Remote}
-use Rattle.saw_messages.specs.declared.talk.Action.TheVariants as actions
-use Rattle.saw_crew.proofs.Lone.{lone_alike, lone_offers}
-use Rattle.saw_crew.specs.Desks.{offers_at}
-use Rattle.saw_station.specs.DeskPlaces.{AreLone, Place}
-use Rattle.saw_station.specs.Serving.{alone, processors_at}
-use Rattle.saw_station.specs.declared.station.NoStation.{NoStation}
-use Rattle.saw_top.specs.Outside.{outside, outside_with, shelf_end}
-use Rattle.saw_top.proofs.Carrying.{deskless, signs, unasked, unprepared, unread, with_ready, without_remotes}
-use Rattle.saw_top.proofs.Desks.{lone_counts}
+use Rattle.saw_station.specs.Serving.{alone}
+use Rattle.saw_top.specs.Outside.{outside}
+use Rattle.saw_top.specs.World.{world_with}
+use Rattle.saw_top.proofs.Carrying.{generated, judged, signs, unasked, unread}
 use Rattle.saw_top.proofs.top.carry_out.Goals as goal
 
 pub returns-in_err-command : goal.returns-in_err-command
@@ -24,62 +17,27 @@ returns-in_err-command g c =
           c.in_err-command.ensures.memory);
     }
 
-pub returns-in_default : goal.returns-in_default
-returns-in_default g c =
+pub returns-in-None : goal.returns-in-None
+returns-in-None g c =
     let signing = signs (g.G.Signer.key_text c.args.signer.now) (g.G.Signer.signature c.args.signer.now) in
-    let none = rw c.in_default.is at c.in_ok-command.ensures.ok in
+    let none = rw c.in-None.is at c.in_ok-command.ensures.ok in
     record {
       carries = unasked (g.V.Verifier.accepts c.args.verifier.now) signing (alone []) _
           (outside g.S.Source g.O.Sink g.N.Sink g.F.Shelf c.args.input.now c.args.output.now c.args.notes.now c.args.shelf.now) (sym none);
     }
 
-pub returns-in_err-ready : goal.returns-in_err-ready
-returns-in_err-ready g c =
-    let signing = signs (g.G.Signer.key_text c.args.signer.now) (g.G.Signer.signature c.args.signer.now) in
-    let p = err_from_is_err_and c.from_residual-in_err-ready.result c.from_residual-in_err-ready.ensures.1 in
-    let command = c.in-Some.command in
-    let asked = rw c.in-Some.is at c.in_ok-command.ensures.ok in
-    record {
-      carries = rw (p.1, p.2, ← asked)
-          (unprepared (g.V.Verifier.accepts c.args.verifier.now) signing (alone []) command.workers command.task (option_map (λ name. name.now) command.attest)
-          (option_map (λ name. name.now) command.batches)
-          (outside g.S.Source g.O.Sink g.N.Sink g.F.Shelf c.args.input.now c.args.output.now c.args.notes.now c.args.shelf.now)
-          (shelf_end g.F.Shelf c.prepare.new.shelf) c.in_err-ready.field-0.0 (c.in_err-ready.ensures.prepares signing));
-    }
+pub returns-in-Some-Judge : goal.returns-in-Some-Judge
+returns-in-Some-Judge g c =
+    let asked = rw (c.in-Some-Judge.is, c.in-Some-Judge.field-0-is) at c.in_ok-command.ensures.ok in
+    record { carries = judged _ _ _ _ _ _ asked c.judge.ensures.carries }
 
-pub returns-in_err-desks : goal.returns-in_err-desks
-returns-in_err-desks g c =
+pub returns-in-Some-Generate : goal.returns-in-Some-Generate
+returns-in-Some-Generate g c =
     let signing = signs (g.G.Signer.key_text c.args.signer.now) (g.G.Signer.signature c.args.signer.now) in
-    let p = err_from_is_err_and c.from_residual-in_err-desks.result c.from_residual-in_err-desks.ensures.1 in
-    let command = c.in-Some.command in
-    let asked = rw c.in-Some.is at c.in_ok-command.ensures.ok in
+    let asked = rw (c.in-Some-Generate.is, c.in-Some-Generate.field-0-is) at c.in_ok-command.ensures.ok in
     record {
-      carries = rw (p.1, p.2, ← asked)
-          (deskless (g.V.Verifier.accepts c.args.verifier.now) signing (alone []) command.workers command.task (option_map (λ name. name.now) command.attest)
-          (option_map (λ name. name.now) command.batches)
+      carries = generated (world_with (g.V.Verifier.accepts c.args.verifier.now) signing (alone [])) _ _
           (outside g.S.Source g.O.Sink g.N.Sink g.F.Shelf c.args.input.now c.args.output.now c.args.notes.now c.args.shelf.now)
-          (shelf_end g.F.Shelf c.prepare.new.shelf) _ (c.in_ok-ready.ensures.prepares signing));
-    }
-
-pub returns : goal.returns
-returns g c =
-    let signing = signs (g.G.Signer.key_text c.args.signer.now) (g.G.Signer.signature c.args.signer.now) in
-    let command = c.in-Some.command in
-    let asked = rw c.in-Some.is at c.in_ok-command.ensures.ok in
-    let at = processors_at (λ tx turns. actions.Invalid Remote) true in
-    let desks = c.deref_mut.result.now in
-    let lone : AreLone desks = subst (λ (l : List (Place NoStation)). AreLone l) (sym c.deref_mut.ensures.value) c.in_ok-desks.ensures.lone in
-    let counts = lone_counts (λ (r : NoStation). 0) (λ (r : NoStation). []) desks c.do_task.new.desks lone c.do_task.ensures.desks in
-    record {
-      carries = rw (← asked)
-          (with_ready (g.V.Verifier.accepts c.args.verifier.now) signing (alone []) command.workers command.task (option_map (λ name. name.now) command.attest)
-          (option_map (λ name. name.now) command.batches)
-          (outside g.S.Source g.O.Sink g.N.Sink g.F.Shelf c.args.input.now c.args.output.now c.args.notes.now c.args.shelf.now)
-          (shelf_end g.F.Shelf c.prepare.new.shelf) _ (c.in_ok-ready.ensures.prepares signing)
-          (outside g.S.Source g.O.Sink g.N.Sink g.F.Shelf c.do_task.new.input c.do_task.new.output c.do_task.new.notes c.prepare.new.shelf)
-          c.do_task.result refl
-          (λ from to. without_remotes at (offers_at desks) (lone_offers desks lone) _ _ counts.0 counts.1 command.task _
-          (outside_with g.S.Source g.O.Sink g.N.Sink c.args.input.now c.args.output.now c.args.notes.now from [])
-          (outside_with g.S.Source g.O.Sink g.N.Sink c.do_task.new.input c.do_task.new.output c.do_task.new.notes to []) c.do_task.result
-          (rw c.as_slice.ensures at (c.do_task.ensures.does from to))));
+          (outside g.S.Source g.O.Sink g.N.Sink g.F.Shelf c.args.input.now c.write_stream.new.output c.args.notes.now c.args.shelf.now) _ asked refl
+          (λ files. c.write_stream.ensures.writes);
     }

@@ -9,7 +9,7 @@ returns-in-Ok-clause-ended g c = record {
   came = Ok c.in-Ok.status;
   notes = sink_end g.N.Sink c.carry_out.new.notes;
   done = c.in-Ok.ensures.carries;
-  tells = built_in_tell.0;
+  tells = λ files. built_in_tell.0;
   told = (refl, refl);
 }
 
@@ -21,7 +21,7 @@ returns-in-Err-clause-ended g c = record {
   came = Err c.in-Err.fault;
   notes = sink_end g.N.Sink c.carry_out.new.notes;
   done = c.in-Err.ensures.carries;
-  tells = built_in_tell.0;
+  tells = λ files. built_in_tell.0;
   told = (c.tell.ensures.told, c.tell.ensures.later);
 }
 

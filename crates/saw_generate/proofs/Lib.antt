@@ -1,0 +1,17 @@
+pub mod HeadersBack
+pub mod Faultless
+pub mod Batching
+pub mod Shapes
+pub mod Addresses
+pub mod Exchange
+pub mod Outcomes
+pub mod Entries
+pub mod Books
+pub mod Names
+pub mod Steps
+pub mod Blocks
+pub mod Sizes
+pub mod Reading
+pub mod Every
+pub mod Chaining
+pub mod Streaming

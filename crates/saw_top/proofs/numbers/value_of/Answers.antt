@@ -1,5 +1,0 @@
-use Rattle.saw_top.proofs.Numerals.{number_read}
-use Rattle.saw_top.proofs.numbers.value_of.Goals as goal
-
-pub returns : goal.returns
-returns c = λ is. rw c.ok.ensures.value (number_read c.args.text.now c.parse.result c.parse.ensures.value.0 is)
