@@ -13,10 +13,6 @@ import sys
 import tempfile
 import time
 
-sys.path.insert(0, os.path.join(os.path.dirname(os.path.abspath(__file__)), "..", "tools"))
-
-import generator
-
 START, WORKERS = 7, (1, 2, 4)
 
 
@@ -38,8 +34,8 @@ def main():
     print(f"{blocks} blocks of {batches} batches, {os.cpu_count()} cores, load {os.getloadavg()[0]:.1f}")
     for conflicts in (0, 10, 100):
         with tempfile.TemporaryFile() as file:
-            file.writelines(generator.frames(START, blocks, batches, conflicts))
-            file.flush()
+            words = ["--start", START, "--blocks", blocks, "--batches", batches, "--conflicts", conflicts]
+            subprocess.run([program, "generate", *map(str, words)], stdout=file, check=True)
             told = {workers: [] for workers in WORKERS}
             for _ in range(runs):
                 for workers in WORKERS:
