@@ -9,6 +9,7 @@ use Rattle.saw_plan.specs.BatchShapes.{txs_of}
 use Rattle.saw_publish.specs.Candidates.{Signing}
 use Rattle.saw_receipts.specs.Shapes.{batch_in}
 use Rattle.saw_station.specs.Serving.{alone}
+use Rattle.saw_generate.specs.Draws.{draw_at, state_after}
 use Rattle.saw_generate.specs.Streams.{batches_at, map_after_blocks}
 use Rattle.saw_generate.specs.declared.wish.GenerateWish.{GenerateWish}
 
@@ -24,3 +25,7 @@ IsApplied (Failed t reason) = ⊥
 abbrev pub EveryBatchApplies : Type 0
 EveryBatchApplies = (signing : Signing) (wish : GenerateWish) → is_hex_text 66 signing.key ≡ true → wish.blocks ≤ 1000 → wish.batches ≤ 5000
     → (b : ℕ) → b < wish.blocks → AllByRecursion IsApplied (results_at signing wish b)
+
+-- the first state and the first draw from 7 on
+abbrev pub DrawsOfSeven : Type 0
+DrawsOfSeven = (state_after 7 1 ≡ 9098160460397411210) × (draw_at 7 0 ≡ 1059165278)

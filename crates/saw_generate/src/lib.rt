@@ -14,6 +14,6 @@ mod stream;
 mod wish;
 
 pub use fault::GenerateFault;
-pub use laws::every_batch_applies;
+pub use laws::{draws_of_seven, every_batch_applies};
 pub use stream::generate;
 pub use wish::GenerateWish;

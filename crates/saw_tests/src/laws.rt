@@ -90,6 +90,7 @@ fn laws_of_blocks_and_streams(_rt: HostRuntime) {
     saw_journal::kept_branch_is();
     saw_journal::kept_is_left();
     saw_generate::every_batch_applies();
+    saw_generate::draws_of_seven();
     saw_top::frames_are_read();
     saw_words::options_are_read();
     saw_top::order_of_options_does_not_show();
