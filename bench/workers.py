@@ -8,24 +8,11 @@ processor time of that run, transactions a second, and how often the speed of on
 """
 
 import os
-import subprocess
 import sys
-import tempfile
-import time
 
-START, WORKERS = 7, (1, 2, 4)
+from compare import made, run
 
-
-def run(program, file, workers):
-    """The wall time and the processor time of one run, and what it writes."""
-    file.seek(0)
-    begin = time.monotonic()
-    child = subprocess.Popen([program, "apply", "--workers", str(workers)], stdin=file, stdout=subprocess.PIPE)
-    answer = child.stdout.read()
-    _, status, usage = os.wait4(child.pid, 0)
-    if status != 0:
-        sys.exit(f"status {os.waitstatus_to_exitcode(status)} with {workers} workers")
-    return time.monotonic() - begin, usage.ru_utime + usage.ru_stime, answer
+WORKERS = (1, 2, 4)
 
 
 def main():
@@ -33,17 +20,15 @@ def main():
     blocks, batches, runs = (int(word) for word in sys.argv[2:5] or ("4", "2500", "5"))
     print(f"{blocks} blocks of {batches} batches, {os.cpu_count()} cores, load {os.getloadavg()[0]:.1f}")
     for conflicts in (0, 10, 100):
-        with tempfile.TemporaryFile() as file:
-            words = ["--start", START, "--blocks", blocks, "--batches", batches, "--conflicts", conflicts]
-            subprocess.run([program, "generate", *map(str, words)], stdout=file, check=True)
+        with made(program, blocks, batches, conflicts) as file:
             told = {workers: [] for workers in WORKERS}
             for _ in range(runs):
                 for workers in WORKERS:
                     told[workers].append(run(program, file, workers))
-        if len({answer for some in told.values() for _, _, answer in some}) != 1:
+        if len({answer for some in told.values() for *_, answer in some}) != 1:
             sys.exit("the answers differ")
         for workers, some in told.items():
-            wall, processor, _ = min(some)
+            wall, processor, *_ = min(some)
             times = min(told[1])[0] / wall
             speed = blocks * batches * 2 / wall
             print(

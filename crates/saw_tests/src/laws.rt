@@ -54,6 +54,7 @@ fn laws_of_transactions_and_families(_rt: HostRuntime) {
     saw_intkey::replies_decide();
     saw_intkey::reasons_are_own();
     saw_intkey::kept_is_read();
+    saw_intkey::payload_is_read();
     saw_xo::replies_decide();
     saw_xo::reasons_are_own();
     saw_xo::kept_is_read();
