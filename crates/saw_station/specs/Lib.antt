@@ -1,5 +1,6 @@
 pub mod TalkSteps
 pub mod Serving
+pub mod CommonOffers
 pub mod Spoken
 pub mod AccessReplies
 pub mod DeskPlaces

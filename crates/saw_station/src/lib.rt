@@ -3,6 +3,7 @@
 
 mod answer;
 mod builtin;
+mod common;
 mod conversation;
 mod desk;
 mod fault;
@@ -12,6 +13,7 @@ mod run;
 mod serving;
 mod station;
 
+pub use common::common_offers;
 pub use desk::Desk;
 pub use fault::StationFault;
 pub use lone::lone_desks;

@@ -35,7 +35,8 @@ pub(crate) enum Served {
     Remote,
 }
 
-fn is_offered(offers: &[Offer], family: &str, version: &str) -> bool
+/// Whether the family is offered in this version.
+pub(crate) fn is_offered(offers: &[Offer], family: &str, version: &str) -> bool
     ensures { result ≡ is_offered offers.now family.now version.now }
 {
     offers.iter().any(|offer| family == offer.family.as_str() && version == offer.version.as_str())
