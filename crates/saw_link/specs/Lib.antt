@@ -1,0 +1,11 @@
+pub mod Alike
+pub mod Tells
+pub mod SentFrames
+pub mod Hearing
+pub mod LinkConversation
+pub mod LinkMemory
+pub mod LinkStreams
+pub mod Copies
+pub mod Troubles
+pub mod Asking
+pub mod Remotes

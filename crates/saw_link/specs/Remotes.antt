@@ -1,0 +1,100 @@
+-- A processor elsewhere, as a station sees it.
+use Rattle.std.specs.Prelude.{◌≡◌, ◌⊎◌, ℕ, ◌+◌, Bool, true, false, List, [], ◌∷◌, ◌++◌, Option, Some, None, min}
+use Rattle.saw_faults.specs.Counts.{Rose, last_count}
+use Rattle.saw_messages.specs.TxShapes.{TxShape, shape_in}
+use Rattle.saw_messages.specs.declared.talk.Action.{Action}
+use Rattle.saw_messages.specs.declared.talk.Reply.{Reply}
+use Rattle.saw_messages.specs.declared.talk.Turn.{Turn}
+use Rattle.saw_messages.specs.declared.transaction.Transaction.{Transaction}
+use Rattle.saw_station.specs.TalkSteps.{Step}
+use Rattle.saw_station.specs.declared.fault.StationFault.{StationFault}
+use Rattle.saw_station.specs.declared.fault.StationFault.TheVariants as stations
+use Rattle.saw_link.specs.Copies.{kept_tx}
+use Rattle.saw_link.specs.LinkConversation.{Answers, Began, Moved, IsSpelled, fresh}
+use Rattle.saw_link.specs.declared.passed.Passed.{Passed}
+use Rattle.saw_link.specs.Troubles.{Stopped}
+use Rattle.saw_link.specs.declared.exchange.Trouble.{Trouble}
+use Rattle.saw_link.specs.declared.exchange.Trouble.TheVariants as troubles
+use Rattle.saw_link.specs.declared.remote.Health.{Health}
+use Rattle.saw_link.specs.declared.remote.Health.TheVariants.{Sound, Failed, Starved}
+use Rattle.saw_link.specs.declared.standing.LastStep.{LastStep}
+use Rattle.saw_link.specs.declared.standing.Standing.{Standing}
+
+-- the link, how it stands, whether it has begun and is sound, the count of faults, and the frame that was not legal
+pub record Remote (L : Type 0) : Type 0 where
+  pub link : L
+  pub standing : Standing
+  pub begun : Bool
+  pub health : Health
+  pub faults : ℕ
+  pub breach : Option (List ℕ)
+
+-- while it is sound, what the link tells spells how it stands; nothing passed before it began
+pub record IsKept (told : Option (List Passed)) (standing : Standing) (begun : Bool) (health : Health) : Type 0 where
+  pub spelled : health ≡ Sound → IsSpelled told standing
+  pub still : health ≡ Sound → standing.refused ≡ 0
+  pub ready : begun ≡ true → health ≡ Sound → standing.more ≡ false
+  pub unbegun : begun ≡ false → health ≡ Sound → standing ≡ fresh
+
+-- the copy of the last step
+abbrev pub kept_step : Option LastStep → Option Step
+kept_step None = None
+kept_step (Some last) = Some (record { tx = shape_in last.tx; turns = last.turns; action = last.action })
+
+-- what is kept is this step
+pub record IsStep (kept : Option LastStep) (tx : TxShape) (turns : List Turn) (action : Action) : Type 0 where
+  pub kept_of : Transaction
+  pub is : kept ≡ Some (record { tx = kept_of; turns = turns; action = action })
+  pub shape : shape_in kept_of ≡ tx
+
+-- the request of the last step was answered by the reply that the turns add to it
+pub record Answered (told : Option (List Passed)) (s : Standing) (turns : List Turn) (later : Option (List Passed)) (next : Standing) : Type 0 where
+  pub last : LastStep
+  pub reply : Reply
+  pub had : s.last ≡ Some last
+  pub adds : turns ≡ last.turns ++ record { action = last.action; reply = reply } ∷ []
+  pub moved : Moved told s (Answers reply) later next
+
+-- a step without turns begins a transaction, any other answers a request
+abbrev pub Stepped : Option (List Passed) → Standing → TxShape → List Turn → Option (List Passed) → Standing → Type 0
+Stepped told s tx turns later next = ((turns ≡ []) × Began told s (kept_tx tx) later next) ⊎ Answered told s turns later next
+
+abbrev pub fault_of : Trouble → StationFault
+fault_of troubles.Link = stations.PeerFailed
+fault_of troubles.TooLong = stations.PeerFailed
+fault_of troubles.Ended = stations.PeerFailed
+fault_of troubles.Broken = stations.PeerFailed
+fault_of (troubles.Breach frame) = stations.PeerFailed
+fault_of troubles.Exhausted = stations.PeerFailed
+fault_of troubles.OutOfMemory = stations.OutOfMemory
+
+abbrev pub health_of : StationFault → Health
+health_of stations.PeerFailed = Failed
+health_of stations.OutOfMemory = Starved
+
+abbrev pub faults_after : ℕ → StationFault → ℕ
+faults_after faults stations.PeerFailed = min (faults + 1) last_count
+faults_after faults stations.OutOfMemory = faults
+
+abbrev pub breach_of : Trouble → Option (List ℕ)
+breach_of troubles.Link = None
+breach_of troubles.TooLong = None
+breach_of troubles.Ended = None
+breach_of troubles.Broken = None
+breach_of (troubles.Breach frame) = Some frame
+breach_of troubles.Exhausted = None
+breach_of troubles.OutOfMemory = None
+
+-- after a failure each further call fails and is counted; after want of memory each answers that
+abbrev pub GoesOn : Health → Health → StationFault → ℕ → ℕ → Type 0
+GoesOn Sound later fault before after = (later ≡ health_of fault) × (after ≡ faults_after before fault)
+GoesOn Failed later fault before after = (later ≡ Failed) × (fault ≡ stations.PeerFailed) × (after ≡ min (before + 1) last_count)
+GoesOn Starved later fault before after = (later ≡ Starved) × (fault ≡ stations.OutOfMemory) × (after ≡ before)
+
+-- why a call failed: the trouble, the moves that came to their end before it, and the frame that was not legal
+pub record Why {L : Type 0} (told : L → Option (List Passed)) (counted : L → ℕ) (before after : Remote L) (fault : StationFault) : Type 0 where
+  pub trouble : Trouble
+  pub is : fault ≡ fault_of trouble
+  pub stopped : Stopped trouble (told before.link) before.standing (told after.link)
+  pub link : trouble ≡ troubles.Link → Rose (counted before.link) (counted after.link)
+  pub breach : after.breach ≡ breach_of trouble

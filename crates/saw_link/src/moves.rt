@@ -1,0 +1,394 @@
+//! What a station does on its link, each time until the peer's next frame.
+
+ghost use Rattle.std.specs.Prelude.{◌≡◌, ◌+◌, ◌≤◌, ◌<◌, ◌∷◌, ◌++◌, [], ℕ, List, Option, true, false, Some, None, is_some, length, IfOk, IfErr, IfSome, OnOk, IsErrOf, IsSome};
+ghost use Rattle.std.specs.Fmt.{decimal};
+ghost use Rattle.saw_context.specs.Outcome.{is_request};
+ghost use Rattle.saw_faults.specs.Counts.{Rose};
+ghost use Rattle.saw_messages.specs.Reasons.{has_own_reason};
+ghost use Rattle.saw_messages.specs.TxShapes.{shape_in};
+ghost use Rattle.saw_station.specs.TalkSteps.{IsShort, fits};
+ghost use Rattle.saw_link.specs.Asking.{IsAsking};
+ghost use Rattle.saw_link.specs.Copies.{kept_tx};
+ghost use Rattle.saw_link.specs.Hearing.{heard};
+ghost use Rattle.saw_link.specs.LinkConversation.{Move, Registers, Begins, Answers, Refuses, ObeysAfter, IsSpelled, IsAct, Moved, Closed, Registered, Began, acted, after, left_by, may_register, registered_by, version_by};
+ghost use Rattle.saw_link.specs.Troubles.{Unasked, Unacted, Troubled, Stopped};
+ghost use Rattle.saw_link.specs.declared.passed.Passed.{Passed};
+ghost use Rattle.saw_link.specs.declared.passed.Passed.TheVariants.{Sent, Received};
+ghost use Rattle.saw_link.specs.Tells.{Adds};
+
+use crate::copies::{copy_action, copy_reply, copy_tx};
+use crate::exchange::{Trouble, receive, send};
+use crate::heard::{Asked, Finish, Heard, Registration, hear, hear_registration};
+use crate::link::Link;
+use crate::standing::{LastStep, Standing};
+use crate::written::{answer, limit_of, process_request, welcome};
+use saw_linkmsg::TpRegisterRequest;
+use saw_messages::{Action, Reason, Reply, Transaction, Turn, Tx};
+use saw_station::Offer;
+use saw_wire::{Bytes, Items, Text};
+use std::alloc::{AllocError, Global};
+
+/// The peer's frame, and what it says.
+#[derive(Drop)]
+pub(crate) struct Said {
+    pub(crate) heard: Heard,
+    pub(crate) frame: Bytes,
+}
+
+fn number(alloc: Global, count: u64) -> Result<Text, AllocError>
+    ensures { IfOk result (λ made. made ≡ decimal count) }
+{
+    Ok(Text::from_string(count.to_string(alloc)?))
+}
+
+// Sends a frame, and hears the next.
+fn ask<L: Link>(
+    alloc: Global,
+    link: &mut L,
+    limit: usize,
+    context: &str,
+    sent: &[u8],
+) -> Result<Said, Trouble>
+    ensures heard { IfOk result (λ said. said.heard ≡ heard limit context.now said.frame) }
+    ensures asking { IfOk result (λ said. IsAsking said.heard) }
+    ensures adds { IfOk result (λ said. Adds (L.told link.old) (Sent sent.now ∷ Received said.frame ∷ []) (L.told link.new)) }
+    ensures within { OnOk result (length sent.now ≤ limit) }
+    ensures obeys { L.tells ≡ true → IfOk result (λ said. ObeysAfter L.next (L.told link.old) sent.now said.frame) }
+    ensures whole { L.tells ≡ true → OnOk result (IsSome (L.told link.old)) }
+    ensures later { L.faults link.old ≤ L.faults link.new }
+    ensures unasked { IfErr result (λ trouble. Unasked trouble (L.told link.old) limit sent.now (L.told link.new)) }
+    ensures link { IsErrOf result Trouble.Link → Rose (L.faults link.old) (L.faults link.new) }
+{
+    send(alloc, link, limit, sent)?;
+    let frame = receive(alloc, link)?;
+    let heard = hear(alloc, limit, context, &frame)?;
+    Ok(Said {
+        heard,
+        frame: Bytes::from_vec(frame),
+    })
+}
+
+// Keeps the action after these turns, with a copy.
+fn act(
+    alloc: Global,
+    standing: &mut Standing,
+    tx: Transaction,
+    turns: Items<Turn>,
+    count: u64,
+    said: Said,
+) -> Result<Action, Trouble>
+    requires { IsAsking said.heard }
+    ensures still { OnOk result ((standing.new.refused ≡ 0) × (standing.new.more ≡ standing.old.more)) }
+    ensures acted { OnOk result (acted standing.old tx turns count said.heard ≡ Some standing.new) }
+    ensures last { IfOk result (λ action. standing.new.last ≡ Some (record { tx = tx; turns = turns; action = action })) }
+    ensures own { IfOk result (λ action. has_own_reason action ≡ true) }
+    ensures short { IfOk result IsShort }
+    ensures talking { IfOk result (λ action. is_some standing.new.asked ≡ true → is_request action ≡ true) }
+    ensures offers { standing.new.offers ≡ standing.old.offers }
+    ensures unacted { IfErr result (λ trouble. Unacted trouble said.heard said.frame) }
+    ensures link { IsErrOf result Trouble.Link → ⊥ }
+{
+    let Said { heard, frame } = said;
+    match heard {
+        Heard::Asks(asked, action) => keep(alloc, standing, tx, turns, count, Some(asked), action),
+        Heard::Ends(Finish::Accepted) => keep(alloc, standing, tx, turns, count, None, Action::Ok),
+        Heard::Ends(Finish::Refused) => {
+            let action = Action::Invalid {
+                reason: Reason::Remote,
+            };
+            keep(alloc, standing, tx, turns, count, None, action)
+        }
+        Heard::Ends(Finish::Broken) => Err(Trouble::Broken),
+        Heard::Breach => Err(Trouble::Breach(frame)),
+    }
+}
+
+fn keep(
+    alloc: Global,
+    standing: &mut Standing,
+    tx: Transaction,
+    turns: Items<Turn>,
+    count: u64,
+    asked: Option<Asked>,
+    action: Action,
+) -> Result<Action, Trouble>
+    ensures kept { OnOk result (standing.new ≡ record standing.old
+        { count = count; last = Some (record { tx = tx; turns = turns; action = action }); asked = asked; refused = 0 }) }
+    ensures action { IfOk result (λ made. made ≡ action) }
+    ensures offers { standing.new.offers ≡ standing.old.offers }
+    ensures memory { IfErr result (λ trouble. trouble ≡ Trouble.OutOfMemory) }
+    ensures link { IsErrOf result Trouble.Link → ⊥ }
+{
+    let copy = copy_action(alloc, &action)?;
+    standing.count = count;
+    standing.last = Some(LastStep { tx, turns, action });
+    standing.asked = asked;
+    standing.refused = 0;
+    Ok(copy)
+}
+
+/// Begins a transaction.
+pub(crate) fn begin_tx<L: Link>(
+    alloc: Global,
+    link: &mut L,
+    standing: &mut Standing,
+    tx: &Tx,
+) -> Result<Action, Trouble>
+    requires due { (standing.old.more ≡ false) × (standing.old.asked ≡ None) }
+    ensures still { OnOk result ((standing.new.refused ≡ 0) × (standing.new.more ≡ standing.old.more)) }
+    ensures moved { OnOk result (Moved (L.told link.old) standing.old (Begins (kept_tx tx.now)) (L.told link.new) standing.new) }
+    ensures acts { L.tells ≡ true → OnOk result (IsSpelled (L.told link.old) standing.old → IsAct L.next (Begins (kept_tx tx.now)) standing.new) }
+    ensures last { IfOk result (λ action. standing.new.last ≡ Some (record { tx = kept_tx tx.now; turns = []; action = action })) }
+    ensures shape { OnOk result (shape_in (kept_tx tx.now) ≡ tx.now) }
+    ensures own { IfOk result (λ action. has_own_reason action ≡ true) }
+    ensures short { IfOk result IsShort }
+    ensures talking { IfOk result (λ action. is_some standing.new.asked ≡ true → is_request action ≡ true) }
+    ensures offers { standing.new.offers ≡ standing.old.offers }
+    ensures later { L.faults link.old ≤ L.faults link.new }
+    ensures troubled { IfErr result (λ trouble. Troubled trouble (L.told link.old) standing.old (Begins (kept_tx tx.now)) (L.told link.new)) }
+    ensures link { IsErrOf result Trouble.Link → Rose (L.faults link.old) (L.faults link.new) }
+{
+    let Some(count) = standing.count.checked_add(1) else {
+        return Err(Trouble::Exhausted);
+    };
+    let kept = copy_tx(alloc, tx)?;
+    let context = number(alloc, count)?;
+    let sent = process_request(alloc, standing.version, &context, &kept)?;
+    let limit = limit_of(standing.version);
+    let said = match ask(alloc, link, limit, context.as_str(), &sent) {
+        Ok(said) => said,
+        Err(trouble) => return Err(trouble),
+    };
+    act(alloc, standing, kept, Items::new(alloc), count, said)
+}
+
+/// Answers the request that waits.
+pub(crate) fn go_on<L: Link>(
+    alloc: Global,
+    link: &mut L,
+    standing: &mut Standing,
+    reply: &Reply,
+) -> Result<Action, Trouble>
+    requires still { standing.old.refused ≡ 0 }
+    requires fits { IfSome standing.old.last (λ last. fits last.action reply.now ≡ true) }
+    ensures still { OnOk result ((standing.new.refused ≡ 0) × (standing.new.more ≡ standing.old.more)) }
+    ensures moved { OnOk result (Moved (L.told link.old) standing.old (Answers reply.now) (L.told link.new) standing.new) }
+    ensures acts { L.tells ≡ true → OnOk result (IsSpelled (L.told link.old) standing.old → IsAct L.next (Answers reply.now) standing.new) }
+    ensures last { IfOk result (λ action. IfSome standing.old.last (λ last. standing.new.last
+        ≡ Some (record { tx = last.tx; turns = last.turns ++ record { action = last.action; reply = reply.now } ∷ []; action = action }))) }
+    ensures had { OnOk result (IsSome standing.old.last) }
+    ensures own { IfOk result (λ action. has_own_reason action ≡ true) }
+    ensures short { IfOk result IsShort }
+    ensures talking { IfOk result (λ action. is_some standing.new.asked ≡ true → is_request action ≡ true) }
+    ensures offers { standing.new.offers ≡ standing.old.offers }
+    ensures later { L.faults link.old ≤ L.faults link.new }
+    ensures troubled { IfErr result (λ trouble. Troubled trouble (L.told link.old) standing.old (Answers reply.now) (L.told link.new)) }
+    ensures link { IsErrOf result Trouble.Link → Rose (L.faults link.old) (L.faults link.new) }
+{
+    let Some(asked) = &standing.asked else {
+        return Err(Trouble::OutOfMemory);
+    };
+    let sent = answer(alloc, asked, reply)?;
+    let reply = copy_reply(alloc, reply)?;
+    let context = number(alloc, standing.count)?;
+    let limit = limit_of(standing.version);
+    let said = ask(alloc, link, limit, context.as_str(), &sent)?;
+    let count = standing.count;
+    let Some(last) = standing.last.take() else {
+        return Err(Trouble::OutOfMemory);
+    };
+    let LastStep {
+        tx,
+        mut turns,
+        action,
+    } = last;
+    turns.push(Turn { action, reply })?;
+    act(alloc, standing, tx, turns, count, said)
+}
+
+/// Refuses the request that waits.
+fn refuse<L: Link>(alloc: Global, link: &mut L, standing: &mut Standing) -> Result<(), Trouble>
+    ensures still { OnOk result (is_some standing.old.asked ≡ true → is_some standing.new.asked ≡ false → standing.new.refused ≡ 0) }
+    ensures more { standing.new.more ≡ standing.old.more }
+    ensures moved { OnOk result (is_some standing.old.asked ≡ true → Moved (L.told link.old) standing.old Refuses (L.told link.new) standing.new) }
+    ensures less { OnOk result (is_some standing.old.asked ≡ true
+        → left_by standing.new.asked standing.new.refused < left_by standing.old.asked standing.old.refused) }
+    ensures last { standing.new.last ≡ standing.old.last }
+    ensures offers { standing.new.offers ≡ standing.old.offers }
+    ensures later { L.faults link.old ≤ L.faults link.new }
+    ensures troubled { IfErr result (λ trouble. Troubled trouble (L.told link.old) standing.old Refuses (L.told link.new)) }
+    ensures link { IsErrOf result Trouble.Link → Rose (L.faults link.old) (L.faults link.new) }
+{
+    let Some(asked) = &standing.asked else {
+        return Ok(());
+    };
+    let sent = answer(alloc, asked, &Reply::Unauthorized { index: 0 })?;
+    let context = number(alloc, standing.count)?;
+    let limit = limit_of(standing.version);
+    let said = ask(alloc, link, limit, context.as_str(), &sent)?;
+    let Said { heard, frame } = said;
+    match heard {
+        Heard::Asks(asked, _) => {
+            if standing.refused >= 999 {
+                return Err(Trouble::Breach(frame));
+            }
+            standing.asked = Some(asked);
+            standing.refused += 1;
+            Ok(())
+        }
+        Heard::Ends(_) => {
+            standing.asked = None;
+            standing.refused = 0;
+            Ok(())
+        }
+        Heard::Breach => Err(Trouble::Breach(frame)),
+    }
+}
+
+/// Ends the conversation that is open.
+pub(crate) fn close_open<L: Link>(
+    alloc: Global,
+    link: &mut L,
+    standing: &mut Standing,
+) -> Result<(), Trouble>
+    requires { standing.old.refused ≡ 0 }
+    ensures still { OnOk result ((standing.new.refused ≡ 0) × (standing.new.more ≡ standing.old.more)) }
+    ensures closed { OnOk result (Closed (L.told link.old) standing.old (L.told link.new) standing.new) }
+    ensures last { standing.new.last ≡ standing.old.last }
+    ensures offers { standing.new.offers ≡ standing.old.offers }
+    ensures later { L.faults link.old ≤ L.faults link.new }
+    ensures stopped { IfErr result (λ trouble. Stopped trouble (L.told link.old) standing.old (L.told link.new)) }
+    ensures link { IsErrOf result Trouble.Link → Rose (L.faults link.old) (L.faults link.new) }
+{
+    while standing.asked.is_some() {
+        match refuse(alloc, link, standing) {
+            Ok(()) => {}
+            Err(trouble) => return Err(trouble),
+        }
+    }
+    Ok(())
+}
+
+/// Awaits a registration, and answers it.
+fn register<L: Link>(alloc: Global, link: &mut L, standing: &mut Standing) -> Result<(), Trouble>
+    requires { standing.old.more ≡ true }
+    ensures still { standing.new.refused ≡ standing.old.refused }
+    ensures moved { OnOk result (Moved (L.told link.old) standing.old Registers (L.told link.new) standing.new) }
+    ensures asked { standing.new.asked ≡ standing.old.asked }
+    ensures few { OnOk result (standing.new.registrations ≤ 100) }
+    ensures less { OnOk result (standing.new.registrations ≡ standing.old.registrations + 1) }
+    ensures later { L.faults link.old ≤ L.faults link.new }
+    ensures troubled { IfErr result (λ trouble. Troubled trouble (L.told link.old) standing.old Registers (L.told link.new)) }
+    ensures link { IsErrOf result Trouble.Link → Rose (L.faults link.old) (L.faults link.new) }
+{
+    let limit = limit_of(standing.version);
+    let frame = receive(alloc, link)?;
+    let Some(found) = hear_registration(alloc, limit, &frame)? else {
+        return Err(Trouble::Breach(Bytes::from_vec(frame)));
+    };
+    let version = version_by(found.request.protocol_version);
+    if !may_register(standing, version) {
+        return Err(Trouble::Breach(Bytes::from_vec(frame)));
+    }
+    let sent = welcome(alloc, version, found.correlation.as_str())?;
+    enter(standing, version, found)?;
+    send(alloc, link, limit_of(version), &sent)
+}
+
+fn version_by(protocol: u32) -> u32
+    ensures { result ≡ version_by protocol }
+{
+    if protocol >= 2 { 2 } else { 1 }
+}
+
+fn may_register(standing: &Standing, version: u32) -> bool
+    ensures { result ≡ may_register standing.now version }
+{
+    if standing.registrations == 0 {
+        return true;
+    }
+    if standing.registrations >= 100 {
+        return false;
+    }
+    version == standing.version
+}
+
+// Keeps what a registration offers.
+fn enter(standing: &mut Standing, version: u32, found: Registration) -> Result<(), AllocError>
+    requires { may_register standing.old version ≡ true }
+    ensures still { standing.new.refused ≡ standing.old.refused }
+    ensures entered { OnOk result (registered_by standing.old found version ≡ Some standing.new) }
+    ensures asked { standing.new.asked ≡ standing.old.asked }
+    ensures few { OnOk result (standing.new.registrations ≤ 100) }
+    ensures less { OnOk result (standing.new.registrations ≡ standing.old.registrations + 1) }
+{
+    let Registration {
+        correlation: _,
+        request,
+    } = found;
+    let TpRegisterRequest {
+        family,
+        version: offered,
+        namespaces: _,
+        protocol_version: _,
+        more,
+    } = request;
+    standing.offers.push(Offer {
+        family,
+        version: offered,
+    })?;
+    standing.version = version;
+    standing.more = more;
+    standing.registrations += 1;
+    Ok(())
+}
+
+/// Awaits every registration.
+pub(crate) fn register_all<L: Link>(
+    alloc: Global,
+    link: &mut L,
+    standing: &mut Standing,
+) -> Result<(), Trouble>
+    ensures still { OnOk result ((standing.new.refused ≡ standing.old.refused) × (standing.new.more ≡ false)) }
+    ensures asked { standing.new.asked ≡ standing.old.asked }
+    ensures registered { OnOk result (Registered (L.told link.old) standing.old (L.told link.new) standing.new) }
+    ensures later { L.faults link.old ≤ L.faults link.new }
+    ensures stopped { IfErr result (λ trouble. Stopped trouble (L.told link.old) standing.old (L.told link.new)) }
+    ensures link { IsErrOf result Trouble.Link → Rose (L.faults link.old) (L.faults link.new) }
+{
+    while standing.more {
+        match register(alloc, link, standing) {
+            Ok(()) => {}
+            Err(trouble) => return Err(trouble),
+        }
+    }
+    Ok(())
+}
+
+/// Begins a transaction, after the conversation that may be open was ended.
+pub(crate) fn begin_after<L: Link>(
+    alloc: Global,
+    link: &mut L,
+    standing: &mut Standing,
+    tx: &Tx,
+) -> Result<Action, Trouble>
+    requires more { standing.old.more ≡ false }
+    requires still { standing.old.refused ≡ 0 }
+    ensures still { OnOk result ((standing.new.refused ≡ 0) × (standing.new.more ≡ standing.old.more)) }
+    ensures began { OnOk result (Began (L.told link.old) standing.old (kept_tx tx.now) (L.told link.new) standing.new) }
+    ensures acts { L.tells ≡ true → OnOk result (IsSpelled (L.told link.old) standing.old → IsAct L.next (Begins (kept_tx tx.now)) standing.new) }
+    ensures last { IfOk result (λ action. standing.new.last ≡ Some (record { tx = kept_tx tx.now; turns = []; action = action })) }
+    ensures shape { OnOk result (shape_in (kept_tx tx.now) ≡ tx.now) }
+    ensures own { IfOk result (λ action. has_own_reason action ≡ true) }
+    ensures short { IfOk result IsShort }
+    ensures talking { IfOk result (λ action. is_some standing.new.asked ≡ true → is_request action ≡ true) }
+    ensures offers { standing.new.offers ≡ standing.old.offers }
+    ensures later { L.faults link.old ≤ L.faults link.new }
+    ensures stopped { IfErr result (λ trouble. Stopped trouble (L.told link.old) standing.old (L.told link.new)) }
+    ensures link { IsErrOf result Trouble.Link → Rose (L.faults link.old) (L.faults link.new) }
+{
+    match close_open(alloc, link, standing) {
+        Ok(()) => begin_tx(alloc, link, standing, tx),
+        Err(trouble) => Err(trouble),
+    }
+}

@@ -1,0 +1,8 @@
+use Rattle.saw_linkmsg.proofs.RegistersBack.{tp_register_request_is_read, tp_register_response_is_read}
+use Rattle.saw_linkmsg.proofs.laws.registrations_are_read_back.Goals as goal
+
+pub returns-clause-request : goal.returns-clause-request
+returns-clause-request c = tp_register_request_is_read
+
+pub returns-clause-response : goal.returns-clause-response
+returns-clause-response c = tp_register_response_is_read

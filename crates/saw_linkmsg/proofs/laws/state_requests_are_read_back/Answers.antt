@@ -1,0 +1,14 @@
+use Rattle.saw_linkmsg.proofs.StateRequestsBack.{tp_state_entry_is_read, tp_state_get_request_is_read, tp_state_set_request_is_read, tp_state_delete_request_is_read}
+use Rattle.saw_linkmsg.proofs.laws.state_requests_are_read_back.Goals as goal
+
+pub returns-clause-entry : goal.returns-clause-entry
+returns-clause-entry c = tp_state_entry_is_read
+
+pub returns-clause-get : goal.returns-clause-get
+returns-clause-get c = tp_state_get_request_is_read
+
+pub returns-clause-set : goal.returns-clause-set
+returns-clause-set c = tp_state_set_request_is_read
+
+pub returns-clause-delete : goal.returns-clause-delete
+returns-clause-delete c = tp_state_delete_request_is_read

@@ -1,0 +1,6 @@
+use Rattle.std.proofs.Common.{[]}
+use Rattle.saw_linkmsg.proofs.register.TpRegisterRequestMessage.encode.Goals as goal
+
+pub returns : goal.returns
+returns c = c.in_ok-write_flag.ensures _
+    (c.in_ok-write_small.ensures _ (c.in_ok-write_texts.ensures _ (c.in_ok-write_text-2.ensures _ (c.in_ok-write_text.ensures [] c.new-out.ensures.items))))
