@@ -1,10 +1,10 @@
 -- One block more of a stream, by its parts.
-use Rattle.std.proofs.Common.{◌≡◌, ℕ, zero, suc, ◌+◌, ◌*◌, ◌<◌, ◌^◌, List, [], map, Option, Some, None, refl, sym, ap, ap₂, subst, ◌∙◌, arith}
+use Rattle.std.proofs.Common.{◌≡◌, ℕ, zero, suc, ◌+◌, ◌<◌, ◌^◌, List, [], map, Option, Some, None, refl, sym, ap, ap₂, subst, ◌∙◌, arith}
 use Rattle.std.specs.Prelude.{IfSome}
 use Rattle.saw_address.specs.Maps.{Entries, StateMap, map_of}
 use Rattle.saw_context.specs.Serial.{left_after, serial}
 use Rattle.saw_messages.specs.Blocks.{block_header_pieces, block_pieces}
-use Rattle.saw_messages.specs.TxShapes.{BatchShape, TxShape}
+use Rattle.saw_messages.specs.TxShapes.{TxShape}
 use Rattle.saw_messages.specs.declared.batch.Batch.{Batch}
 use Rattle.saw_node.specs.Hashes.{first_half}
 use Rattle.saw_node.specs.Trees.{root_of_map}

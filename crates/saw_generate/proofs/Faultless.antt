@@ -1,5 +1,5 @@
 -- Desks of the built-in processors alone do not fail.
-use Rattle.std.proofs.Common.{◌≡◌, inl, inr, ℕ, List, [], ◌∷◌, Option, Some, None, refl, ap, sym, ◌∙◌, subst, arith}
+use Rattle.std.proofs.Common.{◌≡◌, inl, inr, ℕ, List, [], ◌∷◌, Option, Some, None, refl, arith}
 use Rattle.saw_crew.specs.Desks.{Failed}
 use Rattle.saw_station.specs.DeskPlaces.{Place, faults_by}
 

@@ -2,7 +2,7 @@
 use Rattle.std.proofs.Common.{◌≡◌, ◌<◌, ◌^◌, ℕ, List, length, Ok, ap, ◌∙◌, subst, arith}
 use Rattle.std.specs.List.{AllByRecursion}
 use Rattle.saw_messages.proofs.TransactionsBack.{transaction_header_is_read}
-use Rattle.saw_messages.specs.ReadBack.{IsText, IsTransactionHeader}
+use Rattle.saw_messages.specs.ReadBack.{IsText}
 use Rattle.saw_messages.specs.Transactions.{transaction_header, transaction_header_pieces}
 use Rattle.saw_messages.specs.declared.transaction.TransactionHeader.{TransactionHeader}
 use Rattle.saw_wire.specs.Writing.{spelled}

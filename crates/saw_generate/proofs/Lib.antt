@@ -14,4 +14,9 @@ pub mod Sizes
 pub mod Reading
 pub mod Every
 pub mod Chaining
+pub mod Places
 pub mod Streaming
+pub mod Payloads
+pub mod FineBatches
+pub mod FreshIds
+pub mod WholeBlocks

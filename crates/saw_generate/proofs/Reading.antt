@@ -1,8 +1,7 @@
 -- A generated transaction is read back from its bytes, and does what its payload says.
-use Rattle.std.proofs.Common.{◌≡◌, ℕ, zero, suc, ◌+◌, ◌*◌, ◌<◌, ◌≤◌, ◌^◌, ◌==◌, true, ◌&&◌, nat_lt, List, [], ◌∷◌, ◌++◌, length, codes, Ok, refl, ap, ◌∙◌, arith}
+use Rattle.std.proofs.Common.{◌≡◌, ℕ, zero, suc, ◌+◌, ◌<◌, ◌≤◌, ◌^◌, ◌==◌, true, nat_lt, List, [], ◌∷◌, ◌++◌, length, codes, Ok, refl, ap, arith}
 use Rattle.std.specs.Fmt.{decimal}
 use Rattle.std.specs.List.{list_all}
-use Rattle.std.specs.Prelude.{slice_index}
 use Rattle.std.specs.Str.{IsAscii}
 use Rattle.std.proofs.lemmas.Bool.{and_from, and_parts, eq-eqb, ltb-true}
 use Rattle.std.proofs.lemmas.Fmt.{IsAscii-decimal, length-decimal-le}
@@ -19,11 +18,10 @@ use Rattle.saw_intkey.specs.Actions.{address_of, family_name, family_version}
 use Rattle.saw_intkey.specs.Payloads.{payload_bytes}
 use Rattle.saw_intkey.specs.declared.payload.Payload.{Payload}
 use Rattle.saw_messages.specs.ReadBack.{IsText}
-use Rattle.saw_messages.specs.Transactions.{transaction_header, transaction_header_pieces}
+use Rattle.saw_messages.specs.Transactions.{transaction_header}
 use Rattle.saw_messages.specs.TxShapes.{header_by, shape_in}
 use Rattle.saw_publish.proofs.HexTexts.{hex_text, length-hex_text}
 use Rattle.saw_publish.specs.Candidates.{Signing}
-use Rattle.saw_wire.specs.Writing.{spelled}
 use Rattle.saw_generate.specs.Signed.{header_bytes, header_of, nonce_at, transaction}
 use Rattle.saw_generate.proofs.Addresses.{address_is, sha512_are}
 use Rattle.saw_generate.proofs.HeadersBack.{header_back}
@@ -104,7 +102,7 @@ module _ (signing : Signing) (key : is_hex_text 66 signing.key ≡ true) (nonce 
   is_address_text : is_hex_text 70 address_text ≡ true
   is_address_text = is_address_text-encode_lower (address_of payload.name) (address_is payload.name)
 
-  short : length (header_bytes signing.key nonce payload) < 2 ^ 64
+  pub short : length (header_bytes signing.key nonce payload) ≤ 700
   short =
       let long = length-hex_text 66 signing.key key in
       let wide = length-hex_text 70 address_text is_address_text in
@@ -112,7 +110,7 @@ module _ (signing : Signing) (key : is_hex_text 66 signing.key ≡ true) (nonce 
       header_short (header_of signing.key nonce payload) address_text address_text refl refl refl (omega (arith, long)) (omega arith) (omega arith)
       (omega (arith, wide)) is.short (omega (arith, wide)) (omega (arith, digest)) (omega (arith, long))
 
-  read : transaction_header (header_bytes signing.key nonce payload) ≡ Ok (header_of signing.key nonce payload)
+  pub read : transaction_header (header_bytes signing.key nonce payload) ≡ Ok (header_of signing.key nonce payload)
   read =
       header_back (header_of signing.key nonce payload) (header_bytes signing.key nonce payload) (record {
         batcher_public_key = hex_text 66 signing.key key;
@@ -124,7 +122,7 @@ module _ (signing : Signing) (key : is_hex_text 66 signing.key ≡ true) (nonce 
         outputs = (hex_text 70 address_text is_address_text, tt);
         payload_sha512 = hex_text 128 (encode_lower (sha512 (payload_bytes payload))) (digest_text (payload_bytes payload));
         signer_public_key = hex_text 66 signing.key key;
-      }) refl short
+      }) refl (omega (arith, short))
 
   -- the transaction does what its payload says
   pub is_for : IsFor payload (shape_in (transaction signing nonce payload))

@@ -1,5 +1,5 @@
 -- The frames of a stream, one after another.
-use Rattle.std.proofs.Common.{◌≡◌, ℕ, zero, suc, ◌+◌, ◌-◌, ◌<◌, ◌≤◌, List, [], ◌++◌, length, take, Option, sym, ap, subst, ◌∙◌, append_assoc, arith}
+use Rattle.std.proofs.Common.{◌≡◌, ℕ, ◌+◌, ◌-◌, ◌<◌, ◌≤◌, List, [], ◌++◌, length, take, Option, sym, ap, subst, ◌∙◌, arith}
 use Rattle.std.specs.Io.KnownBytes.{Appends}
 use Rattle.std.specs.List.{flat_map, range_with_len}
 use Rattle.std.proofs.KnownBytes.{Appends-trans}
@@ -7,8 +7,8 @@ use Rattle.std.proofs.Math.Seq.{take-append-add}
 use Rattle.std.proofs.lemmas.Grind.{flat_map-append}
 use Rattle.std.proofs.lemmas.List.{append-nil, take-append-le, take_all}
 use Rattle.std.proofs.lemmas.List.Concat.{flat_map-cons}
-use Rattle.std.proofs.lemmas.List.FromFn.{map-range_with_len_more}
 use Rattle.saw_io.specs.Frame.{frame}
+use Rattle.saw_generate.proofs.Places.{range_split}
 
 module _ (content : ℕ → List ℕ) where
   -- the frames of so many blocks from one on
@@ -16,18 +16,9 @@ module _ (content : ℕ → List ℕ) where
   frames_from first count = flat_map (λ b. frame (content b)) (range_with_len first count)
 
   split_at : (first count more : ℕ) → frames_from first (count + more) ≡ frames_from first count ++ frames_from (first + count) more
-  split_at first zero more =
-      let none : 0 + more ≡ more = omega arith in
-      let same : first ≡ first + 0 = omega arith in
-      ap (frames_from first) none ∙ ap (λ n. frames_from n more) same
-  split_at first (suc count) more =
-      let next : first + 1 + count ≡ first + suc count = omega arith in
-      let one : suc count + more ≡ suc (count + more) = omega arith in
-      ap (frames_from first) one
-      ∙ flat_map-cons (λ b. frame (content b)) first (range_with_len (first + 1) (count + more))
-      ∙ ap (λ (l : List ℕ). frame (content first) ++ l) (split_at (first + 1) count more ∙ ap (λ n. frames_from (first + 1) count ++ frames_from n more) next)
-      ∙ sym (append_assoc (frame (content first)) (frames_from (first + 1) count) (frames_from (first + suc count) more))
-      ∙ ap (λ (l : List ℕ). l ++ frames_from (first + suc count) more) (sym (flat_map-cons (λ b. frame (content b)) first (range_with_len (first + 1) count)))
+  split_at first count more =
+      ap (flat_map (λ b. frame (content b))) (range_split first count more)
+      ∙ flat_map-append (λ b. frame (content b)) (range_with_len first count) (range_with_len (first + count) more)
 
   one_frame : (b : ℕ) → frames_from b 1 ≡ frame (content b)
   one_frame b = flat_map-cons (λ b. frame (content b)) b [] ∙ append-nil (frame (content b))

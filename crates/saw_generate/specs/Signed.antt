@@ -7,7 +7,6 @@ use Rattle.saw_wire.specs.Writing.{spelled}
 use Rattle.saw_messages.specs.Batches.{batch_header_pieces}
 use Rattle.saw_messages.specs.Transactions.{transaction_header_pieces}
 use Rattle.saw_messages.specs.declared.batch.Batch.{Batch}
-use Rattle.saw_messages.specs.declared.batch.BatchHeader.{BatchHeader}
 use Rattle.saw_messages.specs.declared.transaction.Transaction.{Transaction}
 use Rattle.saw_messages.specs.declared.transaction.TransactionHeader.{TransactionHeader}
 use Rattle.saw_intkey.specs.Actions.{address_of, family_name, family_version}

@@ -89,7 +89,7 @@ no_fault accepts bytes m header fit read header_read id key listed signed =
 -- ---- the block of a draft
 
 module _ (hash : List ℕ → List ℕ) (accepts : List ℕ → List ℕ → List ℕ → Bool) (signing : Signing) (parent : Option Parent) where
-  good_block : (draft : Draft) → AreFit accepts draft.applied → IsSignable hash accepts signing parent draft
+  pub good_block : (draft : Draft) → AreFit accepts draft.applied → IsSignable hash accepts signing parent draft
       → (block (content_of hash signing parent draft) ≡ Ok (block_of hash signing parent draft))
       × (block_header (header_bytes hash signing parent draft) ≡ Ok (header_of signing.key parent draft.applied (root_of_map hash draft.left)))
       × (structure_fault accepts (content_of hash signing parent draft) ≡ None)

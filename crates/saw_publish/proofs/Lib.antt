@@ -1,4 +1,4 @@
-mod Applied
+pub mod Applied
 pub mod AppliedAgain
 mod Drafting
 mod Drops

@@ -1,7 +1,6 @@
 use Rattle.std.proofs.Common.{◌≡◌, ◌*◌, map}
 use Rattle.std.specs.List.{range_with_len}
 use Rattle.saw_plan.specs.BatchShapes.{transactions_in, txs_of}
-use Rattle.saw_publish.specs.Candidates.{Signing}
 use Rattle.saw_receipts.specs.Shapes.{batch_in}
 use Rattle.saw_generate.specs.Draws.{state_after}
 use Rattle.saw_generate.specs.Operations.{draws_before}

@@ -1,4 +1,4 @@
-use Rattle.std.proofs.Common.{List, [], true, Err, refl, sym, ap, subst, ◌∙◌, arith}
+use Rattle.std.proofs.Common.{List, [], Err, refl, sym, ap, subst, ◌∙◌}
 use Rattle.saw_messages.specs.declared.outcome.Reason.TheVariants.{Remote}
 use Rattle.saw_messages.specs.declared.talk.Action.TheVariants as actions
 use Rattle.saw_crew.proofs.Lone.{lone_alike, lone_offers}

@@ -1,6 +1,5 @@
 use Rattle.std.proofs.Common.{◌≤◌}
 use Rattle.std.specs.Io.KnownBytes.{Appends}
-use Rattle.saw_publish.specs.Candidates.{Signing}
 use Rattle.saw_generate.specs.Chains.{IsChain}
 use Rattle.saw_generate.specs.Streams.{frames_of}
 use Rattle.saw_generate.proofs.stream.generate.Given as goal

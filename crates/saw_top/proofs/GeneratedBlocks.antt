@@ -1,0 +1,237 @@
+-- The blocks of a vouched stream, judged one behind another.
+use Rattle.std.proofs.Common.{◌≡◌, ◌<◌, ◌≤◌, ◌||◌, ℕ, zero, suc, true, false, List, [], ◌∷◌, ◌++◌, length, map, Option, Some, None, Ok}
+use Rattle.std.proofs.Common.{refl, sym, ap, ap₂, subst, ◌∙◌, arith}
+use Rattle.std.specs.Prelude.{option_map}
+use Rattle.std.specs.List.{flat_map, list_any, range_with_len}
+use Rattle.std.specs.Str.{bytes_eq}
+use Rattle.std.proofs.lemmas.List.{length_push, map_push}
+use Rattle.saw_address.specs.Maps.{StateMap, no_entries}
+use Rattle.saw_checks.specs.Tests.{first_of}
+use Rattle.saw_context.specs.Serial.{left_after}
+use Rattle.saw_generate.proofs.Every.{every_batch_applies}
+use Rattle.saw_generate.proofs.Places.{ids_more, parts_more}
+use Rattle.saw_generate.proofs.WholeBlocks.{batches_free, block_good, none_failed, number_is}
+use Rattle.saw_generate.proofs.FreshIds.{none_dropped}
+use Rattle.saw_generate.specs.Laws.{results_at}
+use Rattle.saw_generate.specs.Streams.{batches_at, block_at, content_at, map_after_blocks, parent_after, root_at}
+use Rattle.saw_generate.specs.declared.wish.GenerateWish.{GenerateWish}
+use Rattle.saw_journal.proofs.Branching.{branch_of-new}
+use Rattle.saw_journal.proofs.Ids.{ids_push_block}
+use Rattle.saw_journal.proofs.Judging.{stands}
+use Rattle.saw_journal.proofs.Linking.{linked_push, none_linked}
+use Rattle.saw_journal.proofs.Named.{hex_names}
+use Rattle.saw_journal.proofs.OneByOne.{RunsOneByOne, first_failure-append, left_after-append, serial_one_by_one}
+use Rattle.saw_journal.specs.BlockFaults.{ids_before, parent_of, place_tests}
+use Rattle.saw_journal.specs.BlockShapes.{Parts, parts_of}
+use Rattle.saw_journal.specs.Judgement.{Kept, Rules, kept_of}
+use Rattle.saw_journal.specs.Linked.{AreLinked, StandsBehind}
+use Rattle.saw_messages.specs.declared.batch.Batch.{Batch}
+use Rattle.saw_messages.specs.declared.block.BlockHeader.{BlockHeader}
+use Rattle.saw_node.specs.Hashes.{first_half}
+use Rattle.saw_plan.specs.StaticRules.{Ids}
+use Rattle.saw_plan.specs.SortingSteps.{both}
+use Rattle.saw_publish.specs.Candidates.{Signing, header_of, header_with, number_behind, previous_of}
+use Rattle.saw_receipts.specs.Branches.{branch_of, has_block, ids_in, no_block}
+use Rattle.saw_receipts.specs.Heads.{as_parent, head_of, is_new_head}
+use Rattle.saw_receipts.specs.declared.block.BlockRecord.{BlockRecord}
+use Rattle.saw_receipts.specs.declared.block.Parent.{Parent}
+use Rattle.saw_schedule.specs.BatchResults.{first_failure}
+use Rattle.saw_station.specs.Serving.{alone}
+use Rattle.saw_top.specs.GeneratedLaws.{IsVouchedFor, batch_ids_at, transaction_ids_at}
+use Rattle.saw_top.specs.History.{judged_behind, map_behind, record_of, records_of, results_to}
+use Rattle.saw_top.specs.World.{Accepts, rules_by}
+use Rattle.saw_top.proofs.BehindHead.{IsHead, becomes_head, branch_is, head_is, ids_are, is_head, parent_is, placed}
+use Rattle.saw_top.proofs.Branching.{results_to-new}
+use Rattle.saw_top.proofs.GeneratedIds.{kept_ids}
+use Rattle.saw_top.proofs.GeneratedSigned.{batches_differ, block_is_new, block_signed, id_at, transactions_differ}
+use Rattle.saw_top.proofs.NextBlocks.{IsFaultless, judged_over, judged_read}
+
+-- ---- accepted blocks and their records
+
+has_mapped : (blocks : List BlockRecord) (id : List ℕ) → list_any (λ other. bytes_eq other id) (map (λ block. block.id) blocks) ≡ has_block blocks id
+has_mapped [] id = refl
+has_mapped (block ∷ blocks) id = ap (λ b. bytes_eq block.id id || b) (has_mapped blocks id)
+
+none_kept : (accepted : List Kept) → records_of accepted ≡ [] → accepted ≡ []
+none_kept [] none = refl
+none_kept (kept ∷ accepted) none = absurd cc
+
+-- the map behind the head is what the batches of the branch leave that a block behind it goes on
+map_behind_head : (rules : Rules) → RunsOneByOne rules.runs → (accepted : List Kept) (head : Option BlockRecord) → IsHead (records_of accepted) head
+    → map_behind rules accepted head ≡ left_after no_entries (results_to rules accepted (previous_of (option_map as_parent head)))
+map_behind_head rules one_by_one accepted None is =
+    sym (ap (λ (accepted : List Kept). left_after no_entries (results_to rules accepted no_block)) (none_kept accepted is)
+    ∙ ap (left_after no_entries) (one_by_one.none no_entries))
+map_behind_head rules one_by_one accepted (Some head) is = refl
+
+-- ---- what is kept of a stream
+
+module _ (accepts : Accepts) (signing : Signing) (wish : GenerateWish) where
+  abbrev rules : Rules
+  rules = rules_by accepts (alone [])
+
+  one_by_one : RunsOneByOne (rules_by accepts (alone [])).runs
+  one_by_one = serial_one_by_one (alone [])
+
+  abbrev header_at : ℕ → BlockHeader
+  header_at b = header_of signing.key (parent_after signing wish b) (batches_at signing wish b) (root_at signing wish b)
+
+  abbrev parts_at : ℕ → Parts
+  parts_at b = parts_of (block_at signing wish b) (header_at b)
+
+  abbrev pub kept_at : ℕ → Kept
+  kept_at b = kept_of first_half (parts_at b) (map_after_blocks signing wish b) (results_at signing wish b)
+
+  -- the accepted blocks behind so many
+  unfoldable pub accepted_after : ℕ → List Kept
+  accepted_after zero = []
+  accepted_after (suc b) = accepted_after b ++ kept_at b ∷ []
+
+  abbrev records_after : ℕ → List BlockRecord
+  records_after b = records_of (accepted_after b)
+
+  -- what the next block states as the id before it
+  abbrev previous : ℕ → List ℕ
+  previous b = previous_of (parent_after signing wish b)
+
+  -- the ids of so many blocks
+  abbrev ids_after : ℕ → Ids
+  ids_after b = record {
+    batches = flat_map (batch_ids_at signing wish) (range_with_len 0 b);
+    transactions = flat_map (transaction_ids_at signing wish) (range_with_len 0 b);
+  }
+
+  -- How so many blocks stand behind one another: the head, and what the branch to it has and leaves.
+  pub record IsBehind (b : ℕ) : Type 0 where
+    pub linked : AreLinked (records_after b)
+    pub parent : option_map as_parent (head_of (records_after b)) ≡ parent_after signing wish b
+    pub whole : first_failure 0 (results_to rules (accepted_after b) (previous b)) ≡ None
+    pub left : left_after no_entries (results_to rules (accepted_after b) (previous b)) ≡ map_after_blocks signing wish b
+    pub ids : ids_in (branch_of (λ block. block) (records_after b) (previous b)) ≡ ids_after b
+    pub blocks : map (λ block. block.id) (records_after b) ≡ map (id_at signing wish) (range_with_len 0 b)
+    pub count : length (accepted_after b) ≡ b
+
+  behind_none : IsBehind 0
+  unfolding accepted_after parent_after map_after_blocks
+  behind_none = record { linked = none_linked; parent = refl; whole = refl; left = refl; ids = refl; blocks = refl; count = refl }
+
+  -- the map behind the head
+  pub head_leaves : (b : ℕ) → IsBehind b → map_behind rules (accepted_after b) (head_of (records_after b)) ≡ map_after_blocks signing wish b
+  head_leaves b is =
+      map_behind_head rules one_by_one (accepted_after b) (head_of (records_after b)) (is_head (records_after b) (head_of (records_after b)) is.linked refl)
+      ∙ ap (λ (parent : Option Parent). left_after no_entries (results_to rules (accepted_after b) (previous_of parent))) is.parent ∙ is.left
+
+  -- ---- one block more
+
+  module _ (few : wish.blocks ≤ 1000) (narrow : wish.batches ≤ 5000) (vouched : IsVouchedFor signing wish accepts) (b : ℕ) (low : b < wish.blocks)
+      (is : IsBehind b) where
+    abbrev blocks : List BlockRecord
+    blocks = records_after b
+
+    abbrev ids : List (List ℕ)
+    ids = map (λ (batch : Batch). batch.header_signature) (batches_at signing wish b)
+
+    abbrev header_behind : Option Parent → BlockHeader
+    header_behind parent = header_with signing.key parent ids (root_at signing wish b)
+
+    abbrev new : BlockRecord
+    new = (kept_at b).block
+
+    at_head : IsHead (records_after b) (head_of (records_after b))
+    at_head = is_head (records_after b) (head_of (records_after b)) is.linked refl
+
+    fresh : has_block (records_after b) (id_at signing wish b) ≡ false
+    fresh =
+        sym (has_mapped blocks (id_at signing wish b))
+        ∙ ap (λ ids. list_any (λ other. bytes_eq other (id_at signing wish b)) ids) is.blocks ∙ block_is_new accepts signing wish vouched b low
+
+    parent_found : parent_of (records_after b) (header_at b) ≡ head_of (records_after b)
+    parent_found =
+        subst (λ (parent : Option Parent). parent_of blocks (header_behind parent) ≡ head_of blocks) is.parent
+        (parent_is signing.key ids (root_at signing wish b) blocks (head_of blocks) at_head)
+
+    ids_found : ids_before (records_after b) (header_at b) ≡ ids_after b
+    ids_found =
+        subst (λ (parent : Option Parent). ids_before blocks (header_behind parent) ≡ ids_in (branch_of (λ block. block) blocks (previous_of parent))) is.parent
+        (ids_are signing.key ids (root_at signing wish b) blocks (head_of blocks) at_head ∙ ap ids_in (branch_is blocks (head_of blocks) at_head))
+        ∙ is.ids
+
+    well_placed : first_of (place_tests (records_after b) (id_at signing wish b) (header_at b)) ≡ None
+    well_placed =
+        subst (λ (parent : Option Parent). first_of (place_tests blocks (id_at signing wish b) (header_behind parent)) ≡ None) is.parent
+        (placed signing.key ids (root_at signing wish b) blocks (head_of blocks) (id_at signing wish b) at_head fresh)
+
+    none_fails : first_failure 0 (results_at signing wish b) ≡ None
+    none_fails = none_failed 0 (results_at signing wish b) (every_batch_applies signing wish vouched.key few narrow b low)
+
+    faultless : IsFaultless first_half rules.runs (records_after b) (map_after_blocks signing wish b) (ids_after b) (parts_at b)
+        (map_after_blocks signing wish (suc b))
+    unfolding map_after_blocks
+    faultless = record {
+      placed = well_placed;
+      whole = none_dropped 0 (ids_after b) (batches_at signing wish b) (batches_free signing wish vouched.key few narrow b low)
+          (batches_differ accepts signing wish vouched b low) (transactions_differ accepts signing wish vouched b low);
+      valid = none_fails;
+      left_is = refl;
+      states = refl;
+    }
+
+    -- the block is kept
+    pub judged_at : judged_behind rules (accepted_after b) (content_at signing wish b) ≡ Ok (kept_at b)
+    judged_at =
+        let good = block_good signing wish vouched.key few narrow accepts (block_signed accepts signing wish vouched) b low in
+        judged_read first_half accepts rules.runs (map_behind rules (accepted_after b)) blocks (content_at signing wish b) (block_at signing wish b)
+        (header_at b) good.2 good.0 good.1
+        ∙ judged_over first_half rules.runs (map_behind rules (accepted_after b)) blocks (parts_at b) (map_after_blocks signing wish (suc b))
+        (map_after_blocks signing wish b) (ids_after b)
+        (ap (map_behind rules (accepted_after b)) parent_found ∙ head_leaves b is) ids_found faultless
+
+    -- and is the new head
+    pub new_head : is_new_head (head_of (records_after b)) (kept_at b).block ≡ true
+    new_head = becomes_head (head_of blocks) new (sym (ap number_behind is.parent))
+
+    stands_behind : StandsBehind (records_after b) (kept_at b).block
+    stands_behind =
+        stands blocks (id_at signing wish b) (header_at b) (sym well_placed)
+        (hex_names (id_at signing wish b) (block_signed accepts signing wish vouched b low).header.form) new refl refl refl
+
+    results_after : results_to rules (accepted_after b ++ kept_at b ∷ []) (kept_at b).block.id
+        ≡ results_to rules (accepted_after b) (previous b) ++ results_at signing wish b
+    results_after = results_to-new rules one_by_one (accepted_after b) (kept_at b) (map_after_blocks signing wish b) is.whole is.left
+
+    records_more : records_of (accepted_after b ++ kept_at b ∷ []) ≡ records_after b ++ (kept_at b).block ∷ []
+    records_more = map_push record_of (accepted_after b) (kept_at b)
+
+    ids_now : ids_in (branch_of (λ block. block) (records_after b ++ (kept_at b).block ∷ []) (kept_at b).block.id) ≡ ids_after (suc b)
+    ids_now =
+        let own =
+        kept_ids (alone []) (batches_at signing wish b) (map_after_blocks signing wish b)
+        (every_batch_applies signing wish vouched.key few narrow b low) in
+        ap ids_in (branch_of-new (λ (block : BlockRecord). block) blocks new) ∙ ids_push_block (branch_of (λ block. block) blocks (previous b)) new
+        ∙ ap₂ both is.ids own
+        ∙ ap₂ (λ (batches transactions : List (List ℕ)). record { batches = batches; transactions = transactions })
+        (sym (parts_more (batch_ids_at signing wish) b)) (sym (parts_more (transaction_ids_at signing wish) b))
+
+    behind_more : IsBehind (suc b)
+    unfolding accepted_after parent_after map_after_blocks
+    behind_more = record {
+      linked = subst AreLinked (sym records_more) (linked_push blocks new is.linked stands_behind);
+      parent = ap (λ (blocks : List BlockRecord). option_map as_parent (head_of blocks)) records_more
+          ∙ ap (option_map as_parent) (head_is blocks new new_head)
+          ∙ ap (λ (number : ℕ). Some (record { number = number; id = id_at signing wish b; root = root_at signing wish b })) (number_is signing wish b);
+      whole = ap (first_failure 0) results_after
+          ∙ first_failure-append (results_to rules (accepted_after b) (previous b)) (results_at signing wish b) 0 0 is.whole none_fails;
+      left = ap (left_after no_entries) results_after
+          ∙ left_after-append (results_to rules (accepted_after b) (previous b)) (results_at signing wish b) no_entries
+          ∙ ap (λ (m : StateMap). left_after m (results_at signing wish b)) is.left;
+      ids = ap (λ (blocks : List BlockRecord). ids_in (branch_of (λ block. block) blocks (kept_at b).block.id)) records_more ∙ ids_now;
+      blocks = ap (map (λ (block : BlockRecord). block.id)) records_more ∙ map_push (λ (block : BlockRecord). block.id) blocks new
+          ∙ ap (λ (ids : List (List ℕ)). ids ++ id_at signing wish b ∷ []) is.blocks ∙ sym (ids_more (id_at signing wish) b);
+      count = length_push (accepted_after b) (kept_at b) ∙ omega (arith, is.count);
+    }
+
+  -- so many blocks of a vouched stream stand so
+  pub all_behind : wish.blocks ≤ 1000 → wish.batches ≤ 5000 → IsVouchedFor signing wish accepts → (b : ℕ) → b ≤ wish.blocks → IsBehind b
+  all_behind few narrow vouched zero low = behind_none
+  all_behind few narrow vouched (suc b) low =
+      behind_more few narrow vouched b (omega (arith, low)) (all_behind few narrow vouched b (omega (arith, low)))
