@@ -10,6 +10,9 @@ has a space or a `;`. The words are:
     xo take GAME SPACE            takes a space, from 1 to 9, of a game
     settings propose KEY VALUE [NONCE]
     settings vote PROPOSAL KEY accept|reject
+    names claim NAME              of the family that demo/processor.py serves: takes a name that nobody has; with `drop` for
+                                  `claim` gives it up
+    names give NAME KEY           gives a name of the signer's to another key
 
 FILE `-` is standard output. For each `propose` a line `proposal ID KEY VALUE` is written to standard error. ID is the
 PROPOSAL of a vote on it, and depends on KEY, VALUE and NONCE alone.
@@ -36,7 +39,7 @@ import sys
 
 import counters
 from applied import values
-from counters import record
+from counters import record, sha512
 from families import ACCEPT, KEYS, PROPOSALS, PROPOSE, REJECT, THRESHOLD, VOTE
 from families import Transaction, act, is_number, keys_in, last, move, number, proposed, sha256, written_batch
 
@@ -95,6 +98,12 @@ def vote(signer, _, proposal, key, choice):
     return act(signer, number(1, VOTE) + record(2, data), key)
 
 
+def name_of(signer, verb, name, key=""):
+    demand(verb != "give" or re.fullmatch("[0-9a-f]{66}", key), f"key {key!r} is not 66 hex digits")
+    own = [sha512(b"names")[:6] + sha512(name.encode())[:64]]
+    return Transaction("names", signer, " ".join([verb, name, key]).rstrip().encode(), own, own)
+
+
 # What makes a transaction of a family and an action, and the words that it takes.
 FORMS = {
     "intkey set": (counter, "NAME VALUE"),
@@ -105,6 +114,9 @@ FORMS = {
     "xo delete": (game, "GAME"),
     "settings propose": (propose, "KEY VALUE [NONCE]"),
     "settings vote": (vote, "PROPOSAL KEY accept|reject"),
+    "names claim": (name_of, "NAME"),
+    "names give": (name_of, "NAME KEY"),
+    "names drop": (name_of, "NAME"),
 }
 
 

@@ -1,6 +1,7 @@
 //! What a case gives to a run.
 
 use crate::said::Output;
+use saw_io::{MemorySource, read_frame};
 use saw_wire::Text;
 use std::alloc::{AllocError, Global};
 use std::collections::BTreeMap;
@@ -17,6 +18,8 @@ pub(crate) struct Given {
     pub(crate) writes: Vec<u64>,
     pub(crate) notes: Vec<u64>,
     pub(crate) fetches: Vec<u64>,
+    /// The frames of the processor elsewhere, where there is one.
+    pub(crate) peer: Option<Vec<Vec<u8>>>,
 }
 
 /// The words of a case, one a line.
@@ -114,6 +117,37 @@ fn numbers_of(rt: &HostRuntime, case: &str, name: &str) -> io::Result<Vec<u64>> 
     }
 }
 
+/// The most frames of a peer.
+const MAX_FRAMES: usize = 1_000;
+
+/// The frames of a peer, each behind its length.
+fn frames_in(alloc: Global, bytes: Vec<u8>) -> io::Result<Vec<Vec<u8>>> {
+    let mut source = MemorySource::new(bytes, Vec::new(alloc));
+    let mut frames = Vec::new(alloc);
+    for _ in 0..MAX_FRAMES {
+        match read_frame(alloc, &mut source, u32::MAX) {
+            Ok(Some(frame)) => frames.push(frame)?,
+            Ok(None) => return Ok(frames),
+            Err(_) => return Err(Error::from(ErrorKind::InvalidData)),
+        }
+    }
+    Ok(frames)
+}
+
+/// The frames that the processor elsewhere of a case sends, where it has one.
+fn peer_of(rt: &HostRuntime, case: &str) -> io::Result<Option<Vec<Vec<u8>>>> {
+    let alloc = rt.alloc();
+    match bytes_of(rt, format!(in alloc; "cases/{case}/peer")?.as_str())? {
+        Some(bytes) => Ok(Some(frames_in(alloc, bytes)?)),
+        None => Ok(None),
+    }
+}
+
+/// What a case sends to its processor elsewhere, where that is stored.
+pub(crate) fn sent_of(rt: &HostRuntime, case: &str) -> io::Result<Option<Vec<u8>>> {
+    bytes_of(rt, format!(in rt.alloc(); "cases/{case}/sent")?.as_str())
+}
+
 /// The stream of a case.
 pub(crate) fn stream_of(rt: &HostRuntime, case: &str) -> io::Result<Vec<u8>> {
     fs::read(rt, format!(in rt.alloc(); "cases/{case}/stdin")?.as_str())
@@ -148,5 +182,6 @@ pub(crate) fn given_of(rt: &HostRuntime, case: &str) -> io::Result<Given> {
         writes: numbers_of(rt, case, "fail_writes")?,
         notes: numbers_of(rt, case, "fail_notes")?,
         fetches: numbers_of(rt, case, "fail_fetches")?,
+        peer: peer_of(rt, case)?,
     })
 }

@@ -4,7 +4,7 @@
 mod given;
 mod said;
 
-use crate::given::{applied_of, given_of, output_of, stream_of, words_in};
+use crate::given::{applied_of, given_of, output_of, sent_of, stream_of, words_in};
 use crate::said::{Stored, said_to, said_to_stream, said_to_words};
 use std::process::ExitCode;
 use std::sync::Wait;
@@ -18,6 +18,7 @@ fn stored(rt: &HostRuntime, case: &str) -> io::Result<Stored> {
         output: output_of(rt, case)?,
         notes: fs::read(rt, format!(in alloc; "cases/{case}/stderr")?.as_str())?,
         status: fs::read_to_string(rt, format!(in alloc; "cases/{case}/status")?.as_str())?,
+        sent: sent_of(rt, case)?,
     })
 }
 

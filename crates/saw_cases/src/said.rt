@@ -1,7 +1,11 @@
 //! What a run says.
 
+ghost use Rattle.std.specs.Prelude.{◌≡◌, false, All, IfOk};
+
 use crate::given::Given;
-use saw_io::{MemoryShelf, MemorySink, MemorySource};
+use saw_io::{MemoryShelf, MemorySink, MemorySource, write_frame};
+use saw_link::{MemoryPeer, Passed, RemoteStation};
+use saw_station::Station;
 use saw_top::run;
 use saw_verify::{DevSigner, DevVerifier};
 use saw_wire::Text;
@@ -14,12 +18,13 @@ use std::thread::Threads;
 /// The key of development.
 const KEY: &str = "020000000000000000000000000000000000000000000000000000000000000000";
 
-/// Output, notes and status of a run.
+/// Output, notes and status of a run, and what was sent to a processor elsewhere.
 #[derive(Drop)]
 pub(crate) struct Said {
     pub(crate) output: Vec<u8>,
     pub(crate) notes: Vec<u8>,
     pub(crate) status: String,
+    pub(crate) sent: Vec<u8>,
 }
 
 /// An output as it is stored.
@@ -49,6 +54,7 @@ pub(crate) struct Stored {
     pub(crate) output: Output,
     pub(crate) notes: Vec<u8>,
     pub(crate) status: String,
+    pub(crate) sent: Option<Vec<u8>>,
 }
 
 impl Said {
@@ -57,8 +63,17 @@ impl Said {
         Ok(
             self.notes.as_slice() == stored.notes.as_slice()
                 && self.status.trim() == stored.status.trim()
+                && self.sends(stored)
                 && stored.output.is(alloc, &self.output)?,
         )
+    }
+
+    /// Whether what was sent is what is stored, where something is.
+    fn sends(&self, stored: &Stored) -> bool {
+        match &stored.sent {
+            Some(sent) => self.sent.as_slice() == sent.as_slice(),
+            None => true,
+        }
     }
 
     /// Whether it is this output, without notes, and status 0.
@@ -81,6 +96,41 @@ fn signer(alloc: Global) -> Result<DevSigner, AllocError> {
     DevSigner::new(key).ok_or(AllocError)
 }
 
+/// The station of the peer with these frames, where there is one.
+fn remotes_of(
+    alloc: Global,
+    peer: Option<Vec<Vec<u8>>>,
+) -> Result<Vec<RemoteStation<MemoryPeer>>, AllocError>
+    ensures { IfOk result (λ remotes. All
+        (λ remote. ⟦<RemoteStation<MemoryPeer> as Station>⟧.begun remote ≡ false) remotes.items) }
+{
+    let mut remotes = Vec::new(alloc);
+    if let Some(frames) = peer {
+        let link = MemoryPeer::new(alloc, frames, Vec::new(alloc));
+        remotes.push(RemoteStation::new(alloc, link))?;
+    }
+    Ok(remotes)
+}
+
+/// Appends what was sent over a link, each frame behind its length.
+fn put_sent(sent: &mut MemorySink, link: &MemoryPeer) -> Result<(), AllocError> {
+    for passed in link.passed() {
+        if let Passed::Sent(frame) = passed {
+            write_frame(sent, frame.as_slice()).map_err(|_| AllocError)?;
+        }
+    }
+    Ok(())
+}
+
+/// What was sent to processors elsewhere.
+fn sent_to(alloc: Global, remotes: &[RemoteStation<MemoryPeer>]) -> Result<Vec<u8>, AllocError> {
+    let mut sent = MemorySink::new(alloc, Vec::new(alloc));
+    for remote in remotes {
+        put_sent(&mut sent, remote.link())?;
+    }
+    sent.bytes().to_vec(alloc)
+}
+
 /// What a run says to what is given.
 pub(crate) fn said_to<T: Threads + Wait + Sync>(
     rt: &T,
@@ -95,12 +145,14 @@ pub(crate) fn said_to<T: Threads + Wait + Sync>(
         writes,
         notes,
         fetches,
+        peer,
     } = given;
     let signer = signer(alloc)?;
     let mut source = MemorySource::new(input, reads);
     let mut output = MemorySink::new(alloc, writes);
     let mut notes = MemorySink::new(alloc, notes);
     let mut shelf = MemoryShelf::new(files, fetches);
+    let mut remotes = remotes_of(alloc, peer)?;
     let status = run(
         rt,
         alloc,
@@ -111,11 +163,13 @@ pub(crate) fn said_to<T: Threads + Wait + Sync>(
         &mut shelf,
         &DevVerifier,
         &signer,
+        &mut remotes,
     );
     Ok(Said {
         output: output.bytes().to_vec(alloc)?,
         notes: notes.bytes().to_vec(alloc)?,
         status: status.code().to_string(alloc)?,
+        sent: sent_to(alloc, &remotes)?,
     })
 }
 
@@ -141,6 +195,7 @@ pub(crate) fn said_to_stream<T: Threads + Wait + Sync>(
             writes: Vec::new(alloc),
             notes: Vec::new(alloc),
             fetches: Vec::new(alloc),
+            peer: None,
         },
     )
 }
@@ -162,6 +217,7 @@ pub(crate) fn said_to_words<T: Threads + Wait + Sync>(
             writes: [0].to_vec(alloc)?,
             notes: Vec::new(alloc),
             fetches: [0].to_vec(alloc)?,
+            peer: None,
         },
     )
 }

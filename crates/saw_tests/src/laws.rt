@@ -96,5 +96,7 @@ fn laws_of_blocks_and_streams(_rt: HostRuntime) {
     saw_words::options_are_read();
     saw_top::order_of_options_does_not_show();
     saw_top::built_in_processors_tell();
+    saw_top::all_is_told();
     saw_top::candidate_is_accepted();
+    saw_top::generated_stream_is_committed();
 }

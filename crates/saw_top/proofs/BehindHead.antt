@@ -1,5 +1,5 @@
 -- The place of a block that is built behind the head.
-use Rattle.std.proofs.Common.{◌≡◌, ℕ, ◌+◌, Bool, true, false, List, [], ◌∷◌, reverse, Option, Some, None, refl, sym, ap, subst, ◌∙◌, arith}
+use Rattle.std.proofs.Common.{◌≡◌, ℕ, ◌+◌, Bool, true, false, List, [], ◌∷◌, ◌++◌, reverse, Option, Some, None, refl, sym, ap, subst, ◌∙◌, arith}
 use Rattle.std.specs.Prelude.{◌||◌, IfSome, is_some, nat_lt, option_map, if◌then◌else◌}
 use Rattle.std.specs.List.{AllByRecursion}
 use Rattle.std.specs.Str.{bytes_eq}
@@ -13,7 +13,7 @@ use Rattle.saw_journal.specs.Ledger.{map_under}
 use Rattle.saw_journal.specs.Linked.{AreLinked}
 use Rattle.saw_merkle.specs.States.{States}
 use Rattle.saw_publish.specs.Building.{map_before}
-use Rattle.saw_publish.specs.Candidates.{header_with, number_behind}
+use Rattle.saw_publish.specs.Candidates.{header_with, number_behind, previous_of}
 use Rattle.saw_receipts.specs.Branches.{block_at, branch_of, has_block, ids_in, no_block}
 use Rattle.saw_receipts.specs.Heads.{as_parent, branch_to, head_after, head_of, is_new_head}
 use Rattle.saw_receipts.specs.declared.block.BlockRecord.{BlockRecord}
@@ -87,6 +87,12 @@ module _ (key : List ℕ) (ids : List (List ℕ)) (root : List ℕ) where
       let number = eq-eqb (head.number + 1) (head.number + 1) refl in
       rw (fresh, named, has, found, number) refl
 
+-- the branch to the head ends with what the block states as the id before it
+pub branch_is : (blocks : List BlockRecord) (head : Option BlockRecord) → IsHead blocks head
+    → branch_to blocks head ≡ branch_of (λ block. block) blocks (previous_of (option_map as_parent head))
+branch_is blocks None is = sym (ap (λ (blocks : List BlockRecord). branch_of (λ block. block) blocks no_block) is)
+branch_is blocks (Some head) is = refl
+
 -- the map behind it
 pub map_is : (states : States) (head : Option BlockRecord) → map_under states head ≡ map_before states (option_map as_parent head)
 map_is states None = refl
@@ -102,3 +108,12 @@ pub becomes_head : (head : Option BlockRecord) (new : BlockRecord) → new.numbe
 becomes_head None new number = refl
 becomes_head (Some head) new number =
     or_true (nat_lt head.number new.number) _ (lt-ltb head.number new.number (omega (arith, number)))
+
+head_push : (head : Option BlockRecord) (blocks : List BlockRecord) (new : BlockRecord) → is_new_head (head_after head blocks) new ≡ true
+    → head_after head (blocks ++ new ∷ []) ≡ Some new
+head_push head [] new is = ap (λ b. if b then Some new else head) is
+head_push head (block ∷ blocks) new is = head_push (if is_new_head head block then Some block else head) blocks new is
+
+-- then it is the head
+pub head_is : (blocks : List BlockRecord) (new : BlockRecord) → is_new_head (head_of blocks) new ≡ true → head_of (blocks ++ new ∷ []) ≡ Some new
+head_is blocks new is = head_push None blocks new is

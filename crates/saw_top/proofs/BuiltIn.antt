@@ -1,10 +1,66 @@
--- That the built-in processors tell their actions and refuse by their own reasons.
-use Rattle.std.proofs.Common.{[], true, refl}
+-- That the built-in processors tell their actions and refuse by their own reasons; and where all is told.
+use Rattle.std.proofs.Common.{◌≡◌, inl, inr, ℕ, Bool, true, false, List, [], ◌∷◌, map, Result, Ok, Err, refl, sym, subst}
+use Rattle.std.proofs.lemmas.Bool.{and_from}
+use Rattle.std.specs.List.{list_all}
+use Rattle.std.specs.Prelude.{is_some}
+use Rattle.saw_context.specs.Outcome.{Processors}
+use Rattle.saw_crew.proofs.Telling.{batches_told}
+use Rattle.saw_messages.specs.Blocks.{block}
+use Rattle.saw_messages.specs.TxShapes.{TxShape}
+use Rattle.saw_messages.specs.declared.batch.Batch.{Batch}
+use Rattle.saw_messages.specs.declared.block.Block.{Block}
 use Rattle.saw_messages.specs.declared.outcome.Reason.TheVariants.{Remote}
+use Rattle.saw_messages.specs.declared.talk.Action.{Action}
 use Rattle.saw_messages.specs.declared.talk.Action.TheVariants as actions
+use Rattle.saw_messages.specs.declared.talk.Turn.{Turn}
+use Rattle.saw_plan.specs.BatchShapes.{txs_of}
+use Rattle.saw_receipts.specs.Shapes.{batch_in}
+use Rattle.saw_report.specs.declared.run_fault.RunFault.{RunFault}
 use Rattle.saw_station.proofs.Finished.{processors_own}
+use Rattle.saw_station.specs.Serving.{family_of, processors_at}
+use Rattle.saw_station.specs.declared.offer.Offer.{Offer}
+use Rattle.saw_top.specs.Answers.{Prepared}
 use Rattle.saw_top.specs.BuiltInLaws.{BuiltInTell}
+use Rattle.saw_top.specs.Stream.{stream_of}
+use Rattle.saw_top.specs.Telling.{IsTold, tell_batches, tell_block, tell_read}
+use Rattle.saw_top.specs.TellingLaws.{AllIsTold}
+use Rattle.saw_top.specs.World.{TellsAll}
 use Rattle.saw_top.proofs.Desks.{tells_all}
+use Rattle.saw_wire.specs.declared.fault.MessageFault.{MessageFault}
 
 pub built_in_tell : BuiltInTell
 built_in_tell = (tells_all (λ tx turns. actions.Invalid Remote) [], processors_own (λ tx turns. actions.Invalid Remote) (λ tx turns. refl) true [])
+
+-- ---- where all is told
+
+-- where nothing is offered elsewhere
+none_offered : (next : TxShape → List Turn → Action) (tells : Bool) → TellsAll (processors_at next tells [])
+none_offered next tells family version = by_test (is_some (family_of family version)) refl
+  where
+    by_test : (own : Bool) → is_some (family_of family version) ≡ own → (processors_at next tells []).tells family version ≡ true
+    by_test true own = rw own refl
+    by_test false own = rw own refl
+
+module _ (processors : Processors) (tells : TellsAll processors) where
+  batches_so : (batches : List Batch) → tell_batches processors batches ≡ true
+  batches_so batches = batches_told processors tells (txs_of (map batch_in batches))
+
+  read_so : (read : Result Block MessageFault) → tell_read processors read ≡ true
+  read_so (Ok b) = batches_so b.batches
+  read_so (Err fault) = refl
+
+  frames_so : (frames : List (List ℕ)) → list_all (tell_block processors) frames ≡ true
+  frames_so [] = refl
+  frames_so (content ∷ frames) = and_from _ _ (read_so (block content)) (frames_so frames)
+
+  told_so : (ready : Result Prepared RunFault) (bytes : List ℕ) → IsTold processors ready bytes
+  told_so (Ok made) bytes = (frames_so (stream_of bytes).frames, batches_so made.waiting.batches)
+  told_so (Err fault) bytes = tt
+
+pub all_is_told : AllIsTold
+all_is_told next tells offers ready bytes (inl none) =
+    subst (λ (offers : List Offer). IsTold (processors_at next tells offers) ready bytes) (sym none)
+    (told_so (processors_at next tells []) (none_offered next tells) ready bytes)
+all_is_told next tells offers ready bytes (inr told) =
+    subst (λ (tells : Bool). IsTold (processors_at next tells offers) ready bytes) (sym told)
+    (told_so (processors_at next true offers) (tells_all next offers) ready bytes)

@@ -1,5 +1,5 @@
 -- What was done of what was asked, by what was prepared.
-use Rattle.std.proofs.Common.{◌≡◌, inl, ℕ, true, false, List, [], ◌++◌, Option, Some, None, Result, Ok, Err, refl, sym, subst, arith}
+use Rattle.std.proofs.Common.{◌≡◌, ◌⊎◌, inl, inr, ℕ, true, false, List, [], ◌++◌, Option, Some, None, Result, Ok, Err, refl, sym, ap, subst, arith}
 use Rattle.std.specs.Prelude.{◌||◌, IfSome, IsSome, is_some}
 use Rattle.std.specs.Io.KnownBytes.{Appends}
 use Rattle.std.proofs.KnownBytes.{Appends-nil, Consumes-nil}
@@ -9,19 +9,20 @@ use Rattle.saw_io.specs.Shelf.{Files}
 use Rattle.saw_publish.specs.Candidates.{Signing}
 use Rattle.saw_report.specs.declared.run_fault.RunFault.{RunFault}
 use Rattle.saw_report.specs.declared.run_fault.RunFault.TheVariants as runs
-use Rattle.saw_station.specs.declared.offer.Offer.{Offer}
 use Rattle.saw_top.specs.Answers.{Prepared, answer_for, prepared}
 use Rattle.saw_generate.specs.Streams.{stream}
 use Rattle.saw_generate.specs.declared.wish.GenerateWish.{GenerateWish}
 use Rattle.saw_top.specs.Command.{Asked, Generate, Judge, Wish}
 use Rattle.saw_top.specs.Headline.{Carries, CarriesOut, Does, EndsBy, GoesOn, HasCause, HasFault, Shows, WritesBy}
 use Rattle.saw_top.specs.History.{ended, history}
-use Rattle.saw_top.specs.Outside.{End, Outside, sides, sides_of}
+use Rattle.saw_top.specs.Outside.{AreLater, End, Outside, SomeRose, sides, sides_of}
 use Rattle.saw_top.specs.Run.{faulty, noted_by, written_by}
 use Rattle.saw_top.specs.Vouching.{ComesBy, Prepares, prepared_in}
-use Rattle.saw_top.specs.World.{Accepts, TellsAll, World, world_with}
+use Rattle.saw_top.specs.Telling.{IsTold}
+use Rattle.saw_top.specs.World.{Accepts, World, world_with}
 use Rattle.saw_top.specs.declared.task.Lines.TheVariants.{All, Refused}
 use Rattle.saw_top.specs.declared.task.Task.{Task}
+use Rattle.saw_top.proofs.Counting.{later_on, later_same, rose_since_later}
 use Rattle.saw_top.proofs.Prepares.{files_in}
 use Rattle.saw_top.proofs.Doing.{no_front}
 
@@ -59,10 +60,10 @@ whole : (fault : RunFault) (old told : Option (List ℕ)) (bytes : List ℕ) (le
     → HasFault (faulty fault) bytes left (sides old old told told) fault
 whole fault old told bytes left = (record { output = Appends-nil old; notes = Appends-nil told; code = refl }, refl)
 
-module _ (processors : Processors) (before : Outside) (held : End Files) where
-  -- only the shelf was asked
+module _ (processors : Processors) (before : Outside) (held : End Files) (counts : List ℕ) where
+  -- only the shelf and the processors elsewhere were asked
   abbrev still : Outside
-  still = record before { shelf = held }
+  still = record before { shelf = held; remotes = counts }
 
   pub nothing : (task : Task) (ready : Result Prepared RunFault) (came : Result ℕ RunFault) → HasCause processors task ready before still came
       → ((bytes : List ℕ) (left : Option (List ℕ)) → EndsBy (answer_for processors task ready bytes) bytes left (sides_of before still) came)
@@ -78,10 +79,10 @@ module _ (processors : Processors) (before : Outside) (held : End Files) where
   }
     where
       here : (first : Option (List ℕ))
-          → IfSome first (λ bytes. TellsAll processors
+          → IfSome first (λ bytes. IsTold processors ready bytes
           → Shows (answer_for processors task ready bytes) bytes first (sides_of before still) came)
       here None = tt
-      here (Some bytes) = λ rests. record {
+      here (Some bytes) = λ told. record {
         output = no_front (answer_for processors task ready bytes).output before.output.tells;
         notes = no_front (answer_for processors task ready bytes).noted before.notes.tells;
         prompt = begun processors bytes before.output.tells before.notes.tells task ready;
@@ -104,7 +105,8 @@ unasked accepts signing processors asked before none =
       held = at.1;
       words = (λ same. refl, λ same. refl);
       named = λ same. absurd cc;
-      does = faulted processors before before.shelf _ runs.Words (refl, refl) (whole runs.Words _ _);
+      later = later_same before.remotes;
+      does = faulted processors before before.shelf before.remotes _ runs.Words (refl, refl) (whole runs.Words _ _);
     })
 
 -- memory was refused while the words were read
@@ -118,7 +120,9 @@ unread accepts signing processors (Some (Judge wish)) before some =
       held = at.1;
       words = (λ same. absurd cc, λ none. absurd cc);
       named = λ same. absurd cc;
-      does = nothing processors before before.shelf wish.task (prepared (world_with accepts signing processors at.0) (Some wish)) (Err runs.Memory) tt (λ bytes left. tt);
+      later = later_same before.remotes;
+      does = nothing processors before before.shelf before.remotes wish.task (prepared (world_with accepts signing processors at.0) (Some wish))
+          (Err runs.Memory) tt (λ bytes left. tt);
     }
 unread accepts signing processors (Some (Generate wish)) before some =
     λ files. record { still = refl; wrote = no_front (stream signing wish) before.output.tells }
@@ -164,6 +168,7 @@ module _ (accepts : Accepts) (signing : Signing) (processors : Processors) (work
         held = prepares.held;
         words = (λ same. let e : fault ≡ runs.Words = cc in absurd (other e), λ none. absurd cc);
         named = λ same. let e : fault ≡ runs.FileFailed = cc in named e;
+        later = later_same before.remotes;
         does = does;
       }
 
@@ -174,7 +179,7 @@ module _ (accepts : Accepts) (signing : Signing) (processors : Processors) (work
           → Carried fault
       of_file fault other named is cause ends = carried fault other named
           (subst (λ (r : Result Prepared RunFault). Does processors task r before asked (Err fault)) (sym is)
-          (faulted processors before held task fault cause ends))
+          (faulted processors before held before.remotes task fault cause ends))
 
       by_fault : (fault : RunFault) → ComesBy why (ready_in prepares.files) (Err fault) → Carried fault
       by_fault runs.FileMissing by = of_file runs.FileMissing (λ same. cc) (λ same. absurd cc) by.0 (refl, refl) (whole runs.FileMissing _ _)
@@ -182,9 +187,9 @@ module _ (accepts : Accepts) (signing : Signing) (processors : Processors) (work
       by_fault (runs.BadLine line) by = of_file (runs.BadLine line) (λ same. cc) (λ same. absurd cc) by.0 (refl, refl) (whole (runs.BadLine line) _ _)
       by_fault runs.BadList by = of_file runs.BadList (λ same. cc) (λ same. absurd cc) by.0 (refl, refl) (whole runs.BadList _ _)
       by_fault runs.FileFailed by = carried runs.FileFailed (λ same. cc) (λ same. by.0)
-          (nothing processors before held task (ready_in prepares.files) (Err runs.FileFailed) (by.1, refl) (λ bytes left. tt))
+          (nothing processors before held before.remotes task (ready_in prepares.files) (Err runs.FileFailed) (by.1, refl) (λ bytes left. tt))
       by_fault runs.Memory by = carried runs.Memory (λ same. cc) (λ same. absurd cc)
-          (nothing processors before held task (ready_in prepares.files) (Err runs.Memory) tt (λ bytes left. tt))
+          (nothing processors before held before.remotes task (ready_in prepares.files) (Err runs.Memory) tt (λ bytes left. tt))
       by_fault fault by = absurd cc
 
   module _ (made : Prepared) (prepares : Prepares accepts signing list batches before.shelf held (Ok made)) where
@@ -195,7 +200,8 @@ module _ (accepts : Accepts) (signing : Signing) (processors : Processors) (work
       held = prepares.held;
       words = (λ same. absurd cc, λ none. absurd cc);
       named = λ same. absurd cc;
-      does = nothing processors before held task (ready_in prepares.files) (Err runs.Memory) tt (λ bytes left. tt);
+      later = later_same before.remotes;
+      does = nothing processors before held before.remotes task (ready_in prepares.files) (Err runs.Memory) tt (λ bytes left. tt);
     }
 
     -- by a shelf that nothing is asked of
@@ -206,14 +212,15 @@ module _ (accepts : Accepts) (signing : Signing) (processors : Processors) (work
     Causes from to came = HasCause processors task (Ok made) (record from { shelf = quiet }) (record to { shelf = quiet }) came
 
     -- the task was done; no fetch failed any more, since none was needed
-    pub with_ready : (after : Outside) (came : Result ℕ RunFault) → after.shelf ≡ held
+    pub with_ready : (after : Outside) (came : Result ℕ RunFault) → after.shelf ≡ held → AreLater before.remotes after.remotes
         → ((from to : End Files) → Does processors task (Ok made) (record before { shelf = from }) (record after { shelf = to }) came)
         → CarriesOut (world_with accepts signing processors) wish before after came
-    with_ready after came same does = record {
+    with_ready after came same later does = record {
       files = prepares.files;
       held = prepares.held;
       words = (λ is. absurd (never_words is), λ none. absurd cc);
       named = λ is. absurd (never_failed is);
+      later = later;
       does = subst (λ (r : Result Prepared RunFault). Does processors task r before after came) (sym prepares.by) (does before.shelf after.shelf);
     }
       where
@@ -230,12 +237,122 @@ module _ (accepts : Accepts) (signing : Signing) (processors : Processors) (work
             let failed : Causes before after (Err runs.FileFailed) = subst (Causes before after) is causes in
             omega (arith, failed.0)
 
--- without processors elsewhere
-pub without_remotes : (at : List Offer → Processors) (offers : List Offer) → offers ≡ [] → (old new : List ℕ) → old ≡ [] → new ≡ []
-    → (task : Task) (ready : Result Prepared RunFault) (before after : Outside) (came : Result ℕ RunFault)
-    → Does (at offers) task ready (record before { remotes = old }) (record after { remotes = new }) came
-    → Does (at []) task ready (record before { remotes = [] }) (record after { remotes = [] }) came
-without_remotes at offers none old new first last task ready before after came does =
-    subst (λ (given : List Offer). Does (at given) task ready (record before { remotes = [] }) (record after { remotes = [] }) came) none
-    (subst (λ (counts : List ℕ). Does (at offers) task ready (record before { remotes = counts }) (record after { remotes = [] }) came) first
-    (subst (λ (counts : List ℕ). Does (at offers) task ready (record before { remotes = old }) (record after { remotes = counts }) came) last does))
+-- ---- processors elsewhere
+
+-- what was done with some of them, as done with all
+module _ (processors : Processors) (task : Task) (ready : Prepared) (before after : Outside) (olds news all_olds all_news : List ℕ)
+    (rose : SomeRose olds news → SomeRose all_olds all_news) where
+  abbrev some_before : Outside
+  some_before = record before { remotes = olds }
+
+  abbrev some_after : Outside
+  some_after = record after { remotes = news }
+
+  abbrev all_before : Outside
+  all_before = record before { remotes = all_olds }
+
+  abbrev all_after : Outside
+  all_after = record after { remotes = all_news }
+
+  still_so : some_after ≡ record some_before { shelf = after.shelf; remotes = news } → all_after ≡ record all_before { shelf = after.shelf; remotes = all_news }
+  still_so is = ap (λ (o : Outside). record o { remotes = all_news }) is
+
+  cause_so : (came : Result ℕ RunFault) → HasCause processors task (Ok ready) some_before some_after came
+      → HasCause processors task (Ok ready) all_before all_after came
+  cause_so (Ok status) cause = cause
+  cause_so (Err runs.Words) cause = absurd cc
+  cause_so (Err runs.FileMissing) cause = absurd cc
+  cause_so (Err runs.FileTooLong) cause = absurd cc
+  cause_so (Err (runs.BadLine line)) cause = absurd cc
+  cause_so (Err runs.BadList) cause = absurd cc
+  cause_so (Err runs.FileFailed) cause = (cause.0, still_so cause.1)
+  cause_so (Err runs.Memory) cause = tt
+  cause_so (Err runs.Read) cause = cause
+  cause_so (Err runs.Write) cause = cause
+  cause_so (Err runs.Peer) cause = (inl (ready, refl), rose cause.1)
+  cause_so (Err (runs.Collision kept given)) cause = cause
+  cause_so (Err fault) cause = (ready, refl)
+
+  pub does_so : (came : Result ℕ RunFault) → Does processors task (Ok ready) some_before some_after came
+      → Does processors task (Ok ready) all_before all_after came
+  does_so came does = record {
+    cause = cause_so came does.cause;
+    lines = does.lines;
+    aside = does.aside;
+    noted = does.noted;
+    later = does.later;
+    shows = does.shows;
+  }
+
+module _ (given : Files → World) (wish : Wish) (before : Outside) (counts : List ℕ) (later : AreLater before.remotes counts) where
+  abbrev begun_at : Outside
+  begun_at = record before { remotes = counts }
+
+  -- one of them failed as it began, or memory was refused
+  pub unbegun : (fault : RunFault) → (fault ≡ runs.Peer) ⊎ (fault ≡ runs.Memory) → (fault ≡ runs.Peer → SomeRose before.remotes counts)
+      → CarriesOut given (Some wish) before begun_at (Err fault)
+  unbegun fault (inl is) rose =
+      let at = files_in before.shelf.tells in
+      let world = given at.0 in
+      rw is (record {
+        files = at.0;
+        held = at.1;
+        words = (λ same. absurd cc, λ none. absurd cc);
+        named = λ same. absurd cc;
+        later = later;
+        does = nothing world.processors before before.shelf counts wish.task (prepared world (Some wish)) (Err runs.Peer) (inr refl, rose is)
+            (λ bytes left. tt);
+      })
+  unbegun fault (inr is) rose =
+      let at = files_in before.shelf.tells in
+      let world = given at.0 in
+      rw is (record {
+        files = at.0;
+        held = at.1;
+        words = (λ same. absurd cc, λ none. absurd cc);
+        named = λ same. absurd cc;
+        later = later;
+        does = nothing world.processors before before.shelf counts wish.task (prepared world (Some wish)) (Err runs.Memory) tt (λ bytes left. tt);
+      })
+
+  -- what was done behind their beginning
+  module _ (after : Outside) (came : Result ℕ RunFault) (done : CarriesOut given (Some wish) begun_at after came) where
+    abbrev CausesFrom : Outside → Result ℕ RunFault → Type 0
+    CausesFrom from came = let world = given done.files in HasCause world.processors wish.task (prepared world (Some wish)) from after came
+
+    cause_since : (came : Result ℕ RunFault) → (came ≡ Err runs.Words → ⊥) → CausesFrom begun_at came → CausesFrom before came
+    cause_since (Ok status) other cause = cause
+    cause_since (Err runs.Words) other cause = absurd (other refl)
+    cause_since (Err runs.FileMissing) other cause = cause
+    cause_since (Err runs.FileTooLong) other cause = cause
+    cause_since (Err (runs.BadLine line)) other cause = cause
+    cause_since (Err runs.BadList) other cause = cause
+    cause_since (Err runs.FileFailed) other cause = cause
+    cause_since (Err runs.Memory) other cause = cause
+    cause_since (Err runs.Read) other cause = cause
+    cause_since (Err runs.Write) other cause = cause
+    cause_since (Err runs.Peer) other cause = (cause.0, rose_since_later before.remotes counts after.remotes later cause.1)
+    cause_since (Err (runs.Collision kept given)) other cause = cause
+    cause_since (Err fault) other cause = cause
+
+    never_words : came ≡ Err runs.Words → ⊥
+    never_words is = let none = done.words.0 is in cc none
+
+    pub since_begun : CarriesOut given (Some wish) before after came
+    since_begun =
+        let does = done.does in
+        record {
+          files = done.files;
+          held = done.held;
+          words = done.words;
+          named = done.named;
+          later = later_on before.remotes counts after.remotes later done.later;
+          does = record {
+            cause = cause_since came never_words does.cause;
+            lines = does.lines;
+            aside = does.aside;
+            noted = does.noted;
+            later = does.later;
+            shows = does.shows;
+          };
+        }

@@ -1,32 +1,24 @@
 -- Desks with equal offers, whose processors tell their actions.
-use Rattle.std.proofs.Common.{◌≡◌, ◌⊎◌, ◌<◌, ◌≤◌, inl, inr, ℕ, Bool, true, false, List, [], ◌∷◌, ◌++◌, length, length-append, Option, Some, None, refl, ap}
-use Rattle.std.proofs.Common.{subst, arith}
+use Rattle.std.proofs.Common.{◌≡◌, ◌⊎◌, ◌<◌, ◌≤◌, inl, inr, ℕ, true, List, [], ◌∷◌, ◌++◌, length, length-append, Option, Some, None, ap}
+use Rattle.std.proofs.Common.{arith}
 use Rattle.std.specs.Prelude.{is_some}
-use Rattle.std.proofs.Math.Path.{fun_ext}
-use Rattle.saw_context.specs.Outcome.{Processors}
-use Rattle.saw_context.specs.Serial.{serial}
-use Rattle.saw_crew.proofs.Telling.{all_families, told_serial}
+use Rattle.saw_crew.proofs.Telling.{all_families}
 use Rattle.saw_crew.specs.Desks.{Failed, KeepsDesks}
 use Rattle.saw_faults.specs.Counts.{Rose}
-use Rattle.saw_journal.specs.Clashing.{Clashes}
-use Rattle.saw_journal.specs.Judgement.{Rules, rules_with}
-use Rattle.saw_receipts.specs.Running.{Runs}
-use Rattle.saw_journal.specs.Ledger.{IsFull, Ledger, Says}
-use Rattle.saw_receipts.specs.Running.{RunsBy}
+use Rattle.saw_journal.specs.Judgement.{Rules}
+use Rattle.saw_journal.specs.Ledger.{Ledger, Says}
 use Rattle.saw_messages.specs.TxShapes.{TxShape}
 use Rattle.saw_messages.specs.declared.talk.Action.{Action}
 use Rattle.saw_messages.specs.declared.talk.Turn.{Turn}
-use Rattle.saw_node.specs.Hashes.{first_half}
-use Rattle.saw_node.specs.declared.node.Node.{Node}
 use Rattle.saw_receipts.specs.declared.block.BlockRecord.{BlockRecord}
 use Rattle.saw_receipts.specs.declared.verdict.Verdict.{Verdict}
 use Rattle.saw_receipts.specs.declared.verdict.Verdict.TheVariants.{Committed, Stored, Refused}
 use Rattle.saw_receipts.specs.Verdicts.{is_accepted}
-use Rattle.saw_station.specs.DeskPlaces.{AreLone, Place, faults_by}
+use Rattle.saw_station.specs.DeskPlaces.{Place, faults_by}
 use Rattle.saw_station.specs.Serving.{processors_at}
 use Rattle.saw_station.specs.declared.offer.Offer.{Offer}
 use Rattle.saw_top.specs.Outside.{SomeRose, counts_of}
-use Rattle.saw_top.specs.World.{Accepts, TellsAll, rules_by}
+use Rattle.saw_top.specs.World.{TellsAll}
 
 -- ---- what stays of desks
 
@@ -73,59 +65,11 @@ module _ {R : Type 0} (faults : R → ℕ) (offered : R → List Offer) where
   rose_since (old ∷ olds) (mid ∷ mids) news keeps rose =
       since_one old.remote mid.remote old.offers mid.offers olds mids news keeps.0.remote keeps.0.later (λ ns. rose_since olds mids ns keeps.1) rose
 
--- ---- the built-in processors alone
-
-none_left : {R : Type 0} (before after : Option R) → is_some after ≡ is_some before → before ≡ None → after ≡ None
-none_left before None same none = refl
-none_left None (Some remote) same none = absurd cc
-none_left (Some later) (Some remote) same none = absurd cc
-
-module _ {R : Type 0} (faults : R → ℕ) (offered : R → List Offer) where
-  none_counted : (remote : Option R) (offers : List Offer) (desks : List (Place R)) → remote ≡ None → counts_of faults desks ≡ []
-      → counts_of faults (record { remote = remote; offers = offers } ∷ desks) ≡ []
-  none_counted None offers desks none rest = rest
-  none_counted (Some remote) offers desks none rest = absurd cc
-
-  -- desks without remotes count nothing, also later
-  pub lone_counts : (desks news : List (Place R)) → AreLone desks → KeepsDesks faults offered desks news
-      → (counts_of faults desks ≡ []) × (counts_of faults news ≡ [])
-  lone_counts [] [] lone keeps = (refl, refl)
-  lone_counts [] (new ∷ news) lone keeps = absurd keeps
-  lone_counts (desk ∷ desks) [] lone keeps = absurd keeps
-  lone_counts (desk ∷ desks) (new ∷ news) lone keeps =
-      let rest = lone_counts desks news lone.1 keeps.1 in (
-        none_counted desk.remote desk.offers desks lone.0.0 rest.0,
-        none_counted new.remote new.offers news (none_left desk.remote new.remote keeps.0.remote lone.0.0) rest.1,
-      )
-
 -- ---- all is told
 
 -- with a remote that tells its actions, or none
 pub tells_all : (next : TxShape → List Turn → Action) (offers : List Offer) → TellsAll (processors_at next true offers)
 tells_all next offers = all_families next offers
-
-module _ (processors : Processors) (told : TellsAll processors) where
-  -- so there is one way to run batches
-  pub one_way : (runs : Runs) → RunsBy processors runs → runs ≡ (λ m batches. serial processors m batches)
-  one_way runs by =
-      fun_ext (λ m. fun_ext (λ batches. told_serial processors told m batches (runs m batches) (by.serial m batches)))
-
-module _ (processors : Processors) (told : TellsAll processors) (accepts : Accepts) (old : Ledger) (content : List ℕ) (runs : Runs)
-    (by : RunsBy processors runs) where
-  same_runs : runs ≡ (λ m batches. serial processors m batches)
-  same_runs = one_way processors told runs by
-
-  pub says_told : (verdict : Verdict) (new : Ledger) → Says (rules_with first_half accepts runs) old content verdict new
-      → Says (rules_by accepts processors) old content verdict new
-  says_told verdict new says = subst (λ (runs : Runs). Says (rules_with first_half accepts runs) old content verdict new) same_runs says
-
-  pub clash_told : (kept given : Node) → Clashes (rules_with first_half accepts runs) old.states old.blocks content kept given
-      → Clashes (rules_by accepts processors) old.states old.blocks content kept given
-  clash_told kept given clash =
-      subst (λ (runs : Runs). Clashes (rules_with first_half accepts runs) old.states old.blocks content kept given) same_runs clash
-
-  pub full_told : IsFull (rules_with first_half accepts runs) old content → IsFull (rules_by accepts processors) old content
-  full_told full = subst (λ (runs : Runs). IsFull (rules_with first_half accepts runs) old content) same_runs full
 
 grown_some : (blocks : List BlockRecord) (block : BlockRecord) (more : List BlockRecord) → more ≡ blocks ++ block ∷ [] → 0 < length more
 grown_some blocks block more is = omega (arith, ap (λ (l : List BlockRecord). length l) is, length-append blocks (block ∷ []))

@@ -40,7 +40,8 @@ use Rattle.saw_top.specs.Outside.{End, Outside, Sides, SomeRose, WritesFront, li
 use Rattle.saw_top.specs.Reports.{report}
 use Rattle.saw_top.specs.Run.{Answer, AtEnd, end_by, ending_of, fault_of, history_of, noted_by, run_of, status_by, task_answer, written_by}
 use Rattle.saw_top.specs.KeptBlocks.{IsAfter, IsKept}
-use Rattle.saw_top.specs.World.{Accepts, TellsAll, rules_by}
+use Rattle.saw_top.specs.Telling.{IsTold, tell_stream}
+use Rattle.saw_top.specs.World.{Accepts, rules_by}
 use Rattle.saw_top.specs.declared.task.Ending.{Ending}
 use Rattle.saw_top.specs.declared.task.Ending.TheVariants.{Batch, Candidate, Head, Entries, Receipts}
 use Rattle.saw_top.specs.declared.task.Lines.{Lines}
@@ -380,14 +381,14 @@ module _ (processors : Processors) (task : Task) (accepts : Accepts) (signing : 
   cause_of after runs.BadList kind alike read write peer = absurd cc
   cause_of after runs.Read kind alike read write peer = ((ready, refl), read refl)
   cause_of after runs.Write kind alike read write peer = ((ready, refl), write refl)
-  cause_of after runs.Peer kind alike read write peer = ((ready, refl), peer refl)
+  cause_of after runs.Peer kind alike read write peer = (inl (ready, refl), peer refl)
   cause_of after (runs.Collision kept given) kind alike read write peer = ((ready, refl), alike)
   cause_of after runs.Memory kind alike read write peer = tt
   cause_of after e kind alike read write peer = (ready, refl)
 
   -- what is shown where the premises hold
   abbrev ShownTo : Outside → Result ℕ RunFault → List ℕ → Type 0
-  ShownTo after came bytes = TellsAll processors
+  ShownTo after came bytes = IsTold processors (Ok ready) bytes
       → Shows (task_answer rules ready.waiting task bytes) bytes after.input.tells (sides_of before after) came
 
   module _ (middle : Outside) (ledger : Ledger) where
@@ -397,12 +398,12 @@ module _ (processors : Processors) (task : Task) (accepts : Accepts) (signing : 
 
     -- what is shown of the bytes, where they are told and the premises hold
     shown_to : (result : Result Bool RunFault) (after : Outside) (came : Result ℕ RunFault) (first : Option (List ℕ))
-        → (TellsAll processors → IfSome first (JudgedBy result))
+        → IfSome first (λ bytes. tell_stream processors bytes ≡ true → JudgedBy result bytes)
         → ((bytes : List ℕ) → Judges rules task.lines bytes middle.input.tells (lines_side task.lines before).tells
         (lines_side task.lines middle).tells ledger result
         → Shows (task_answer rules ready.waiting task bytes) bytes after.input.tells (sides_of before after) came) → IfSome first (ShownTo after came)
     shown_to result after came None judged shows = tt
-    shown_to result after came (Some bytes) judged shows = λ rests. shows bytes (judged rests)
+    shown_to result after came (Some bytes) judged shows = λ told. shows bytes (judged told.0)
 
     -- the judging ended it
     pub does_to : (e : RunFault) → JudgesFor processors accepts task.lines before middle ledger (Err e)
@@ -441,20 +442,21 @@ module _ (processors : Processors) (task : Task) (accepts : Accepts) (signing : 
           since_middle (inr rose) =
               let first : before.notes.faults ≤ middle.notes.faults = later_notes task.lines before middle judged.aside judged.later in
               inr (omega (arith, first, rose))
-      cause_by (Err runs.Peer) done kind write peer = ((ready, refl), since (peer refl))
+      cause_by (Err runs.Peer) done kind write peer = (inl (ready, refl), since (peer refl))
       cause_by (Err (runs.Collision kept given)) done kind write peer = ((ready, refl), kind)
       cause_by (Err runs.Memory) done kind write peer = tt
       cause_by (Err e) done kind write peer = absurd kind
 
       -- what is shown of the bytes, where they are told and the premises hold
-      shown_at : (first : Option (List ℕ)) → (TellsAll processors → IfSome first (JudgedBy (Ok refused))) → IfSome first (ShownTo after result)
+      shown_at : (first : Option (List ℕ)) → IfSome first (λ bytes. tell_stream processors bytes ≡ true → JudgedBy (Ok refused) bytes)
+          → IfSome first (ShownTo after result)
       shown_at None judges = tt
-      shown_at (Some bytes) judges = λ rests.
-          let j = judges rests in
+      shown_at (Some bytes) judges = λ told_all.
+          let j = judges told_all.0 in
           finished rules ready.waiting task bytes middle.input.tells before middle judged.aside out told refused ledger j
           (end_at rules ready.waiting task.ending ledger refused)
           (end_same rules ready.waiting task.lines task.ending bytes middle.input.tells (lines_side task.lines before).tells
-          (lines_side task.lines middle).tells refused ledger j.ends) refl result (finish.writes rests) finish.kind
+          (lines_side task.lines middle).tells refused ledger j.ends) refl result (finish.writes told_all.1) finish.kind
 
       pub does_all : Does processors task (Ok ready) before after result
       does_all =
@@ -478,7 +480,7 @@ module _ (processors : Processors) (task : Task) (accepts : Accepts) (signing : 
 
       judges : (lines : Lines) → JudgesFor processors accepts lines before (record before { shelf = held }) none (Err runs.Memory)
       judges All = record {
-        judges = λ told. nothing_judged rules All before.input.tells before.output.tells none;
+        judges = nothing_judged rules All (λ bytes. tell_stream processors bytes ≡ true) before.input.tells before.output.tells none;
         aside = refl;
         wrote = ([], Appends-nil before.output.tells);
         kind = refl;
@@ -489,7 +491,7 @@ module _ (processors : Processors) (task : Task) (accepts : Accepts) (signing : 
         peer = λ is. absurd cc;
       }
       judges Refused = record {
-        judges = λ told. nothing_judged rules Refused before.input.tells before.notes.tells none;
+        judges = nothing_judged rules Refused (λ bytes. tell_stream processors bytes ≡ true) before.input.tells before.notes.tells none;
         aside = refl;
         wrote = ([], Appends-nil before.notes.tells);
         kind = refl;

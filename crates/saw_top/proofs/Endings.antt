@@ -13,11 +13,12 @@ use Rattle.saw_generate.specs.Streams.{stream}
 use Rattle.saw_top.specs.Answers.{Prepared, answer_by, answer_to, prepared, task_by}
 use Rattle.saw_top.specs.Command.{Asked, Generate, Judge, Wish, asked_of}
 use Rattle.saw_top.specs.EndingFaults.{is_told}
-use Rattle.saw_top.specs.Headline.{Carries, CarriesOut, EndsBy, Gives, HasCause, HasEnded, HasFault, IsAnswered, IsWhole, Shows, TellsEnd, TellsFault, WhereRead, WritesBy}
+use Rattle.saw_top.specs.Headline.{Carries, CarriesOut, EndsBy, Gives, HasCause, HasEnded, HasFault, IsAnswered, IsToldFor, IsWhole, Shows, TellsEnd, TellsFault, WhereRead, WritesBy}
 use Rattle.saw_node.specs.declared.node.Node.{Node}
 use Rattle.saw_top.specs.Outside.{End, Outside, SomeFailed, sides_of}
 use Rattle.saw_top.specs.Run.{Answer, line_by, whole}
-use Rattle.saw_top.specs.World.{TellsAll, World}
+use Rattle.saw_top.specs.Telling.{IsTold}
+use Rattle.saw_top.specs.World.{World}
 use Rattle.saw_top.specs.declared.task.Task.{Task}
 use Rattle.saw_top.proofs.Prepares.{files_in}
 
@@ -99,24 +100,27 @@ module _ (given : Files → World) (before after : Outside) (notes : End (List �
   -- the answer, for the bytes and files that are told or some files
   abbrev Holds : Option Asked → Type 0
   Holds asked = (files : Files) × IfSome before.shelf.tells (λ told. files ≡ told)
-      × WhereRead asked before.input.tells (λ bytes. Answered (answer_by (given files) asked bytes) bytes before after notes status)
+      × WhereRead asked before.input.tells (λ bytes. IsToldFor (given files) asked bytes
+      → Answered (answer_by (given files) asked bytes) bytes before after notes status)
 
   abbrev HoldsFor : Option Wish → Type 0
   HoldsFor wish = (files : Files) × IfSome before.shelf.tells (λ told. files ≡ told)
-      × IfSome before.input.tells (λ bytes. Answered (answer_to (given files) wish bytes) bytes before after notes status)
+      × IfSome before.input.tells (λ bytes. (let world = given files in IsTold world.processors (prepared world wish) bytes)
+      → Answered (answer_to (given files) wish bytes) bytes before after notes status)
 
-  of_job : (wish : Option Wish) (came : Result ℕ RunFault) → CarriesOut given wish before noted came → ((files : Files) → TellsAll (given files).processors)
-      → TellsEnd came notes after.notes status → HoldsFor wish
-  of_job wish came done tells told =
+  of_job : (wish : Option Wish) (came : Result ℕ RunFault) → CarriesOut given wish before noted came → TellsEnd came notes after.notes status
+      → HoldsFor wish
+  of_job wish came done told =
       let does = done.does in
       let world = given done.files in (
         done.files,
         done.held,
         some_map before.input.tells
-            (λ bytes. TellsAll world.processors → Shows (answer_to world wish bytes) bytes after.input.tells (sides_of before noted) came)
-            (λ bytes. Answered (answer_to world wish bytes) bytes before after notes status)
-            (λ bytes shows. by_end (answer_to world wish bytes) bytes before after notes status world.processors (task_by wish)
-            (prepared world wish) came (shows (tells done.files)).ends does.cause told does.later)
+            (λ bytes. IsTold world.processors (prepared world wish) bytes
+            → Shows (answer_to world wish bytes) bytes after.input.tells (sides_of before noted) came)
+            (λ bytes. IsTold world.processors (prepared world wish) bytes → Answered (answer_to world wish bytes) bytes before after notes status)
+            (λ bytes shows all. by_end (answer_to world wish bytes) bytes before after notes status world.processors (task_by wish)
+            (prepared world wish) came (shows all).ends does.cause told does.later)
             does.shows,
       )
 
@@ -138,17 +142,17 @@ module _ (given : Files → World) (before after : Outside) (notes : End (List �
     of_stream (Err Memory) wrote told = inl (seven (whole text) bytes before after notes status told.0)
     of_stream (Err fault) wrote told = absurd wrote
 
-  by_asked : (asked : Option Asked) (came : Result ℕ RunFault) → Carries given asked before noted came → ((files : Files) → TellsAll (given files).processors)
-      → TellsEnd came notes after.notes status → Holds asked
-  by_asked None came done tells told = of_job None came done tells told
-  by_asked (Some (Judge wish)) came done tells told = of_job (Some wish) came done tells told
-  by_asked (Some (Generate wish)) came done tells told =
+  by_asked : (asked : Option Asked) (came : Result ℕ RunFault) → Carries given asked before noted came → TellsEnd came notes after.notes status
+      → Holds asked
+  by_asked None came done told = of_job None came done told
+  by_asked (Some (Judge wish)) came done told = of_job (Some wish) came done told
+  by_asked (Some (Generate wish)) came done told =
       let at = files_in before.shelf.tells in
       let made = done at.0 in
-      (at.0, at.1, λ bytes. of_stream (stream (given at.0).signing wish) bytes made.still came made.wrote told)
+      (at.0, at.1, λ bytes all. of_stream (stream (given at.0).signing wish) bytes made.still came made.wrote told)
 
 pub answered : (given : Files → World) (words : List (List ℕ)) (before after : Outside) (status : ℕ) → HasEnded given words before after status
     → IsAnswered given words before after status
 answered given words before after status ended =
-    let holds = by_asked given before after ended.notes status (asked_of words) ended.came ended.done ended.tells ended.told in
+    let holds = by_asked given before after ended.notes status (asked_of words) ended.came ended.done ended.told in
     record { files = holds.0; held = holds.1; gives = holds.2 }

@@ -3,6 +3,7 @@ pub mod Branching
 pub mod Judgements
 pub mod BehindHead
 pub mod Steps
+pub mod Told
 pub mod Streams
 pub mod Standings
 pub mod Desks
@@ -17,8 +18,15 @@ pub mod OptionOrder
 pub mod Prefixes
 pub mod BuiltIn
 pub mod Prepares
+pub mod Seating
+pub mod Counting
+pub mod Seated
 pub mod Carrying
 pub mod Endings
 pub mod Frames
 pub mod NextBlocks
 pub mod Candidates
+pub mod GeneratedSigned
+pub mod GeneratedIds
+pub mod GeneratedBlocks
+pub mod GeneratedRuns

@@ -68,6 +68,13 @@ module _ (hash : List ℕ → List ℕ) (runs : Runs) (map_behind : Option Block
       (is.states ∙ ap (λ m. encode_lower (root_of_map hash m)) (sym is.left_is)) in
       rw (placed, whole, valid, rooted) refl
 
+  -- over the map behind it and with the ids before it, the block is kept
+  pub judged_over : (before : StateMap) (there : Ids) → map_behind (parent_of blocks parts.header) ≡ before → ids_before blocks parts.header ≡ there
+      → IsSound before there → judged_parts hash runs map_behind blocks parts ≡ Ok (kept_of hash parts before (runs before (txs_of parts.batches)))
+  judged_over before there same ids sound =
+      judged_sound (subst (λ (m : StateMap). IsSound m (ids_before blocks parts.header)) (sym same) (subst (IsSound before) (sym ids) sound))
+      ∙ ap (λ (m : StateMap). Ok (kept_of hash parts m (runs m (txs_of parts.batches)))) same
+
   -- a judgement that keeps a block of this number, which leaves this map
   pub record IsKeptOf (result : Result Kept BlockFault) : Type 0 where
     pub kept : Kept
@@ -77,16 +84,12 @@ module _ (hash : List ℕ → List ℕ) (runs : Runs) (map_behind : Option Block
 
   pub kept_sound : (before : StateMap) (there : Ids) → map_behind (parent_of blocks parts.header) ≡ before → ids_before blocks parts.header ≡ there
       → IsSound before there → IsKeptOf (judged_parts hash runs map_behind blocks parts)
-  kept_sound before there same ids sound =
-      let here : IsSound (map_behind (parent_of blocks parts.header)) (ids_before blocks parts.header) =
-      subst (λ (m : StateMap). IsSound m (ids_before blocks parts.header)) (sym same) (subst (IsSound before) (sym ids) sound) in
-      let m = map_behind (parent_of blocks parts.header) in
-      record {
-        kept = kept_of hash parts m (runs m (txs_of parts.batches));
-        fine = judged_sound here;
-        number = refl;
-        left_is = here.left_is;
-      }
+  kept_sound before there same ids sound = record {
+    kept = kept_of hash parts before (runs before (txs_of parts.batches));
+    fine = judged_over before there same ids sound;
+    number = refl;
+    left_is = sound.left_is;
+  }
 
 -- what comes of bytes without a structure fault is what comes of the block that is read from them
 pub judged_read : (hash : List ℕ → List ℕ) (accepts : List ℕ → List ℕ → List ℕ → Bool) (runs : Runs) (map_behind : Option BlockRecord → StateMap)

@@ -3,6 +3,7 @@ use Rattle.std.proofs.Common.{◌≡◌, ◌⊎◌, inl, inr, ℕ, ◌+◌, ◌-
 use Rattle.std.proofs.Common.{Some, None, Result, Ok, Err, refl, sym, ap, subst, ◌∙◌, append_assoc, arith}
 use Rattle.std.specs.Prelude.{IfSome, ◌||◌, slice_get}
 use Rattle.std.specs.FinMap as finite
+use Rattle.std.specs.List.{list_all}
 use Rattle.std.specs.Global.{Vec}
 use Rattle.std.specs.Io.KnownBytes.{Appends, Consumes, IsAtEnd}
 use Rattle.std.proofs.KnownBytes.{Appends-trans, Appends-nil, Consumes-nil}
@@ -39,6 +40,7 @@ use Rattle.saw_top.specs.declared.task.Lines.{Lines}
 use Rattle.saw_journal.proofs.OneByOne.{RunsOneByOne}
 use Rattle.saw_top.proofs.Histories.{after, history_behind, length-said, report-behind, tried_at}
 use Rattle.saw_top.proofs.Judgements.{left_same}
+use Rattle.saw_top.proofs.Told.{among}
 use Rattle.saw_top.proofs.Steps.{Steps, no_room, steps}
 use Rattle.saw_top.proofs.Streams.{Reads-push, all_before, at_end, nothing_at, stream_ended, stream_faulty, stream_full, stream_goes_on, stream_some, stream_too_many}
 
@@ -93,17 +95,18 @@ module _ (rules : Rules) (lines : Lines) where
     pub some : refused ≡ some_refused (history rules frames []).said
     pub stands : IsAfter rules (history rules frames []).accepted ledger
 
-  -- the same of an input that may not tell its bytes
-  pub record SoFar (place : ℕ) (first now old new : Option (List ℕ)) (refused : Bool) (ledger : Ledger) : Type 0 where
-    pub so : IfSome first (λ bytes. IsAt place bytes now old new refused ledger)
+  -- the same of an input that may not tell its bytes, where this holds of them
+  pub record SoFar (holds : List ℕ → Type 0) (place : ℕ) (first now old new : Option (List ℕ)) (refused : Bool) (ledger : Ledger) : Type 0 where
+    pub so : IfSome first (λ bytes. holds bytes → IsAt place bytes now old new refused ledger)
 
-  pub start : (first old : Option (List ℕ)) (ledger : Ledger) → IsAfter rules [] ledger → SoFar 0 first first old old false ledger
+  pub start : (holds : List ℕ → Type 0) (first old : Option (List ℕ)) (ledger : Ledger) → IsAfter rules [] ledger
+      → SoFar holds 0 first first old old false ledger
   unfolding history
-  start first old ledger stands = record { so = begin first }
+  start holds first old ledger stands = record { so = begin first }
     where
-      begin : (first : Option (List ℕ)) → IfSome first (λ bytes. IsAt 0 bytes first old old false ledger)
+      begin : (first : Option (List ℕ)) → IfSome first (λ bytes. holds bytes → IsAt 0 bytes first old old false ledger)
       begin None = tt
-      begin (Some bytes) = record {
+      begin (Some bytes) = λ so. record {
         frames = [];
         rest = bytes;
         left = refl;
@@ -121,29 +124,31 @@ module _ (rules : Rules) (lines : Lines) where
   so_by None P Q step so = tt
   so_by (Some bytes) P Q step so = step bytes so
 
-  module _ {place : ℕ} {first now old mid : Option (List ℕ)} {refused : Bool} {ledger : Ledger} (at : SoFar place first now old mid refused ledger)
-      (next new : Option (List ℕ)) where
+  module _ {holds : List ℕ → Type 0} {place : ℕ} {first now old mid : Option (List ℕ)} {refused : Bool} {ledger : Ledger}
+      (at : SoFar holds place first now old mid refused ledger) (next new : Option (List ℕ)) where
     -- the judging ended
     pub so_ends : (after_it : Ledger) (result : Result Bool RunFault)
-        → ((bytes : List ℕ) → IsAt place bytes now old mid refused ledger → Judges rules lines bytes next old new after_it result)
-        → IfSome first (λ bytes. Judges rules lines bytes next old new after_it result)
+        → ((bytes : List ℕ) → holds bytes → IsAt place bytes now old mid refused ledger → Judges rules lines bytes next old new after_it result)
+        → IfSome first (λ bytes. holds bytes → Judges rules lines bytes next old new after_it result)
     so_ends after_it result step =
-        so_by first (λ bytes. IsAt place bytes now old mid refused ledger) (λ bytes. Judges rules lines bytes next old new after_it result) step at.so
+        so_by first (λ bytes. holds bytes → IsAt place bytes now old mid refused ledger)
+        (λ bytes. holds bytes → Judges rules lines bytes next old new after_it result) (λ bytes was so. step bytes so (was so)) at.so
 
     -- or it goes on
     pub so_more : (more : Bool) (after_it : Ledger)
-        → ((bytes : List ℕ) → IsAt place bytes now old mid refused ledger → IsAt (place + 1) bytes next old new more after_it)
-        → SoFar (place + 1) first next old new more after_it
+        → ((bytes : List ℕ) → holds bytes → IsAt place bytes now old mid refused ledger → IsAt (place + 1) bytes next old new more after_it)
+        → SoFar holds (place + 1) first next old new more after_it
     so_more more after_it step = record {
-      so = so_by first (λ bytes. IsAt place bytes now old mid refused ledger) (λ bytes. IsAt (place + 1) bytes next old new more after_it) step at.so;
+      so = so_by first (λ bytes. holds bytes → IsAt place bytes now old mid refused ledger)
+          (λ bytes. holds bytes → IsAt (place + 1) bytes next old new more after_it) (λ bytes was so. step bytes so (was so)) at.so;
     }
 
   -- nothing was taken or written
-  pub nothing_judged : (first old : Option (List ℕ)) (ledger : Ledger)
-      → IfSome first (λ bytes. Judges rules lines bytes first old old ledger (Err Memory))
+  pub nothing_judged : (holds : List ℕ → Type 0) (first old : Option (List ℕ)) (ledger : Ledger)
+      → IfSome first (λ bytes. holds bytes → Judges rules lines bytes first old old ledger (Err Memory))
   unfolding history
-  nothing_judged None old ledger = tt
-  nothing_judged (Some bytes) old ledger = record {
+  nothing_judged holds None old ledger = tt
+  nothing_judged holds (Some bytes) old ledger = λ so. record {
     front = ([], report_in rules lines bytes, refl, Appends-nil old);
     prompt = record {
       frames = [];
@@ -342,6 +347,11 @@ module _ (rules : Rules) (lines : Lines) where
 
       taken : TakesNext place at.rest next
       taken = let read = rw at.left at told in inl (below, inr (Some content.items, read.0, read.2, read.1))
+
+      -- what is so of all frames of the stream is so of it
+      pub is_among : (test : List ℕ → Bool) → list_all test (stream_of bytes).frames ≡ true → test content.items ≡ true
+      is_among test all =
+          among test at.frames content.items others.frames (subst (λ (s : Stream). list_all test s.frames ≡ true) goes_on all)
 
       -- it found no room
       full_here : (one_by_one : RunsOneByOne rules.runs) (after_it : Ledger) → IsFull rules ledger content.items → Ends next after_it (Err Blocks)

@@ -13,9 +13,11 @@ use Rattle.saw_journal.specs.Judgement.{rules_with}
 use Rattle.saw_journal.specs.Ledger.{Ledger, map_under}
 use Rattle.saw_messages.specs.declared.batch.Batch.{Batch as BatchMessage}
 use Rattle.saw_node.specs.Hashes.{first_half}
+use Rattle.saw_publish.specs.Building.{map_before}
 use Rattle.saw_publish.specs.Candidates.{Signing, content_of}
 use Rattle.saw_publish.specs.Drafts.{Draft}
 use Rattle.saw_queries.specs.Queries.{block_with, branch_receipts}
+use Rattle.saw_receipts.specs.Branches.{ids_in}
 use Rattle.saw_receipts.specs.Heads.{head_branch, head_of}
 use Rattle.saw_receipts.specs.Running.{Runs, RunsBy}
 use Rattle.saw_receipts.specs.declared.block.BlockRecord.{BlockRecord}
@@ -29,11 +31,12 @@ use Rattle.saw_top.specs.Making.{Makes, MakesAs, block_in, code_with, text_with}
 use Rattle.saw_top.specs.Outside.{End, SomeRose, WritesFront}
 use Rattle.saw_top.specs.Publishing.{Waiting, is_nothing, parent_at}
 use Rattle.saw_top.specs.Run.{AtEnd, status_by}
-use Rattle.saw_top.specs.World.{Accepts, TellsAll, rules_by}
+use Rattle.saw_top.specs.Telling.{tell_batches}
+use Rattle.saw_top.specs.World.{Accepts, rules_by}
 use Rattle.saw_top.specs.declared.publishing.Made.{Made}
 use Rattle.saw_top.specs.declared.task.Ending.{Ending}
 use Rattle.saw_top.specs.declared.task.Ending.TheVariants.{Batch, Candidate, Head, Entries, Receipts}
-use Rattle.saw_top.proofs.Desks.{one_way}
+use Rattle.saw_top.proofs.Told.{draft_told}
 
 -- ---- the statuses
 
@@ -222,12 +225,13 @@ code_same false false content = refl
 
 module _ (processors : Processors) (accepts : Accepts) (signing : Signing) (batches : List BatchMessage) (ledger : Ledger) where
   -- where the processors tell their actions, batches are run one after another
-  pub made_by : TellsAll processors → (result : Result Made RunFault)
+  pub made_by : tell_batches processors batches ≡ true → (result : Result Made RunFault)
       → (runs : Runs) × RunsBy processors runs × MakesAs signing ledger (draft_in (rules_with first_half accepts runs) ledger batches) result
       → MakesAs signing ledger (draft_in (rules_by accepts processors) ledger batches) result
   made_by told result makes =
-      subst (λ (runs : Runs). MakesAs signing ledger (draft_in (rules_with first_half accepts runs) ledger batches) result)
-      (one_way processors told makes.0 makes.1) makes.2
+      subst (λ (draft : Draft). MakesAs signing ledger draft result)
+      (draft_told processors makes.0 makes.1 accepts (map_before ledger.states (parent_at ledger.blocks)) (ids_in (head_branch ledger.blocks)) batches told)
+      makes.2
 
 module _ (processors : Processors) (accepts : Accepts) (signing : Signing) (batches : List BatchMessage) (ledger : Ledger) (refused : Bool)
     (old new told told_new : End (List ℕ)) (counts news : List ℕ) where
@@ -256,7 +260,7 @@ module _ (processors : Processors) (accepts : Accepts) (signing : Signing) (batc
     peer = λ is. absurd (never_peer result tells.which is);
   }
     where
-      as_end : TellsAll processors → Tells end.output end.noted end.status old new told told_new result
+      as_end : tell_batches processors batches ≡ true → Tells end.output end.noted end.status old new told told_new result
       as_end all =
           let at = made_by processors accepts signing batches ledger all (Ok made) makes in
           let content = content_of first_half signing (parent_at ledger.blocks) draft in
@@ -284,7 +288,7 @@ module _ (processors : Processors) (accepts : Accepts) (signing : Signing) (batc
   kind_of runs.Memory makes = tt
   kind_of e makes = absurd makes.2
 
-  by_unmade : TellsAll processors → (e : RunFault) → Unmade e
+  by_unmade : tell_batches processors batches ≡ true → (e : RunFault) → Unmade e
       → WritesBy (end_at (rules_by accepts processors) (record { signing = signing; batches = batches }) Candidate ledger refused) ledger old old told told (Err e)
   by_unmade all (runs.Collision kept given) makes = record {
     m = (draft_in (rules_by accepts processors) ledger batches).left;

@@ -1,5 +1,5 @@
 -- What a journal with all blocks has at the end, and what was written of it.
-use Rattle.std.specs.Prelude.{◌≡◌, ◌≢◌, ◌⊎◌, ◌≤◌, ℕ, Bool, List, [], Some, None, Result, Ok, Err, IfErr, IfOk, IsErrOf}
+use Rattle.std.specs.Prelude.{◌≡◌, ◌≢◌, ◌⊎◌, ◌≤◌, ℕ, Bool, true, List, [], Some, None, Result, Ok, Err, IfErr, IfOk, IsErrOf}
 use Rattle.std.specs.Io.KnownBytes.{Appends}
 use Rattle.saw_address.specs.Maps.{StateMap}
 use Rattle.saw_context.specs.Outcome.{Processors}
@@ -24,7 +24,8 @@ use Rattle.saw_top.specs.Listing.{batch_status, batch_text, listing, listing_sta
 use Rattle.saw_top.specs.Outside.{End, SomeRose, WritesFront}
 use Rattle.saw_top.specs.Publishing.{Waiting, candidate_status, candidate_text, losses_text, parent_at}
 use Rattle.saw_top.specs.Run.{AtEnd, status_by}
-use Rattle.saw_top.specs.World.{Accepts, TellsAll, rules_by}
+use Rattle.saw_top.specs.Telling.{tell_batches}
+use Rattle.saw_top.specs.World.{Accepts, rules_by}
 use Rattle.saw_top.specs.declared.task.Ending.{Ending}
 use Rattle.saw_top.specs.declared.task.Ending.TheVariants.{Batch, Candidate, Head, Entries, Receipts}
 
@@ -105,7 +106,7 @@ module _ (end : AtEnd) (ledger : Ledger) (old new told_old told_new : End (List 
 module _ (processors : Processors) (accepts : Accepts) (waiting : Waiting) (ending : Ending) (ledger : Ledger) (refused : Bool)
     (old new told_old told_new : End (List ℕ)) (counts new_counts : List ℕ) where
   pub record Finishes (result : Result ℕ RunFault) : Type 0 where
-    pub writes : TellsAll processors
+    pub writes : tell_batches processors waiting.batches ≡ true
         → WritesEnd (end_at (rules_by accepts processors) waiting ending ledger refused) ledger old new told_old told_new result
     pub lines : List ℕ
     pub aside : ending ≢ Candidate → lines ≡ []

@@ -20,10 +20,11 @@ use Rattle.saw_top.specs.Command.{Asked, Generate, Judge, Wish, asked_of}
 use Rattle.saw_top.specs.EndingFaults.{is_told}
 use Rattle.saw_top.specs.StreamJudging.{StopsAtLength, TakesNext}
 use Rattle.saw_top.specs.Limits.{max_frames}
-use Rattle.saw_top.specs.Outside.{End, Outside, Sides, SomeFailed, SomeRose, WritesFront, sides_of}
+use Rattle.saw_top.specs.Outside.{AreLater, End, Outside, Sides, SomeFailed, SomeRose, WritesFront, sides_of}
 use Rattle.saw_top.specs.Run.{Answer, notes_of}
 use Rattle.saw_top.specs.Stream.{Reads}
-use Rattle.saw_top.specs.World.{TellsAll, World}
+use Rattle.saw_top.specs.Telling.{IsTold}
+use Rattle.saw_top.specs.World.{World}
 use Rattle.saw_top.specs.declared.task.Ending.{Ending}
 use Rattle.saw_top.specs.declared.task.Ending.TheVariants.{Batch, Candidate, Head, Entries, Receipts}
 use Rattle.saw_top.specs.declared.task.Lines.TheVariants.{All}
@@ -136,18 +137,23 @@ module _ (processors : Processors) (task : Task) (ready : Result Prepared RunFau
   abbrev pub IsReady : Type 0
   IsReady = (made : Prepared) × (ready ≡ Ok made)
 
-  -- only the shelf was asked
+  -- only the shelf and the processors elsewhere were asked
   abbrev pub IsStill : Type 0
-  IsStill = after ≡ record before { shelf = after.shelf }
+  IsStill = after ≡ record before { shelf = after.shelf; remotes = after.remotes }
+
+  -- only the processors elsewhere were asked
+  abbrev pub IsUntouched : Type 0
+  IsUntouched = after ≡ record before { remotes = after.remotes }
 
   -- words and files have this fault, and nothing was read or written
   abbrev pub ComesEarly : RunFault → Type 0
   ComesEarly fault = (ready ≡ Err fault) × IsStill
 
-  -- what it comes from, also where the input tells nothing: words and files are ready, unless it has their fault
+  -- what it comes from, also where the input tells nothing: words and files are ready, unless it has their fault, or a
+  -- processor elsewhere failed before the files were asked for
   abbrev pub HasCause : Result ℕ RunFault → Type 0
   HasCause (Ok status) = IsReady × IsDone task.ending status
-  HasCause (Err Words) = ComesEarly Words
+  HasCause (Err Words) = (ready ≡ Err Words) × (after ≡ before)
   HasCause (Err FileMissing) = ComesEarly FileMissing
   HasCause (Err FileTooLong) = ComesEarly FileTooLong
   HasCause (Err (BadLine line)) = ComesEarly (BadLine line)
@@ -157,7 +163,7 @@ module _ (processors : Processors) (task : Task) (ready : Result Prepared RunFau
   HasCause (Err Read) = IsReady × Rose before.input.faults after.input.faults
   HasCause (Err Write) =
       IsReady × (Rose before.output.faults after.output.faults ⊎ Rose before.notes.faults after.notes.faults)
-  HasCause (Err Peer) = IsReady × SomeRose before.remotes after.remotes
+  HasCause (Err Peer) = (IsReady ⊎ IsUntouched) × SomeRose before.remotes after.remotes
   HasCause (Err (Collision kept given)) = IsReady × AreAlike kept given
   HasCause (Err fault) = IsReady
 
@@ -169,7 +175,7 @@ module _ (processors : Processors) (task : Task) (ready : Result Prepared RunFau
     pub noted : Appends before.notes.tells after.notes.tells lines
     pub later : before.notes.faults ≤ after.notes.faults
     pub shows : IfSome before.input.tells (λ bytes. let answer = answer_for processors task ready bytes in
-        TellsAll processors → Shows answer bytes after.input.tells (sides_of before after) came)
+        IsTold processors ready bytes → Shows answer bytes after.input.tells (sides_of before after) came)
 
 -- whether a file is named
 abbrev pub names_file : Option Wish → Bool
@@ -183,6 +189,7 @@ pub record CarriesOut (given : Files → World) (wish : Option Wish) (before aft
   pub held : IfSome before.shelf.tells (λ told. files ≡ told)
   pub words : (came ≡ Err Words) ↔ (wish ≡ None)
   pub named : came ≡ Err FileFailed → names_file wish ≡ true
+  pub later : AreLater before.remotes after.remotes
   pub does : Does (given files).processors (task_by wish) (prepared (given files) wish) before after came
 
 -- ---- a new stream
@@ -214,6 +221,19 @@ WhereRead None told holds = IfSome told holds
 WhereRead (Some (Judge wish)) told holds = IfSome told holds
 WhereRead (Some (Generate wish)) told holds = (bytes : List ℕ) → holds bytes
 
+-- What was asked is told where each transaction that it names goes to a processor that tells its actions. A new stream and
+-- words of no form go to nobody.
+abbrev pub IsToldFor : World → Option Asked → List ℕ → Type 0
+IsToldFor world None bytes = Unit {0}
+IsToldFor world (Some (Judge wish)) bytes = IsTold world.processors (prepared world (Some wish)) bytes
+IsToldFor world (Some (Generate wish)) bytes = Unit {0}
+
+-- whether processors elsewhere are asked at all
+abbrev pub asks_elsewhere : Option Asked → Bool
+asks_elsewhere None = false
+asks_elsewhere (Some (Judge wish)) = true
+asks_elsewhere (Some (Generate wish)) = false
+
 -- ---- what is told of it
 
 -- the status where the notes find no memory for the line of a fault
@@ -236,11 +256,11 @@ TellsEnd (Err fault) before after status =
 -- ---- the two promises of a run
 
 module _ (given : Files → World) (words : List (List ℕ)) (before after : Outside) (status : ℕ) where
-  -- output, notes and status are the answer, where memory was not refused, no two different nodes of one hash were met and
-  -- no call failed
+  -- output, notes and status are the answer, where all is told, memory was not refused, no two different nodes of one hash
+  -- were met and no call failed
   abbrev pub Answers : World → List ℕ → Type 0
   Answers world bytes =
-      (status ≡ 7) ⊎ ((status ≡ 9) ⊎ (SomeFailed before after ⊎ Gives (answer_of world words bytes) (sides_of before after) status))
+      IsToldFor world (asked_of words) bytes → (status ≡ 7) ⊎ ((status ≡ 9) ⊎ (SomeFailed before after ⊎ Gives (answer_of world words bytes) (sides_of before after) status))
 
   -- It is so for some files, which are those that are told.
   pub record IsAnswered : Type 0 where
@@ -248,11 +268,9 @@ module _ (given : Files → World) (words : List (List ℕ)) (before after : Out
     pub held : IfSome before.shelf.tells (λ told. files ≡ told)
     pub gives : WhereRead (asked_of words) before.input.tells (Answers (given files))
 
-  -- How it ended: what it came to, what was done up to there, and what the notes tell then. Each processor tells its
-  -- actions, so that what is said of the answer rests on nothing more.
+  -- How it ended: what it came to, what was done up to there, and what the notes tell then.
   pub record HasEnded : Type 0 where
     pub came : Result ℕ RunFault
     pub notes : End (List ℕ)
     pub done : Carries given (asked_of words) before (record after { notes = notes }) came
-    pub tells : (files : Files) → TellsAll (given files).processors
     pub told : TellsEnd came notes after.notes status

@@ -6,14 +6,18 @@ pub mod KeptBlocks
 pub mod Reports
 pub mod Listing
 pub mod Numbers
+pub mod Listening
 pub mod Command
+pub mod Opening
 pub mod Wishes
 pub mod EndingFaults
 pub mod Stream
 pub mod Publishing
 pub mod Run
 pub mod Answers
+pub mod Telling
 pub mod Outside
+pub mod Seats
 pub mod StreamJudging
 pub mod Vouching
 pub mod Headline
@@ -22,4 +26,6 @@ pub mod Making
 pub mod Laws
 pub mod OptionLaws
 pub mod BuiltInLaws
+pub mod TellingLaws
 pub mod CandidateLaws
+pub mod GeneratedLaws

@@ -1,5 +1,5 @@
 -- The ends of the outside at one moment: what each tells, and how often it has failed.
-use Rattle.std.specs.Prelude.{◌≡◌, ◌⊎◌, ℕ, List, [], ◌∷◌, ◌++◌, Option, option_map}
+use Rattle.std.specs.Prelude.{◌≡◌, ◌⊎◌, ◌≤◌, ℕ, List, [], ◌∷◌, ◌++◌, map, Option, option_map}
 use Rattle.std.specs.List.{filter_map}
 use Rattle.std.specs.Io.KnownBytes.{Appends}
 use Rattle.saw_faults.specs.Counts.{Rose}
@@ -46,15 +46,22 @@ module _ {S O N : Type 0} (s : source.Ghosts S) (o : sink.Ghosts O) (n : sink.Gh
   outside_with input output notes held remotes =
       at_ends (source_end s input) (sink_end o output) (sink_end n notes) held remotes
 
-  -- without processors elsewhere
-  abbrev pub outside : {F : Type 0} → shelf.Ghosts F → S → O → N → F → Outside
-  outside f input output notes held = outside_with input output notes (shelf_end f held) []
+  -- with these processors elsewhere
+  abbrev pub outside : {F R : Type 0} → shelf.Ghosts F → (R → ℕ) → S → O → N → F → List R → Outside
+  outside f faults input output notes held remotes = outside_with input output notes (shelf_end f held) (map faults remotes)
 
 -- the count of one of them rose
 abbrev pub SomeRose : List ℕ → List ℕ → Type 0
 SomeRose [] news = ⊥
 SomeRose (old ∷ olds) [] = ⊥
 SomeRose (old ∷ olds) (new ∷ news) = Rose old new ⊎ SomeRose olds news
+
+-- there are as many, and the count of none fell
+abbrev pub AreLater : List ℕ → List ℕ → Type 0
+AreLater [] [] = Unit {0}
+AreLater [] (new ∷ news) = ⊥
+AreLater (old ∷ olds) [] = ⊥
+AreLater (old ∷ olds) (new ∷ news) = (old ≤ new) × AreLater olds news
 
 -- a call failed
 abbrev pub SomeFailed : Outside → Outside → Type 0

@@ -1,5 +1,5 @@
 -- What was written when the judging of a stream ended.
-use Rattle.std.specs.Prelude.{◌≡◌, ◌⊎◌, ◌≤◌, ◌<◌, ℕ, Bool, List, [], ◌∷◌, ◌++◌, length, slice_get, Option, Some, None, Result, Ok, Err, IfErr, IfSome, IsErrOf}
+use Rattle.std.specs.Prelude.{◌≡◌, ◌⊎◌, ◌≤◌, ◌<◌, ℕ, Bool, List, [], ◌∷◌, ◌++◌, length, slice_get, Option, Some, None, Result, Ok, Err, IfErr, IfSome, IsErrOf, true}
 use Rattle.std.specs.Io.KnownBytes.{Appends, Consumes, IsAtEnd}
 use Rattle.saw_address.specs.Maps.{StateMap}
 use Rattle.saw_io.specs.Frame.{frame_at, IsPart}
@@ -20,7 +20,8 @@ use Rattle.saw_context.specs.Outcome.{Processors}
 use Rattle.saw_faults.specs.Counts.{Rose}
 use Rattle.saw_top.specs.Clashing.{ClashIn, TellsAlike}
 use Rattle.saw_top.specs.EndingFaults.{IsOfStream}
-use Rattle.saw_top.specs.World.{Accepts, TellsAll, rules_by}
+use Rattle.saw_top.specs.Telling.{tell_stream}
+use Rattle.saw_top.specs.World.{Accepts, rules_by}
 
 -- a part of a frame was taken, a length, or a whole frame or the end
 abbrev pub TakesFrame : List ℕ → Option (List ℕ) → Type 0
@@ -117,7 +118,7 @@ module _ (rules : Rules) (lines : Lines) where
 -- what was judged of a stream, with its lines on the output or on the notes
 module _ (processors : Processors) (accepts : Accepts) (lines : Lines) (before after : Outside) where
   pub record JudgesFor (ledger : Ledger) (result : Result Bool RunFault) : Type 0 where
-    pub judges : TellsAll processors → IfSome before.input.tells (λ bytes.
+    pub judges : IfSome before.input.tells (λ bytes. tell_stream processors bytes ≡ true →
         Judges (rules_by accepts processors) lines bytes after.input.tells (lines_side lines before).tells
         (lines_side lines after).tells ledger result)
     pub aside : other_side lines after ≡ other_side lines before

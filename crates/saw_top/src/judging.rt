@@ -10,7 +10,8 @@ ghost use Rattle.saw_receipts.specs.Verdicts.{is_accepted};
 ghost use Rattle.saw_station.specs.Serving.{processors_at};
 ghost use Rattle.saw_top.specs.Clashing.{ClashesBy, LeavesUnjudged};
 ghost use Rattle.saw_top.specs.Reports.{line_of, said_of};
-ghost use Rattle.saw_top.specs.World.{TellsAll, rules_by};
+ghost use Rattle.saw_top.specs.Telling.{tell_block};
+ghost use Rattle.saw_top.specs.World.{rules_by};
 
 use crate::task::Lines;
 use saw_io::{Sink, write_all};
@@ -36,13 +37,13 @@ pub(crate) fn judge<T: Threads + Wait + Sync, R: Station, V: Verifier>(
     requires some { 0 < length desks.old }
     requires alike { HaveSameOffers desks.old }
     ensures says { let processors = processors_at R.next R.tells (offers_at desks.old) in
-        TellsAll processors → IfOk result (λ verdict.
+        tell_block processors content.now ≡ true → IfOk result (λ verdict.
         Says (rules_by (V.accepts verifier.now) processors) journal.old content.now verdict journal.new) }
     ensures full { let processors = processors_at R.next R.tells (offers_at desks.old) in
-        TellsAll processors → IsErrOf result RunFault.Blocks
+        tell_block processors content.now ≡ true → IsErrOf result RunFault.Blocks
         → IsFull (rules_by (V.accepts verifier.now) processors) journal.old content.now }
     ensures clash { let processors = processors_at R.next R.tells (offers_at desks.old) in
-        TellsAll processors → IfErr result
+        tell_block processors content.now ≡ true → IfErr result
         (ClashesBy (rules_by (V.accepts verifier.now) processors) journal.old content.now) }
     ensures blocks { IfOk result (λ verdict.
         is_accepted verdict ≡ true → 0 < length journal.new.blocks) }

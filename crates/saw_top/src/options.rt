@@ -2,26 +2,33 @@
 
 ghost use Rattle.std.specs.Prelude.{◌≡◌, ◌≤◌, IfOk, IfSome, IsSome, OnErr, is_some, option_map};
 ghost use Rattle.std.specs.Option.{option_and_then};
-ghost use Rattle.saw_words.specs.Given.{options_in};
+ghost use Rattle.saw_words.specs.Given.{options_in, value_of};
 ghost use Rattle.saw_words.specs.Options.{told_by};
 ghost use Rattle.saw_top.specs.Command.{
   apply_by,
   apply_with,
+  common_by,
+  common_in,
   generate_by,
   generate_with,
+  listen,
   publish_by,
   publish_with,
   receipts_by,
   receipts_with,
+  remotes,
   state_by,
   state_with,
   status_by,
   status_with,
 };
+ghost use Rattle.saw_top.specs.Listening.{listening_in};
+ghost use Rattle.saw_top.specs.Opening.{connect};
 ghost use Rattle.saw_top.specs.Numbers.{conflicts_in, required, workers_in};
 ghost use Rattle.saw_top.specs.Wishes.{wish_in};
 
 use crate::command::Job;
+use crate::listening::Listening;
 use crate::task::{Ending, Lines, Task};
 use saw_address::{Prefix, is_hex_text};
 use saw_generate::GenerateWish;
@@ -62,38 +69,102 @@ fn conflicts_in(text: Option<&str>) -> Option<u64>
     }
 }
 
+// Where processors elsewhere connect, and how many do: both are given, or neither.
+fn listening_in(listen: Option<&str>, remotes: Option<&str>) -> Option<Option<Listening>>
+    ensures value { result ≡ listening_in (option_map (λ text. text.now) listen.entry) (option_map (λ text. text.now) remotes.entry) }
+    ensures port { IfSome result (λ at. IfSome at (λ at. at.port ≤ 65535)) }
+    ensures few { IfSome result (λ at. IfSome at (λ at. at.remotes ≤ 64)) }
+{
+    match (listen, remotes) {
+        (None, None) => Some(None),
+        (Some(port), Some(count)) => {
+            let port = number_in(1, 65_535, port)?;
+            let remotes = number_in(1, 64, count)?;
+            Some(Some(Listening { port, remotes }))
+        }
+        _ => None,
+    }
+}
+
+// How many workers there are, where all options that commands on blocks have in common are of a form.
+fn common_in(workers: Option<&str>, listen: Option<&str>, remotes: Option<&str>) -> Option<u64>
+    ensures { result ≡ common_in (option_map (λ text. text.now) workers.entry) (option_map (λ text. text.now) listen.entry)
+        (option_map (λ text. text.now) remotes.entry) }
+{
+    match listening_in(listen, remotes) {
+        Some(_) => workers_in(workers),
+        None => None,
+    }
+}
+
 // ---- the form of options
 
-// Those of `apply` and of `receipts`.
-fn is_plain(words: &[String]) -> bool
+// The same of words.
+fn common_of(words: &[String]) -> Option<u64>
+    ensures { IfSome (options_in words.now) (λ given. result ≡ common_by (λ name. value_of name given)) }
+{
+    common_in(
+        value_of(words, "--workers"),
+        value_of(words, "--listen"),
+        value_of(words, "--remotes"),
+    )
+}
+
+/// Where words have processors elsewhere connect.
+pub(crate) fn listening_of(words: &[String]) -> Option<Option<Listening>>
+    ensures value { IfSome (options_in words.now) (λ given. result ≡ listening_in (value_of listen given) (value_of remotes given)) }
+    ensures port { IfSome result (λ at. IfSome at (λ at. at.port ≤ 65535)) }
+    ensures few { IfSome result (λ at. IfSome at (λ at. at.remotes ≤ 64)) }
+{
+    listening_in(value_of(words, "--listen"), value_of(words, "--remotes"))
+}
+
+/// The port to which words have a processor connect.
+pub(crate) fn port_of(words: &[String]) -> Option<u64>
+    ensures value { IfSome (options_in words.now) (λ given. result ≡ required 1 65535 (value_of connect given)) }
+    ensures port { IfSome result (λ n. n ≤ 65535) }
+{
+    required(1, 65_535, value_of(words, "--connect"))
+}
+
+/// Whether words are options of `apply`, and of `receipts`.
+pub(crate) fn is_plain(words: &[String]) -> bool
     ensures apply { result ≡ is_some (option_and_then apply_with (options_in words.now)) }
     ensures receipts { result ≡ is_some (option_and_then receipts_with (options_in words.now)) }
 {
-    if !are_of(words, &["--workers", "--attest"]) {
+    if !are_of(words, &["--workers", "--attest", "--listen", "--remotes"]) {
         return false;
     }
-    workers_in(value_of(words, "--workers")).is_some()
+    common_of(words).is_some()
 }
 
-fn is_state(words: &[String]) -> bool
+/// The same of `state`.
+pub(crate) fn is_state(words: &[String]) -> bool
     ensures { result ≡ is_some (option_and_then state_with (options_in words.now)) }
 {
-    if !are_of(words, &["--workers", "--attest", "--prefix"]) {
+    if !are_of(
+        words,
+        &["--workers", "--attest", "--listen", "--remotes", "--prefix"],
+    ) {
         return false;
     }
-    if workers_in(value_of(words, "--workers")).is_none() {
+    if common_of(words).is_none() {
         return false;
     }
     Prefix::parse(value_of(words, "--prefix").unwrap_or("")).is_some()
 }
 
-fn is_status(words: &[String]) -> bool
+/// The same of `status`.
+pub(crate) fn is_status(words: &[String]) -> bool
     ensures { result ≡ is_some (option_and_then status_with (options_in words.now)) }
 {
-    if !are_of(words, &["--workers", "--attest", "--batch"]) {
+    if !are_of(
+        words,
+        &["--workers", "--attest", "--listen", "--remotes", "--batch"],
+    ) {
         return false;
     }
-    if workers_in(value_of(words, "--workers")).is_none() {
+    if common_of(words).is_none() {
         return false;
     }
     match value_of(words, "--batch") {
@@ -102,13 +173,23 @@ fn is_status(words: &[String]) -> bool
     }
 }
 
-fn is_publish(words: &[String]) -> bool
+/// The same of `publish`.
+pub(crate) fn is_publish(words: &[String]) -> bool
     ensures { result ≡ is_some (option_and_then publish_with (options_in words.now)) }
 {
-    if !are_of(words, &["--workers", "--attest", "--batches"]) {
+    if !are_of(
+        words,
+        &[
+            "--workers",
+            "--attest",
+            "--listen",
+            "--remotes",
+            "--batches",
+        ],
+    ) {
         return false;
     }
-    if workers_in(value_of(words, "--workers")).is_none() {
+    if common_of(words).is_none() {
         return false;
     }
     value_of(words, "--batches").is_some()
@@ -134,10 +215,20 @@ fn is_generate(words: &[String]) -> bool
 
 // ---- what their values ask for
 
+fn common_by(values: &Values<'_>) -> Option<u64>
+    ensures { result ≡ common_by (told_by values.now) }
+{
+    common_in(
+        values.of("--workers"),
+        values.of("--listen"),
+        values.of("--remotes"),
+    )
+}
+
 fn apply_by<'a>(values: &Values<'a>) -> Option<Job<'a>>
     ensures { option_map wish_in result ≡ apply_by (told_by values.now) }
 {
-    let workers = workers_in(values.of("--workers"))?;
+    let workers = common_by(values)?;
     let task = Task {
         lines: Lines::All,
         ending: Ending::Head,
@@ -153,7 +244,7 @@ fn apply_by<'a>(values: &Values<'a>) -> Option<Job<'a>>
 fn state_by<'a>(values: &Values<'a>) -> Option<Job<'a>>
     ensures { option_map wish_in result ≡ state_by (told_by values.now) }
 {
-    let workers = workers_in(values.of("--workers"))?;
+    let workers = common_by(values)?;
     let prefix = Prefix::parse(values.of("--prefix").unwrap_or(""))?;
     let task = Task {
         lines: Lines::Refused,
@@ -170,7 +261,7 @@ fn state_by<'a>(values: &Values<'a>) -> Option<Job<'a>>
 fn receipts_by<'a>(values: &Values<'a>) -> Option<Job<'a>>
     ensures { option_map wish_in result ≡ receipts_by (told_by values.now) }
 {
-    let workers = workers_in(values.of("--workers"))?;
+    let workers = common_by(values)?;
     let task = Task {
         lines: Lines::Refused,
         ending: Ending::Receipts,
@@ -186,7 +277,7 @@ fn receipts_by<'a>(values: &Values<'a>) -> Option<Job<'a>>
 fn status_by<'a>(alloc: Global, values: &Values<'a>) -> Result<Option<Job<'a>>, AllocError>
     ensures { IfOk result (λ job. option_map wish_in job ≡ status_by (told_by values.now)) }
 {
-    let Some(workers) = workers_in(values.of("--workers")) else {
+    let Some(workers) = common_by(values) else {
         return Ok(None);
     };
     let Some(batch) = values.of("--batch") else {
@@ -211,7 +302,7 @@ fn status_by<'a>(alloc: Global, values: &Values<'a>) -> Result<Option<Job<'a>>, 
 fn publish_by<'a>(values: &Values<'a>) -> Option<Job<'a>>
     ensures { option_map wish_in result ≡ publish_by (told_by values.now) }
 {
-    let workers = workers_in(values.of("--workers"))?;
+    let workers = common_by(values)?;
     let batches = values.of("--batches")?;
     let task = Task {
         lines: Lines::Refused,
@@ -254,7 +345,11 @@ pub(crate) fn apply_with<'a>(
     if !is_plain(words) {
         return Ok(None);
     }
-    let values = read_options(alloc, &["--workers", "--attest"], words)?;
+    let values = read_options(
+        alloc,
+        &["--workers", "--attest", "--listen", "--remotes"],
+        words,
+    )?;
     Ok(apply_by(&values))
 }
 
@@ -269,7 +364,11 @@ pub(crate) fn state_with<'a>(
     if !is_state(words) {
         return Ok(None);
     }
-    let values = read_options(alloc, &["--workers", "--attest", "--prefix"], words)?;
+    let values = read_options(
+        alloc,
+        &["--workers", "--attest", "--listen", "--remotes", "--prefix"],
+        words,
+    )?;
     Ok(state_by(&values))
 }
 
@@ -284,7 +383,11 @@ pub(crate) fn receipts_with<'a>(
     if !is_plain(words) {
         return Ok(None);
     }
-    let values = read_options(alloc, &["--workers", "--attest"], words)?;
+    let values = read_options(
+        alloc,
+        &["--workers", "--attest", "--listen", "--remotes"],
+        words,
+    )?;
     Ok(receipts_by(&values))
 }
 
@@ -299,7 +402,11 @@ pub(crate) fn status_with<'a>(
     if !is_status(words) {
         return Ok(None);
     }
-    let values = read_options(alloc, &["--workers", "--attest", "--batch"], words)?;
+    let values = read_options(
+        alloc,
+        &["--workers", "--attest", "--listen", "--remotes", "--batch"],
+        words,
+    )?;
     status_by(alloc, &values)
 }
 
@@ -314,7 +421,17 @@ pub(crate) fn publish_with<'a>(
     if !is_publish(words) {
         return Ok(None);
     }
-    let values = read_options(alloc, &["--workers", "--attest", "--batches"], words)?;
+    let values = read_options(
+        alloc,
+        &[
+            "--workers",
+            "--attest",
+            "--listen",
+            "--remotes",
+            "--batches",
+        ],
+        words,
+    )?;
     Ok(publish_by(&values))
 }
 

@@ -1,6 +1,6 @@
 //! Reads a block stream to its end, and judges each block before it reads the next.
 
-ghost use Rattle.std.specs.Prelude.{◌≡◌, ◌≤◌, ◌<◌, ◌==◌, [], List, ℕ, length, Err, IfErr, IfOk, IfSome, OnErr, IsErrOf};
+ghost use Rattle.std.specs.Prelude.{◌≡◌, ◌≤◌, ◌<◌, ◌==◌, [], List, ℕ, length, Err, IfErr, IfOk, IfSome, OnErr, IsErrOf, true};
 ghost use Rattle.std.specs.Io.KnownBytes.{Appends, Consumes};
 ghost use Rattle.std.specs.FinMap as finite;
 ghost use Rattle.saw_address.specs.Maps.{no_entries};
@@ -14,7 +14,8 @@ ghost use Rattle.saw_top.specs.EndingFaults.{IsOfStream};
 ghost use Rattle.saw_top.specs.StreamJudging.{Judges};
 ghost use Rattle.saw_top.specs.Limits.{max_blocks};
 ghost use Rattle.saw_top.specs.Outside.{SomeRose, counts_of};
-ghost use Rattle.saw_top.specs.World.{TellsAll, rules_by};
+ghost use Rattle.saw_top.specs.Telling.{tell_stream};
+ghost use Rattle.saw_top.specs.World.{rules_by};
 
 use crate::judging::{judge, tell_block};
 use crate::task::Lines;
@@ -75,7 +76,7 @@ pub(crate) fn judge_stream<T: Threads + Wait + Sync, S: Source, O: Sink, V: Veri
     requires alike { HaveSameOffers desks.old }
     ensures judges { let processors = processors_at R.next R.tells (offers_at desks.old) in
         let rules = rules_by (V.accepts verifier.now) processors in
-        TellsAll processors → IfSome (S.unread input.old) (λ bytes.
+        IfSome (S.unread input.old) (λ bytes. tell_stream processors bytes ≡ true →
         Judges rules lines bytes (S.unread input.new) (O.written output.old) (O.written output.new)
         journal.new result) }
     ensures wrote { (written : List ℕ) × Appends (O.written output.old) (O.written output.new) written }

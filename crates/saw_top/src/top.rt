@@ -1,11 +1,12 @@
 //! The top call.
 
-ghost use Rattle.std.specs.Prelude.{◌≤◌, [], Some, map, string_bytes};
+ghost use Rattle.std.specs.Prelude.{◌≡◌, ◌≤◌, true, false, Some, All, map, string_bytes};
 ghost use Rattle.saw_generate.specs.Streams.{stream};
 ghost use Rattle.saw_publish.specs.Candidates.{Signing};
-ghost use Rattle.saw_station.specs.Serving.{alone};
+ghost use Rattle.saw_station.specs.CommonOffers.{common};
+ghost use Rattle.saw_station.specs.Serving.{processors_at};
 ghost use Rattle.saw_top.specs.Command.{asked_of};
-ghost use Rattle.saw_top.specs.Headline.{Carries, CarriesOut, HasEnded, IsAnswered, WritesBy};
+ghost use Rattle.saw_top.specs.Headline.{Carries, CarriesOut, HasEnded, IsAnswered, WritesBy, asks_elsewhere};
 ghost use Rattle.saw_top.specs.Outside.{outside, sink_end};
 ghost use Rattle.saw_top.specs.Wishes.{wish_in};
 ghost use Rattle.saw_top.specs.World.{world_with};
@@ -14,18 +15,28 @@ use crate::Status;
 use crate::command::{Command, Job, read_command};
 use crate::notes::tell;
 use crate::prepare::prepare;
+use crate::seats::{begin_each, seat, unseat};
 use crate::tasks::do_task;
 use saw_generate::{GenerateFault, GenerateWish, generate};
 use saw_io::{Shelf, Sink, Source};
 use saw_report::RunFault;
-use saw_station::lone_desks;
+use saw_station::{Offer, Station, common_offers};
 use saw_verify::{Signer, Verifier};
 use std::alloc::Global;
 use std::sync::Wait;
 use std::thread::Threads;
 
-// Does a job with the blocks of the input.
-fn judge<T: Threads + Wait + Sync, S: Source, O: Sink, N: Sink, F: Shelf, V: Verifier, G: Signer>(
+// Does a job with the blocks of the input, with processors elsewhere that have begun and have these offers in common.
+fn judge_begun<
+    T: Threads + Wait + Sync,
+    S: Source,
+    O: Sink,
+    N: Sink,
+    F: Shelf,
+    V: Verifier,
+    G: Signer,
+    R: Station,
+>(
     rt: &T,
     alloc: Global,
     job: Job<'_>,
@@ -35,12 +46,17 @@ fn judge<T: Threads + Wait + Sync, S: Source, O: Sink, N: Sink, F: Shelf, V: Ver
     shelf: &mut F,
     verifier: &V,
     signer: &G,
+    remotes: &mut Vec<R>,
+    offers: Vec<Offer>,
 ) -> Result<Status, RunFault>
+    requires begun { All (λ remote. R.begun remote ≡ true) remotes.old.items }
+    requires offers { offers.items ≡ common (map R.offered remotes.old.items) }
     ensures carries { let signing : Signing = record { key = G.key_text signer.now; signature = G.signature signer.now } in
-        let world = outside S.Source O.Sink N.Sink F.Shelf in
-        CarriesOut (world_with (V.accepts verifier.now) signing (alone [])) (Some (wish_in job.entry))
-        (world input.old output.old notes.old shelf.old)
-        (world input.new output.new notes.new shelf.new) result }
+        let world = outside S.Source O.Sink N.Sink F.Shelf R.faults in
+        let processors = processors_at R.next R.tells (common (map R.offered remotes.new.items)) in
+        CarriesOut (world_with (V.accepts verifier.now) signing processors) (Some (wish_in job.entry))
+        (world input.old output.old notes.old shelf.old remotes.old.items)
+        (world input.new output.new notes.new shelf.new remotes.new.items) result }
 {
     let Job {
         workers,
@@ -49,8 +65,8 @@ fn judge<T: Threads + Wait + Sync, S: Source, O: Sink, N: Sink, F: Shelf, V: Ver
         batches,
     } = job;
     let ready = prepare(alloc, attest, batches, shelf, verifier)?;
-    let mut desks = lone_desks(alloc, workers)?;
-    do_task(
+    let mut desks = seat(alloc, workers, remotes, offers)?;
+    let came = do_task(
         rt,
         alloc,
         &task,
@@ -61,6 +77,45 @@ fn judge<T: Threads + Wait + Sync, S: Source, O: Sink, N: Sink, F: Shelf, V: Ver
         signer,
         ready.batches.as_slice(),
         &mut desks,
+    );
+    unseat(desks, remotes);
+    came
+}
+
+// Does a job with the blocks of the input.
+fn judge<
+    T: Threads + Wait + Sync,
+    S: Source,
+    O: Sink,
+    N: Sink,
+    F: Shelf,
+    V: Verifier,
+    G: Signer,
+    R: Station,
+>(
+    rt: &T,
+    alloc: Global,
+    job: Job<'_>,
+    input: &mut S,
+    output: &mut O,
+    notes: &mut N,
+    shelf: &mut F,
+    verifier: &V,
+    signer: &G,
+    remotes: &mut Vec<R>,
+) -> Result<Status, RunFault>
+    requires unbegun { All (λ remote. R.begun remote ≡ false) remotes.old.items }
+    ensures carries { let signing : Signing = record { key = G.key_text signer.now; signature = G.signature signer.now } in
+        let world = outside S.Source O.Sink N.Sink F.Shelf R.faults in
+        let processors = processors_at R.next R.tells (common (map R.offered remotes.new.items)) in
+        CarriesOut (world_with (V.accepts verifier.now) signing processors) (Some (wish_in job.entry))
+        (world input.old output.old notes.old shelf.old remotes.old.items)
+        (world input.new output.new notes.new shelf.new remotes.new.items) result }
+{
+    begin_each(alloc, remotes)?;
+    let offers = common_offers(alloc, remotes)?;
+    judge_begun(
+        rt, alloc, job, input, output, notes, shelf, verifier, signer, remotes, offers,
     )
 }
 
@@ -93,6 +148,7 @@ fn carry_out<
     F: Shelf,
     V: Verifier,
     G: Signer,
+    R: Station,
 >(
     rt: &T,
     alloc: Global,
@@ -103,18 +159,23 @@ fn carry_out<
     shelf: &mut F,
     verifier: &V,
     signer: &G,
+    remotes: &mut Vec<R>,
 ) -> Result<Status, RunFault>
+    requires unbegun { All (λ remote. R.begun remote ≡ false) remotes.old.items }
     ensures carries { let signing : Signing = record { key = G.key_text signer.now; signature = G.signature signer.now } in
-        let world = outside S.Source O.Sink N.Sink F.Shelf in
-        Carries (world_with (V.accepts verifier.now) signing (alone [])) (asked_of (map string_bytes words.now))
-        (world input.old output.old notes.old shelf.old)
-        (world input.new output.new notes.new shelf.new) result }
+        let world = outside S.Source O.Sink N.Sink F.Shelf R.faults in
+        let processors = processors_at R.next R.tells (common (map R.offered remotes.new.items)) in
+        Carries (world_with (V.accepts verifier.now) signing processors) (asked_of (map string_bytes words.now))
+        (world input.old output.old notes.old shelf.old remotes.old.items)
+        (world input.new output.new notes.new shelf.new remotes.new.items) result }
+    ensures unasked { asks_elsewhere (asked_of (map string_bytes words.now)) ≡ false
+        → remotes.new.items ≡ remotes.old.items }
 {
     let command = read_command(alloc, words)?;
     match command {
         None => Err(RunFault::Words),
         Some(Command::Judge(job)) => judge(
-            rt, alloc, job, input, output, notes, shelf, verifier, signer,
+            rt, alloc, job, input, output, notes, shelf, verifier, signer, remotes,
         ),
         Some(Command::Generate(wish)) => write_stream(rt, alloc, &wish, output, signer),
     }
@@ -136,7 +197,20 @@ fn carry_out<
 /// batch is applied; 2 for words of no form; 3 for a stream that is none; 4 where reading failed, 5 where writing failed, 7
 /// where memory was refused; 8 where there is nothing to list, or no block that holds the batch; 9 where two different nodes
 /// of one hash were met; 10 where no more blocks can be accepted; 11 for a list that is missing, too long, not read or bad.
-pub fn run<T: Threads + Wait + Sync, S: Source, O: Sink, N: Sink, F: Shelf, V: Verifier, G: Signer>(
+///
+/// Each processor elsewhere in `remotes` begins before any file is fetched, but for `generate` and for words of no form. As
+/// many of them as there are workers are used, or all, each at a desk of its own, and behind the run all are in their places
+/// again. What they all offer is theirs, but for the built-in families. The status is 6 where one of them failed.
+pub fn run<
+    T: Threads + Wait + Sync,
+    S: Source,
+    O: Sink,
+    N: Sink,
+    F: Shelf,
+    V: Verifier,
+    G: Signer,
+    R: Station,
+>(
     rt: &T,
     alloc: Global,
     words: &[String],
@@ -146,25 +220,32 @@ pub fn run<T: Threads + Wait + Sync, S: Source, O: Sink, N: Sink, F: Shelf, V: V
     shelf: &mut F,
     verifier: &V,
     signer: &G,
+    remotes: &mut Vec<R>,
 ) -> Status
+    requires unbegun { All (λ remote. R.begun remote ≡ false) remotes.old.items }
     // Unless memory was refused (7), two different nodes of one hash were met (9) or a call failed, output,
-    // notes and status are the answer, where input and output tell their bytes, and verifier and signer are
-    // functions, as their traits say. It rests on nothing more. Files that are not told are some files. A new stream
-    // is the answer whatever the input tells.
+    // notes and status are the answer, where input and output tell their bytes, verifier and signer are functions, as
+    // their traits say, and each transaction goes to a processor that tells its actions. It rests on nothing more. Files
+    // that are not told are some files. A new stream is the answer whatever the input tells.
     ensures answered { let signing : Signing = record { key = G.key_text signer.now; signature = G.signature signer.now } in
-        let world = outside S.Source O.Sink N.Sink F.Shelf in
-        IsAnswered (world_with (V.accepts verifier.now) signing (alone [])) (map string_bytes words.now)
-        (world input.old output.old notes.old shelf.old)
-        (world input.new output.new notes.new shelf.new) result }
+        let world = outside S.Source O.Sink N.Sink F.Shelf R.faults in
+        let processors = processors_at R.next R.tells (common (map R.offered remotes.new.items)) in
+        IsAnswered (world_with (V.accepts verifier.now) signing processors) (map string_bytes words.now)
+        (world input.old output.old notes.old shelf.old remotes.old.items)
+        (world input.new output.new notes.new shelf.new remotes.new.items) result }
     // However it ended: a front of the answer, each line in time, and on the notes why.
     ensures ended { let signing : Signing = record { key = G.key_text signer.now; signature = G.signature signer.now } in
-        let world = outside S.Source O.Sink N.Sink F.Shelf in
-        HasEnded (world_with (V.accepts verifier.now) signing (alone [])) (map string_bytes words.now)
-        (world input.old output.old notes.old shelf.old)
-        (world input.new output.new notes.new shelf.new) result }
+        let world = outside S.Source O.Sink N.Sink F.Shelf R.faults in
+        let processors = processors_at R.next R.tells (common (map R.offered remotes.new.items)) in
+        HasEnded (world_with (V.accepts verifier.now) signing processors) (map string_bytes words.now)
+        (world input.old output.old notes.old shelf.old remotes.old.items)
+        (world input.new output.new notes.new shelf.new remotes.new.items) result }
+    // Words of no form and a new stream ask nothing of processors elsewhere.
+    ensures unasked { asks_elsewhere (asked_of (map string_bytes words.now)) ≡ false
+        → remotes.new.items ≡ remotes.old.items }
 {
     match carry_out(
-        rt, alloc, words, input, output, notes, shelf, verifier, signer,
+        rt, alloc, words, input, output, notes, shelf, verifier, signer, remotes,
     ) {
         Ok(status) => status,
         Err(fault) => tell(alloc, notes, &fault),

@@ -42,7 +42,7 @@ const COMMANDS: [(&str, &str); 6] = [
 ];
 
 /// Each option, the name of its value, and what it says.
-const OPTIONS: [(&str, &str, &str); 8] = [
+const OPTIONS: [(&str, &str, &str); 10] = [
     (
         "workers",
         "N",
@@ -53,6 +53,12 @@ const OPTIONS: [(&str, &str, &str); 8] = [
         "NAME",
         "A file of the signatures that are accepted",
     ),
+    (
+        "listen",
+        "PORT",
+        "A port of 127.0.0.1 to which processors connect; with --remotes",
+    ),
+    ("remotes", "N", "How many of them: 1 to 64"),
     ("prefix", "P", "Only entries whose address begins with this"),
     ("batch", "ID", "A batch, by its header signature"),
     (

@@ -2,15 +2,23 @@
 #![tactic(auto)]
 
 mod help;
+mod links;
 
+ghost use Rattle.std.specs.Prelude.{◌≡◌, false, All};
+
+use crate::links::accept_links;
 use saw_io::{DirShelf, StdSink, StdSource};
-use saw_top::run;
+use saw_station::{NoStation, Station};
+use saw_top::{Wish, listen_wish, run};
 use saw_verify::{DevSigner, DevVerifier};
 use saw_wire::Text;
 use std::alloc::Global;
 use std::io::ErrorKind;
 use std::process::ExitCode;
 use std::{env, io};
+
+/// The status of a processor elsewhere that failed, and of a port that could not be opened.
+const PEER: u8 = 6;
 
 /// The status of want of memory.
 const MEMORY: u8 = 7;
@@ -28,6 +36,42 @@ fn signer(alloc: Global) -> Option<DevSigner> {
     DevSigner::new(key)
 }
 
+// Answers the words, with these processors elsewhere.
+fn answer<R: Station>(rt: &HostRuntime, words: &[String], remotes: &mut Vec<R>) -> ExitCode
+    requires { All (λ remote. R.begun remote ≡ false) remotes.old.items }
+{
+    let alloc = rt.alloc();
+    let Some(signer) = signer(alloc) else {
+        return ExitCode::from(MEMORY);
+    };
+    let mut input = StdSource::new(rt.reader());
+    let mut output = StdSink::new(io::writer(rt));
+    let mut notes = StdSink::new(rt.stderr());
+    let mut shelf = DirShelf::new(rt);
+    let status = run(
+        rt,
+        alloc,
+        words,
+        &mut input,
+        &mut output,
+        &mut notes,
+        &mut shelf,
+        &DevVerifier,
+        &signer,
+        remotes,
+    );
+    ExitCode::from(status.code())
+}
+
+// Answers the words, with so many processors that connect to a port.
+fn answer_with_links(rt: &HostRuntime, words: &[String], port: u16, count: u32) -> ExitCode {
+    match accept_links(rt, rt.alloc(), port, count) {
+        Ok(mut remotes) => answer(rt, words, &mut remotes),
+        Err(e) if e.kind() == ErrorKind::OutOfMemory => ExitCode::from(MEMORY),
+        Err(_) => ExitCode::from(PEER),
+    }
+}
+
 fn main(rt: HostRuntime) -> ExitCode {
     let alloc = rt.alloc();
     let words = match words(&rt, alloc) {
@@ -39,23 +83,12 @@ fn main(rt: HostRuntime) -> ExitCode {
     if help::asks_about(&words) {
         return help::tell(&rt, &words);
     }
-    let Some(signer) = signer(alloc) else {
-        return ExitCode::from(MEMORY);
-    };
-    let mut input = StdSource::new(rt.reader());
-    let mut output = StdSink::new(io::writer(&rt));
-    let mut notes = StdSink::new(rt.stderr());
-    let mut shelf = DirShelf::new(&rt);
-    let status = run(
-        &rt,
-        alloc,
-        &words,
-        &mut input,
-        &mut output,
-        &mut notes,
-        &mut shelf,
-        &DevVerifier,
-        &signer,
-    );
-    ExitCode::from(status.code())
+    match listen_wish(&words) {
+        Wish::Listen { port, remotes } => answer_with_links(&rt, &words, port, remotes),
+        // A processor of this program's own does not connect yet, so `run` refuses its words.
+        Wish::Plain | Wish::Connect { port: _ } => {
+            let mut remotes: Vec<NoStation> = Vec::new(alloc);
+            answer(&rt, &words, &mut remotes)
+        }
+    }
 }

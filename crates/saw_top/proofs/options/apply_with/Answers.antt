@@ -1,15 +1,15 @@
 use Rattle.std.proofs.Common.{[], ◌∷◌, sym, ◌∙◌}
 use Rattle.saw_words.specs.Given.{options_in}
 use Rattle.saw_words.specs.Options.{told_by}
-use Rattle.saw_top.specs.Command.{apply_by, attest, workers}
+use Rattle.saw_top.specs.Command.{apply_by, attest, listen, remotes, workers}
 use Rattle.saw_top.proofs.OptionWords.{fine_of, made_by}
 use Rattle.saw_top.proofs.options.apply_with.Goals as goal
 
 pub read_options-requires-clause-fine : goal.read_options-requires-clause-fine
 read_options-requires-clause-fine c =
-    fine_of (workers ∷ attest ∷ []) apply_by (options_in c.args.words.now) (sym c.is_plain.ensures.apply ∙ c.if-not-is_plain.false)
+    fine_of (workers ∷ attest ∷ listen ∷ remotes ∷ []) apply_by (options_in c.args.words.now) (sym c.is_plain.ensures.apply ∙ c.if-not-is_plain.false)
 
 pub returns-clause-ok : goal.returns-clause-ok
 returns-clause-ok c =
-    c.apply_by.ensures ∙ made_by (workers ∷ attest ∷ []) apply_by (options_in c.args.words.now) (told_by c.in_ok-values.values)
+    c.apply_by.ensures ∙ made_by (workers ∷ attest ∷ listen ∷ remotes ∷ []) apply_by (options_in c.args.words.now) (told_by c.in_ok-values.values)
     (sym c.is_plain.ensures.apply ∙ c.if-not-is_plain.false) c.in_ok-values.ensures

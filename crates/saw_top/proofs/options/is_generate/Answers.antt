@@ -1,4 +1,4 @@
-use Rattle.std.proofs.Common.{[], ◌∷◌, rules, refl, sym, ap}
+use Rattle.std.proofs.Common.{[], ◌∷◌, rules, sym, ap}
 use Rattle.std.specs.Prelude.{is_some}
 use Rattle.saw_words.specs.Given.{options_in, value_of}
 use Rattle.saw_top.specs.Command.{batches, blocks, conflicts, generate_by, start}

@@ -7,11 +7,10 @@ returns c =
     let fine = c.in_ok-prefix.ensures.valid.0 refl in
     let bytes = decoded c.in_ok-prefix.prefix c.unwrap_or.result.now c.in_ok-prefix.ensures.value fine in
     rw (
-      ← c.of.ensures,
       ← c.in_ok-workers.ensures,
+      ← c.of.ensures,
       ← c.of-2.ensures,
-      ← c.of-3.ensures,
-      text_or c.of-2.result _ c.unwrap_or.result c.unwrap_or.ensures refl,
+      text_or c.of.result _ c.unwrap_or.result c.unwrap_or.ensures refl,
       fine,
       bytes,
     ) refl

@@ -1,4 +1,4 @@
-use Rattle.std.proofs.Common.{◌≡◌, inl, [], ◌++◌, Err, refl, ap, arith}
+use Rattle.std.proofs.Common.{◌≡◌, true, inl, [], ◌++◌, Err, refl, ap, arith}
 use Rattle.std.proofs.KnownBytes.{Appends-nil, Appends-trans}
 use Rattle.std.specs.Prelude.{◌||◌, not}
 use Rattle.std.proofs.lemmas.Result.{err_from_is_err_and}
@@ -14,16 +14,19 @@ use Rattle.saw_report.specs.declared.run_fault.RunFault.TheVariants.{Blocks, Col
 use Rattle.saw_station.specs.Serving.{processors_at}
 use Rattle.saw_top.specs.Clashing.{LeavesUnjudged, TellsAlike}
 use Rattle.saw_top.specs.EndingFaults.{IsOfStream}
+use Rattle.saw_top.specs.Telling.{tell_block, tell_stream}
 use Rattle.saw_top.specs.World.{rules_by}
 use Rattle.saw_top.proofs.Branching.{known_first}
 use Rattle.saw_top.proofs.Desks.{failed_rose}
-use Rattle.saw_top.proofs.Standings.{all_there, line_cut, line_written, no_more, not_judged, probe_fault, read_fault, so_ends, so_more, start, too_many}
+use Rattle.saw_top.proofs.Standings.{all_there, is_among, line_cut, line_written, no_more, not_judged, probe_fault, read_fault, so_ends, so_more, start, too_many}
 use Rattle.saw_top.proofs.stream.judge_stream.Goals as goal
 
 pub loop-place-init : goal.loop-place-init
 loop-place-init g c = record {
-  so_far = λ told. start (rules_by (g.V.Verifier.accepts c.args.verifier.now)
-      (processors_at g.R.Station.next g.R.Station.tells (offers_at c.args.desks.now))) c.args.lines (g.S.Source.unread c.args.input.now)
+  so_far = start (rules_by (g.V.Verifier.accepts c.args.verifier.now)
+      (processors_at g.R.Station.next g.R.Station.tells (offers_at c.args.desks.now))) c.args.lines
+      (λ bytes. tell_stream (processors_at g.R.Station.next g.R.Station.tells (offers_at c.args.desks.now)) bytes ≡ true)
+      (g.S.Source.unread c.args.input.now)
       (g.O.Sink.written c.args.output.now) c.args.journal.now
       (record {
         blocks = c.requires.fresh;
@@ -38,20 +41,20 @@ loop-place-init g c = record {
 }
 
 pub returns-in_err-read_frame-clause-judges : goal.returns-in_err-read_frame-clause-judges
-returns-in_err-read_frame-clause-judges g c = λ told.
+returns-in_err-read_frame-clause-judges g c =
     let failed = c.from_residual in
     let p = err_from_is_err_and failed.result failed.ensures.1 in
     let e = c.in_err-read_frame.ensures in
-    rw (p.1, p.2) (so_ends _ _ (c.loop-place.invariant.so_far told) _ _ _ _
-    (λ bytes at. read_fault _ c.args.lines at _ _ c.loop-place-test.true e.told e.err.0 e.err.1 e.err.2))
+    rw (p.1, p.2) (so_ends _ _ c.loop-place.invariant.so_far _ _ _ _
+    (λ bytes told at. read_fault _ c.args.lines at _ _ c.loop-place-test.true e.told e.err.0 e.err.1 e.err.2))
 
 pub returns-in-None-clause-judges : goal.returns-in-None-clause-judges
-returns-in-None-clause-judges g c = λ told.
+returns-in-None-clause-judges g c =
     let none = rw c.in-None.is at c.in_ok-read_frame.ensures.told in
-    so_ends _ _ (c.loop-place.invariant.so_far told) _ _ _ _ (λ bytes at. no_more _ c.args.lines at _ c.loop-place-test.true none)
+    so_ends _ _ c.loop-place.invariant.so_far _ _ _ _ (λ bytes told at. no_more _ c.args.lines at _ c.loop-place-test.true none)
 
 pub returns-in_err-verdict-in-Some-clause-judges : goal.returns-in_err-verdict-in-Some-clause-judges
-returns-in_err-verdict-in-Some-clause-judges g c = λ told.
+returns-in_err-verdict-in-Some-clause-judges g c =
     let some = rw c.in-Some.is at c.in_ok-read_frame.ensures.told in
     let failed = c.from_residual-in_err-verdict-in-Some in
     let p = err_from_is_err_and failed.result failed.ensures.1 in
@@ -59,23 +62,27 @@ returns-in_err-verdict-in-Some-clause-judges g c = λ told.
     let same = kept_offers _ _ c.args.desks.now c.loop-place.desks c.loop-place.invariant.desks in
     let full = rw (same, c.deref.ensures.value) at e.full in
     let clash = rw (same, c.deref.ensures.value) at e.clash in
-    rw (p.1, p.2) (so_ends _ _ (c.loop-place.invariant.so_far told) _ _ _ _ (λ bytes at.
+    rw (p.1, p.2) (so_ends _ _ c.loop-place.invariant.so_far _ _ _ _ (λ bytes told at.
     not_judged _ c.args.lines at _ c.in-Some.content c.loop-place-test.true some
     (serial_one_by_one (processors_at g.R.Station.next g.R.Station.tells (offers_at c.args.desks.now))) _ c.judge.new.journal e.fault
-    (λ is. full told (ap Err is)) (clash told)))
+    (λ is. full (is_among _ c.args.lines at _ c.in-Some.content c.loop-place-test.true some
+    (tell_block (processors_at g.R.Station.next g.R.Station.tells (offers_at c.args.desks.now))) told) (ap Err is))
+    (clash (is_among _ c.args.lines at _ c.in-Some.content c.loop-place-test.true some
+    (tell_block (processors_at g.R.Station.next g.R.Station.tells (offers_at c.args.desks.now))) told))))
 
 pub returns-in_err-tell_block-in-Some-clause-judges : goal.returns-in_err-tell_block-in-Some-clause-judges
-returns-in_err-tell_block-in-Some-clause-judges g c = λ told.
+returns-in_err-tell_block-in-Some-clause-judges g c =
     let some = rw c.in-Some.is at c.in_ok-read_frame.ensures.told in
     let failed = c.from_residual-in_err-tell_block-in-Some in
     let p = err_from_is_err_and failed.result failed.ensures.1 in
     let same = kept_offers _ _ c.args.desks.now c.loop-place.desks c.loop-place.invariant.desks in
     let says = rw (same, c.deref.ensures.value) at c.in_ok-verdict-in-Some.ensures.says in
     let e = c.in_err-tell_block-in-Some.ensures in
-    rw (p.1, p.2) (so_ends _ _ (c.loop-place.invariant.so_far told) _ _ _ _ (λ bytes at.
+    rw (p.1, p.2) (so_ends _ _ c.loop-place.invariant.so_far _ _ _ _ (λ bytes told at.
     line_cut _ c.args.lines at _ c.in-Some.content c.loop-place-test.true some
     (serial_one_by_one (processors_at g.R.Station.next g.R.Station.tells (offers_at c.args.desks.now))) c.in_ok-verdict-in-Some.verdict
-    c.judge.new.journal (says told) c.in_ok-verdict-in-Some.ensures.stays _ _ e.err.0 e.fault e.err.1))
+    c.judge.new.journal (says (is_among _ c.args.lines at _ c.in-Some.content c.loop-place-test.true some
+    (tell_block (processors_at g.R.Station.next g.R.Station.tells (offers_at c.args.desks.now))) told)) c.in_ok-verdict-in-Some.ensures.stays _ _ e.err.0 e.fault e.err.1))
 
 pub loop-place-preserved : goal.loop-place-preserved
 loop-place-preserved g c =
@@ -83,10 +90,11 @@ loop-place-preserved g c =
     let same = kept_offers _ _ c.args.desks.now c.loop-place.desks c.loop-place.invariant.desks in
     let says = rw (same, c.deref.ensures.value) at c.in_ok-verdict-in-Some.ensures.says in
     record {
-      so_far = λ told. so_more _ _ (c.loop-place.invariant.so_far told) _ _ _ _ (λ bytes at.
+      so_far = so_more _ _ c.loop-place.invariant.so_far _ _ _ _ (λ bytes told at.
           line_written _ c.args.lines at _ c.in-Some.content c.loop-place-test.true some
           (serial_one_by_one (processors_at g.R.Station.next g.R.Station.tells (offers_at c.args.desks.now))) c.in_ok-verdict-in-Some.verdict
-          c.judge.new.journal (says told) c.in_ok-verdict-in-Some.ensures.stays _ _
+          c.judge.new.journal (says (is_among _ c.args.lines at _ c.in-Some.content c.loop-place-test.true some
+          (tell_block (processors_at g.R.Station.next g.R.Station.tells (offers_at c.args.desks.now))) told)) c.in_ok-verdict-in-Some.ensures.stays _ _
           c.in_ok-tell_block-in-Some.ensures.ok (ap (λ b. c.loop-place.refused || not b) c.is_accepted.ensures));
       wrote = (
         c.loop-place.invariant.wrote.0 ++ _,
@@ -99,27 +107,27 @@ loop-place-preserved g c =
     }
 
 pub returns-in_err-has_ended-clause-judges : goal.returns-in_err-has_ended-clause-judges
-returns-in_err-has_ended-clause-judges g c = λ told.
+returns-in_err-has_ended-clause-judges g c =
     let failed = c.from_residual-in_err-has_ended in
     let p = err_from_is_err_and failed.result failed.ensures.1 in
     let e = c.in_err-has_ended.ensures in
     let is : c.in_err-has_ended.field-0.0 ≡ Read = cc e.only in
-    rw (p.1, p.2, is) (so_ends _ _ (c.loop-place.invariant.so_far told) _ _ _ _
-    (λ bytes at. probe_fault _ c.args.lines at _ (omega arith) (omega arith) e.err.0 e.err.1 e.err.2))
+    rw (p.1, p.2, is) (so_ends _ _ c.loop-place.invariant.so_far _ _ _ _
+    (λ bytes told at. probe_fault _ c.args.lines at _ (omega arith) (omega arith) e.err.0 e.err.1 e.err.2))
 
 pub returns-then-branch-clause-judges : goal.returns-then-branch-clause-judges
-returns-then-branch-clause-judges g c = λ told.
+returns-then-branch-clause-judges g c =
     let e = c.in_ok-has_ended.ensures in
     let ended = rw c.if-branch.true at e.ended in
-    so_ends _ _ (c.loop-place.invariant.so_far told) _ _ _ _
-    (λ bytes at. all_there _ c.args.lines at _ (omega arith) (omega arith) ended e.taken.0 e.taken.1 e.taken.2)
+    so_ends _ _ c.loop-place.invariant.so_far _ _ _ _
+    (λ bytes told at. all_there _ c.args.lines at _ (omega arith) (omega arith) ended e.taken.0 e.taken.1 e.taken.2)
 
 pub returns-clause-judges : goal.returns-clause-judges
-returns-clause-judges g c = λ told.
+returns-clause-judges g c =
     let e = c.in_ok-has_ended.ensures in
     let some = rw c.if-branch.false at e.ended in
-    so_ends _ _ (c.loop-place.invariant.so_far told) _ _ _ _
-    (λ bytes at. too_many _ c.args.lines at _ (omega arith) (omega arith) some e.taken.0 e.taken.1 e.taken.2)
+    so_ends _ _ c.loop-place.invariant.so_far _ _ _ _
+    (λ bytes told at. too_many _ c.args.lines at _ (omega arith) (omega arith) some e.taken.0 e.taken.1 e.taken.2)
 
 pub returns-in_err-tell_block-in-Some-clause-wrote : goal.returns-in_err-tell_block-in-Some-clause-wrote
 returns-in_err-tell_block-in-Some-clause-wrote g c =

@@ -1,6 +1,8 @@
-use Rattle.std.proofs.Common.{[], refl, sym}
+use Rattle.std.proofs.Common.{◌≡◌, true, false, map, refl, sym, ap, ◌∙◌}
 use Rattle.std.proofs.lemmas.Result.{err_from_is_err_and}
-use Rattle.saw_station.specs.Serving.{alone}
+use Rattle.saw_station.specs.CommonOffers.{common}
+use Rattle.saw_station.specs.Serving.{processors_at}
+use Rattle.saw_top.specs.Headline.{asks_elsewhere}
 use Rattle.saw_top.specs.Outside.{outside}
 use Rattle.saw_top.specs.World.{world_with}
 use Rattle.saw_top.proofs.Carrying.{generated, judged, signs, unasked, unread}
@@ -12,9 +14,11 @@ returns-in_err-command g c =
     let p = err_from_is_err_and c.from_residual.result c.from_residual.ensures.1 in
     record {
       carries = rw (p.1, p.2)
-          (unread (g.V.Verifier.accepts c.args.verifier.now) signing (alone []) _
-          (outside g.S.Source g.O.Sink g.N.Sink g.F.Shelf c.args.input.now c.args.output.now c.args.notes.now c.args.shelf.now)
+          (unread (g.V.Verifier.accepts c.args.verifier.now) signing (processors_at g.R.Station.next g.R.Station.tells (common (map g.R.Station.offered c.args.remotes.now.items))) _
+          (outside g.S.Source g.O.Sink g.N.Sink g.F.Shelf g.R.Station.faults c.args.input.now c.args.output.now c.args.notes.now c.args.shelf.now
+          c.args.remotes.now.items)
           c.in_err-command.ensures.memory);
+      unasked = λ is. refl;
     }
 
 pub returns-in-None : goal.returns-in-None
@@ -22,22 +26,30 @@ returns-in-None g c =
     let signing = signs (g.G.Signer.key_text c.args.signer.now) (g.G.Signer.signature c.args.signer.now) in
     let none = rw c.in-None.is at c.in_ok-command.ensures.ok in
     record {
-      carries = unasked (g.V.Verifier.accepts c.args.verifier.now) signing (alone []) _
-          (outside g.S.Source g.O.Sink g.N.Sink g.F.Shelf c.args.input.now c.args.output.now c.args.notes.now c.args.shelf.now) (sym none);
+      carries = unasked (g.V.Verifier.accepts c.args.verifier.now) signing (processors_at g.R.Station.next g.R.Station.tells (common (map g.R.Station.offered c.args.remotes.now.items))) _
+          (outside g.S.Source g.O.Sink g.N.Sink g.F.Shelf g.R.Station.faults c.args.input.now c.args.output.now c.args.notes.now c.args.shelf.now
+          c.args.remotes.now.items) (sym none);
+      unasked = λ is. refl;
     }
 
 pub returns-in-Some-Judge : goal.returns-in-Some-Judge
 returns-in-Some-Judge g c =
     let asked = rw (c.in-Some-Judge.is, c.in-Some-Judge.field-0-is) at c.in_ok-command.ensures.ok in
-    record { carries = judged _ _ _ _ _ _ asked c.judge.ensures.carries }
+    record {
+      carries = judged _ _ _ _ _ _ asked c.judge.ensures.carries;
+      unasked = λ is. absurd (let never : true ≡ false = ap asks_elsewhere asked ∙ is in cc never);
+    }
 
 pub returns-in-Some-Generate : goal.returns-in-Some-Generate
 returns-in-Some-Generate g c =
     let signing = signs (g.G.Signer.key_text c.args.signer.now) (g.G.Signer.signature c.args.signer.now) in
     let asked = rw (c.in-Some-Generate.is, c.in-Some-Generate.field-0-is) at c.in_ok-command.ensures.ok in
     record {
-      carries = generated (world_with (g.V.Verifier.accepts c.args.verifier.now) signing (alone [])) _ _
-          (outside g.S.Source g.O.Sink g.N.Sink g.F.Shelf c.args.input.now c.args.output.now c.args.notes.now c.args.shelf.now)
-          (outside g.S.Source g.O.Sink g.N.Sink g.F.Shelf c.args.input.now c.write_stream.new.output c.args.notes.now c.args.shelf.now) _ asked refl
+      carries = generated (world_with (g.V.Verifier.accepts c.args.verifier.now) signing (processors_at g.R.Station.next g.R.Station.tells (common (map g.R.Station.offered c.args.remotes.now.items)))) _ _
+          (outside g.S.Source g.O.Sink g.N.Sink g.F.Shelf g.R.Station.faults c.args.input.now c.args.output.now c.args.notes.now c.args.shelf.now
+          c.args.remotes.now.items)
+          (outside g.S.Source g.O.Sink g.N.Sink g.F.Shelf g.R.Station.faults c.args.input.now c.write_stream.new.output c.args.notes.now c.args.shelf.now
+          c.args.remotes.now.items) _ asked refl
           (λ files. c.write_stream.ensures.writes);
+      unasked = λ is. refl;
     }

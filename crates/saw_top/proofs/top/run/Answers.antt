@@ -1,7 +1,6 @@
 use Rattle.std.proofs.Common.{Err, Ok, refl}
 use Rattle.saw_top.specs.Outside.{sink_end}
 use Rattle.saw_top.proofs.Endings.{answered}
-use Rattle.saw_top.proofs.BuiltIn.{built_in_tell}
 use Rattle.saw_top.proofs.top.run.Goals as goal
 
 pub returns-in-Ok-clause-ended : goal.returns-in-Ok-clause-ended
@@ -9,7 +8,6 @@ returns-in-Ok-clause-ended g c = record {
   came = Ok c.in-Ok.status;
   notes = sink_end g.N.Sink c.carry_out.new.notes;
   done = c.in-Ok.ensures.carries;
-  tells = λ files. built_in_tell.0;
   told = (refl, refl);
 }
 
@@ -21,7 +19,6 @@ returns-in-Err-clause-ended g c = record {
   came = Err c.in-Err.fault;
   notes = sink_end g.N.Sink c.carry_out.new.notes;
   done = c.in-Err.ensures.carries;
-  tells = λ files. built_in_tell.0;
   told = (c.tell.ensures.told, c.tell.ensures.later);
 }
 

@@ -1,0 +1,120 @@
+use Rattle.std.proofs.Common.{◌<◌, List, [], ◌++◌, drop, length, map, reverse, Some, refl, sym, ap, subst, ◌∙◌, arith}
+use Rattle.std.proofs.lemmas.Result.{err_from_is_err_and}
+use Rattle.std.specs.Prelude.{option_map}
+use Rattle.saw_crew.specs.Desks.{offers_at}
+use Rattle.saw_station.specs.CommonOffers.{common}
+use Rattle.saw_station.specs.DeskPlaces.{Place}
+use Rattle.saw_station.specs.Serving.{processors_at}
+use Rattle.saw_station.specs.declared.offer.Offer.{Offer}
+use Rattle.saw_top.specs.Headline.{CarriesOut}
+use Rattle.saw_top.specs.Outside.{AreLater, SomeRose, counts_of, outside, outside_with, shelf_end}
+use Rattle.saw_top.specs.Seats.{HaveOffers, remotes_at}
+use Rattle.saw_top.specs.Wishes.{wish_in}
+use Rattle.saw_top.specs.World.{world_with}
+use Rattle.saw_top.proofs.Carrying.{deskless, does_so, signs, unprepared, with_ready}
+use Rattle.saw_top.proofs.Seated.{all_later, all_offers, all_rose, are_alike, as_many, as_many_desks, offers_are, written_back}
+use Rattle.saw_top.proofs.top.judge_begun.Goals as goal
+
+pub returns-in_err-ready : goal.returns-in_err-ready
+returns-in_err-ready g c =
+    let signing = signs (g.G.Signer.key_text c.args.signer.now) (g.G.Signer.signature c.args.signer.now) in
+    let p = err_from_is_err_and c.from_residual.result c.from_residual.ensures.1 in
+    let job = c.args.job in
+    record {
+      carries = rw (p.1, p.2)
+          (unprepared (g.V.Verifier.accepts c.args.verifier.now) signing
+          (processors_at g.R.Station.next g.R.Station.tells (common (map g.R.Station.offered c.args.remotes.now.items))) job.workers job.task
+          (option_map (λ name. name.now) job.attest) (option_map (λ name. name.now) job.batches)
+          (outside g.S.Source g.O.Sink g.N.Sink g.F.Shelf g.R.Station.faults c.args.input.now c.args.output.now c.args.notes.now c.args.shelf.now
+          c.args.remotes.now.items)
+          (shelf_end g.F.Shelf c.prepare.new.shelf) c.in_err-ready.field-0.0 (c.in_err-ready.ensures.prepares signing));
+    }
+
+pub returns-in_err-desks : goal.returns-in_err-desks
+returns-in_err-desks g c =
+    let signing = signs (g.G.Signer.key_text c.args.signer.now) (g.G.Signer.signature c.args.signer.now) in
+    let p = err_from_is_err_and c.from_residual-in_err-desks.result c.from_residual-in_err-desks.ensures.1 in
+    let job = c.args.job in
+    let same = c.in_err-desks.ensures.err in
+    record {
+      carries = rw (p.1, p.2, same)
+          (deskless (g.V.Verifier.accepts c.args.verifier.now) signing
+          (processors_at g.R.Station.next g.R.Station.tells (common (map g.R.Station.offered c.args.remotes.now.items))) job.workers job.task
+          (option_map (λ name. name.now) job.attest) (option_map (λ name. name.now) job.batches)
+          (outside g.S.Source g.O.Sink g.N.Sink g.F.Shelf g.R.Station.faults c.args.input.now c.args.output.now c.args.notes.now c.args.shelf.now
+          c.args.remotes.now.items)
+          (shelf_end g.F.Shelf c.prepare.new.shelf) _ (c.in_ok-ready.ensures.prepares signing));
+    }
+
+-- the desks behind the task
+pub unseat-requires-after_bounds : goal.unseat-requires-after_bounds
+unseat-requires-after_bounds g c =
+    let faults = g.R.Station.faults in
+    let offered = g.R.Station.offered in
+    let olds = c.deref_mut.result.now in
+    let news = c.do_task-came.new.desks in
+    let keeps = c.do_task-came.ensures.desks in
+    let count = as_many_desks faults offered olds news keeps in
+    let back = written_back c.in_ok-desks.desks.len news (drop (length news) c.in_ok-desks.desks.items) (count ∙ c.deref_mut.ensures.len) in
+    let few = as_many faults offered [] olds news keeps in
+    let same = ap (λ (l : List (Place _)). length (remotes_at l)) c.deref_mut.ensures.value in
+    let whole = ap (λ (l : List (Place _)). length (remotes_at l)) back in
+    omega (arith, c.in_ok-desks.ensures.room, few, same, whole)
+
+pub returns : goal.returns
+returns g c =
+    let faults = g.R.Station.faults in
+    let offered = g.R.Station.offered in
+    let signing = signs (g.G.Signer.key_text c.args.signer.now) (g.G.Signer.signature c.args.signer.now) in
+    let job = c.args.job in
+    let olds = c.deref_mut.result.now in
+    let news = c.do_task-came.new.desks in
+    let left = c.seat.new.remotes.items in
+    let first = c.args.remotes.now.items in
+    let last = c.unseat.new.remotes.items in
+    let keeps = c.do_task-came.ensures.desks in
+    let count = as_many_desks faults offered olds news keeps in
+    let back = written_back c.in_ok-desks.desks.len news (drop (length news) c.in_ok-desks.desks.items) (count ∙ c.deref_mut.ensures.len) in
+    let value = c.deref_mut.ensures.value in
+    let moved = c.in_ok-desks.ensures.seated ∙ ap (λ (l : List (Place _)). left ++ reverse (remotes_at l)) (sym value) in
+    let returned = c.unseat.ensures ∙ ap (λ (l : List (Place _)). left ++ reverse (remotes_at l)) back in
+    let some = subst (λ (l : List (Place _)). 0 < length l) (sym value) c.in_ok-desks.ensures.some in
+    let have = subst (HaveOffers c.args.offers.items) (sym value) c.in_ok-desks.ensures.offers in
+    let offers = offers_are c.args.offers.items olds some have ∙ c.requires.offers
+    ∙ ap (λ (l : List _). common (map offered l)) moved ∙ ap common (sym (all_offers faults offered left olds news keeps))
+    ∙ ap (λ (l : List _). common (map offered l)) (sym returned) in
+    let later = subst (λ (l : List _). AreLater (map faults l) (map faults last)) (sym moved)
+    (subst (λ (l : List _). AreLater (map faults (left ++ reverse (remotes_at olds))) (map faults l)) (sym returned)
+    (all_later faults offered left olds news keeps)) in
+    let rose = λ (rose : SomeRose (counts_of faults olds) (counts_of faults news)). subst (λ (l : List _). SomeRose (map faults l) (map faults last)) (sym moved)
+    (subst (λ (l : List _). SomeRose (map faults (left ++ reverse (remotes_at olds))) (map faults l)) (sym returned)
+    (all_rose faults offered left olds news keeps rose)) in
+    record {
+      carries =
+          subst (λ (offers : List Offer). CarriesOut (world_with (g.V.Verifier.accepts c.args.verifier.now) signing
+          (processors_at g.R.Station.next g.R.Station.tells offers)) (Some (wish_in job))
+          (outside g.S.Source g.O.Sink g.N.Sink g.F.Shelf faults c.args.input.now c.args.output.now c.args.notes.now c.args.shelf.now first)
+          (outside g.S.Source g.O.Sink g.N.Sink g.F.Shelf faults c.do_task-came.new.input c.do_task-came.new.output c.do_task-came.new.notes
+          c.prepare.new.shelf last) c.do_task-came.result) offers
+          (with_ready (g.V.Verifier.accepts c.args.verifier.now) signing (processors_at g.R.Station.next g.R.Station.tells (offers_at olds))
+          job.workers job.task (option_map (λ name. name.now) job.attest) (option_map (λ name. name.now) job.batches)
+          (outside g.S.Source g.O.Sink g.N.Sink g.F.Shelf faults c.args.input.now c.args.output.now c.args.notes.now c.args.shelf.now first)
+          (shelf_end g.F.Shelf c.prepare.new.shelf) _ (c.in_ok-ready.ensures.prepares signing)
+          (outside g.S.Source g.O.Sink g.N.Sink g.F.Shelf faults c.do_task-came.new.input c.do_task-came.new.output c.do_task-came.new.notes
+          c.prepare.new.shelf last) c.do_task-came.result refl later
+          (λ from to. does_so (processors_at g.R.Station.next g.R.Station.tells (offers_at olds)) job.task _
+          (outside_with g.S.Source g.O.Sink g.N.Sink c.args.input.now c.args.output.now c.args.notes.now from [])
+          (outside_with g.S.Source g.O.Sink g.N.Sink c.do_task-came.new.input c.do_task-came.new.output c.do_task-came.new.notes to [])
+          (counts_of faults olds) (counts_of faults news) (map faults first) (map faults last) rose c.do_task-came.result
+          (rw c.as_slice.ensures at (c.do_task-came.ensures.does from to))));
+    }
+
+pub do_task-came-requires-clause-some : goal.do_task-came-requires-clause-some
+do_task-came-requires-clause-some g c = λ κs alive.
+    subst (λ (l : List (Place _)). 0 < length l) (sym c.deref_mut.ensures.value) c.in_ok-desks.ensures.some
+
+pub do_task-came-requires-clause-alike : goal.do_task-came-requires-clause-alike
+do_task-came-requires-clause-alike g c = λ κs alive.
+    let value = sym c.deref_mut.ensures.value in
+    are_alike c.args.offers.items c.deref_mut.result.now (subst (λ (l : List (Place _)). 0 < length l) value c.in_ok-desks.ensures.some)
+    (subst (HaveOffers c.args.offers.items) value c.in_ok-desks.ensures.offers)

@@ -1,0 +1,39 @@
+//! Connections of processors elsewhere, on this machine alone.
+
+ghost use Rattle.std.specs.Prelude.{◌≡◌, false, All, IfOk};
+
+use saw_io::{StdSink, StdSource};
+use saw_link::{RemoteStation, StreamLink};
+use saw_station::Station;
+use std::alloc::Global;
+use std::io;
+use std::net::{Ipv4Addr, SocketAddr, TcpListener, TcpStream};
+
+/// The two ends of a connection.
+pub(crate) type Connection = StreamLink<StdSource<TcpStream>, StdSink<TcpStream>>;
+
+/// A link over a connection. Each frame is sent at once.
+fn link_over(stream: TcpStream) -> io::Result<Connection> {
+    stream.set_nodelay(true)?;
+    let reader = stream.try_clone()?;
+    Ok(StreamLink::new(StdSource::new(reader), StdSink::new(stream)))
+}
+
+/// Accepts so many connections on a port of 127.0.0.1, one after another.
+pub(crate) fn accept_links(
+    rt: &HostRuntime,
+    alloc: Global,
+    port: u16,
+    count: u32,
+) -> io::Result<Vec<RemoteStation<Connection>>>
+    ensures { IfOk result (λ remotes. All
+        (λ remote. ⟦<RemoteStation<Connection> as Station>⟧.begun remote ≡ false) remotes.items) }
+{
+    let listener = TcpListener::bind(rt, SocketAddr::from((Ipv4Addr::LOCALHOST, port)))?;
+    let mut remotes = Vec::new(alloc);
+    for _ in 0..count {
+        let (stream, _) = listener.accept()?;
+        remotes.push(RemoteStation::new(alloc, link_over(stream)?))?;
+    }
+    Ok(remotes)
+}
