@@ -7,7 +7,7 @@ use saw_link::{RemoteStation, StreamLink};
 use saw_station::Station;
 use std::alloc::Global;
 use std::io;
-use std::net::{Ipv4Addr, SocketAddr, TcpListener, TcpStream};
+use std::net::{Ipv4Addr, Net, SocketAddr, TcpListener, TcpStream};
 
 /// The two ends of a connection.
 pub(crate) type Connection = StreamLink<StdSource<TcpStream>, StdSink<TcpStream>>;
@@ -20,8 +20,8 @@ fn link_over(stream: TcpStream) -> io::Result<Connection> {
 }
 
 /// Accepts so many connections on a port of 127.0.0.1, one after another.
-pub(crate) fn accept_links(
-    rt: &HostRuntime,
+pub(crate) fn accept_links<R: Net<Listener = TcpListener, Stream = TcpStream>>(
+    rt: &R,
     alloc: Global,
     port: u16,
     count: u32,

@@ -14,7 +14,10 @@ use saw_verify::{DevSigner, DevVerifier};
 use saw_wire::Text;
 use std::alloc::Global;
 use std::io::ErrorKind;
+use std::net::{Net, TcpListener, TcpStream};
 use std::process::ExitCode;
+use std::sync::Wait;
+use std::thread::Threads;
 use std::{env, io};
 
 /// The status of a processor elsewhere that failed, and of a port that could not be opened.
@@ -37,17 +40,22 @@ fn signer(alloc: Global) -> Option<DevSigner> {
 }
 
 // Answers the words, with these processors elsewhere.
-fn answer<R: Station>(rt: &HostRuntime, words: &[String], remotes: &mut Vec<R>) -> ExitCode
+fn answer<T: Threads + Wait + Sync, R: Station>(
+    rt: &T,
+    host: &HostRuntime,
+    words: &[String],
+    remotes: &mut Vec<R>,
+) -> ExitCode
     requires { All (λ remote. R.begun remote ≡ false) remotes.old.items }
 {
-    let alloc = rt.alloc();
+    let alloc = host.alloc();
     let Some(signer) = signer(alloc) else {
         return ExitCode::from(MEMORY);
     };
-    let mut input = StdSource::new(rt.reader());
-    let mut output = StdSink::new(io::writer(rt));
-    let mut notes = StdSink::new(rt.stderr());
-    let mut shelf = DirShelf::new(rt);
+    let mut input = StdSource::new(host.reader());
+    let mut output = StdSink::new(io::writer(host));
+    let mut notes = StdSink::new(host.stderr());
+    let mut shelf = DirShelf::new(host);
     let status = run(
         rt,
         alloc,
@@ -64,9 +72,18 @@ fn answer<R: Station>(rt: &HostRuntime, words: &[String], remotes: &mut Vec<R>) 
 }
 
 // Answers the words, with so many processors that connect to a port.
-fn answer_with_links(rt: &HostRuntime, words: &[String], port: u16, count: u32) -> ExitCode {
-    match accept_links(rt, rt.alloc(), port, count) {
-        Ok(mut remotes) => answer(rt, words, &mut remotes),
+fn answer_with_links<T>(
+    rt: &T,
+    host: &HostRuntime,
+    words: &[String],
+    port: u16,
+    count: u32,
+) -> ExitCode
+where
+    T: Threads + Wait + Sync + Net<Listener = TcpListener, Stream = TcpStream>,
+{
+    match accept_links(rt, host.alloc(), port, count) {
+        Ok(mut remotes) => answer(rt, host, words, &mut remotes),
         Err(e) if e.kind() == ErrorKind::OutOfMemory => ExitCode::from(MEMORY),
         Err(_) => ExitCode::from(PEER),
     }
@@ -84,11 +101,11 @@ fn main(rt: HostRuntime) -> ExitCode {
         return help::tell(&rt, &words);
     }
     match listen_wish(&words) {
-        Wish::Listen { port, remotes } => answer_with_links(&rt, &words, port, remotes),
+        Wish::Listen { port, remotes } => answer_with_links(&rt, &rt, &words, port, remotes),
         // A processor of this program's own does not connect yet, so `run` refuses its words.
         Wish::Plain | Wish::Connect { port: _ } => {
             let mut remotes: Vec<NoStation> = Vec::new(alloc);
-            answer(&rt, &words, &mut remotes)
+            answer(&rt, &rt, &words, &mut remotes)
         }
     }
 }
