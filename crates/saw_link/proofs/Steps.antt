@@ -53,8 +53,7 @@ module _ (told later : Option (List Passed)) (s next : Standing) (context sent f
     due = due;
     legal = legal;
     within = let P : List Passed → Type 0 = AreWithin (limit_of s.version) in
-        let Q : List Passed → Type 0 = AreWithin (limit_of next.version) in
-        (subst P (sym is) (short_here, tt), subst Q (sym (plain s frame next)) tt);
+        (subst P (sym is) (short_here, tt), subst P (sym (plain s frame next)) tt);
     adds = let P : List Passed → Type 0 = λ passed. Adds told passed later in
         subst P (sym (ap (λ x. sent_before s move ++ Received frame ∷ x) (plain s frame next) ∙ ap (λ x. x ++ Received frame ∷ []) is)) adds;
   }
@@ -129,14 +128,14 @@ some_same : {A : Type 0} (x y : A) → Some x ≡ Some y → x ≡ y
 some_same x y e = cc
 
 -- a registration that was entered and answered
-pub registers_moved : (told mid later : Option (List Passed)) (s next : Standing) (frame sent : List ℕ) (limit second : ℕ)
+pub registers_moved : (told mid later : Option (List Passed)) (s next : Standing) (frame sent : List ℕ) (limit : ℕ)
     (read : Option Registration) (found : Registration) (version : ℕ)
-    → second ≡ limit_of version → length sent ≤ second → limit ≡ limit_of s.version → read ≡ registration limit frame → read ≡ Some found
+    → length sent ≤ limit → limit ≡ limit_of s.version → read ≡ registration limit frame → read ≡ Some found
     → version ≡ version_by found.request.protocol_version → may_register s version ≡ true
     → registered_by s found version ≡ Some next → sent ≡ welcome version found.correlation → Adds told (Received frame ∷ []) mid → s.more ≡ true
     → Adds mid (Sent sent ∷ []) later → Moved told s Registers later next
 unfolding after
-registers_moved told mid later s next frame sent limit second read found version second_is short limit_is read_is is version_is may entered sent_is
+registers_moved told mid later s next frame sent limit read found version short limit_is read_is is version_is may entered sent_is
     received due answered =
     let said : registration (limit_of s.version) frame ≡ Some found = sym (ap (λ l. registration l frame) limit_is) ∙ sym read_is ∙ is in
     let Q : Option Registration → Type 0 = λ r. registered s r ≡ Some next in
@@ -146,10 +145,10 @@ registers_moved told mid later s next frame sent limit second read found version
     ∙ ap (λ v. Sent (welcome v found.correlation) ∷ []) (sym fixed) ∙ ap (λ x. Sent x ∷ []) (sym sent_is) in
     let P : List Passed → Type 0 = λ passed. Adds told passed later in
     let S : ℕ → Type 0 = λ l. length sent ≤ l in
-    let W : List Passed → Type 0 = AreWithin (limit_of next.version) in
+    let W : List Passed → Type 0 = AreWithin (limit_of s.version) in
     record {
       frame = frame;
-      within = (tt, subst W (sym sent_here) (subst S (second_is ∙ ap limit_of fixed) short, tt));
+      within = (tt, subst W (sym sent_here) (subst S limit_is short, tt));
       due = due;
       legal = subst Q (sym said) (subst R version_is (rw may entered));
       adds = subst P (ap (λ x. Received frame ∷ x) (sym sent_here)) (adds_two told mid later (Received frame ∷ []) (Sent sent ∷ []) received answered);

@@ -172,11 +172,11 @@ some_alike : {A : Type 0} (x y : A) → Some x ≡ Some y → x ≡ y
 some_alike x y e = cc
 
 -- the answer to a registration was not sent
-module _ (told mid later : Option (List Passed)) (s next : Standing) (frame sent : List ℕ) (limit second : ℕ) (read : Option Registration)
+module _ (told mid later : Option (List Passed)) (s next : Standing) (frame sent : List ℕ) (limit : ℕ) (read : Option Registration)
     (found : Registration) (version : ℕ) (limit_is : limit ≡ limit_of s.version)
     (read_is : read ≡ registration limit frame) (is : read ≡ Some found) (version_is : version ≡ version_by found.request.protocol_version)
     (may : may_register s version ≡ true) (entered : registered_by s found version ≡ Some next)
-    (sent_is : sent ≡ welcome version found.correlation) (second_is : second ≡ limit_of version) (received : Adds told (Received frame ∷ []) mid) where
+    (sent_is : sent ≡ welcome version found.correlation) (received : Adds told (Received frame ∷ []) mid) where
   entered_read : registration (limit_of s.version) frame ≡ Some found
   entered_read = sym (ap (λ l. registration l frame) limit_is) ∙ sym read_is ∙ is
 
@@ -194,7 +194,7 @@ module _ (told mid later : Option (List Passed)) (s next : Standing) (frame sent
   entered_sent = ap (welcomed next.version) entered_read ∙ ap (λ v. Sent (welcome v found.correlation) ∷ []) (sym entered_version)
       ∙ ap (λ x. Sent x ∷ []) (sym sent_is)
 
-  pub register_unsent : (trouble : Trouble) → Unsent trouble mid second sent later → Troubled trouble told s Registers later
+  pub register_unsent : (trouble : Trouble) → Unsent trouble mid limit sent later → Troubled trouble told s Registers later
   register_unsent troubles.Link h = tt
   register_unsent troubles.TooLong h =
       let P : ℕ → Type 0 = λ l. l < length sent in (
@@ -206,7 +206,7 @@ module _ (told mid later : Option (List Passed)) (s next : Standing) (frame sent
             (
               entered_legal,
               entered_sent,
-              subst P (second_is ∙ ap limit_of entered_version) h.0,
+              subst P limit_is h.0,
               adds_two told mid later (Received frame ∷ []) [] received h.1,
             ),
           ),

@@ -123,9 +123,10 @@ AreWithin limit (Sent frame ∷ passed) = (length frame ≤ limit) × AreWithin 
 AreWithin limit (Received frame ∷ passed) = AreWithin limit passed
 AreWithin limit (Ended ∷ passed) = AreWithin limit passed
 
--- what the station sends with a move is no longer than the version allows, before the peer's frame and behind it
+-- what the station sends with a move is no longer than the version before it allows: so the answer to the first
+-- registration is no longer than version 1 allows, since its peer does not know the version yet
 abbrev pub IsWithin : Standing → Move → List ℕ → Standing → Type 0
-IsWithin s move frame next = AreWithin (limit_of s.version) (sent_before s move) × AreWithin (limit_of next.version) (sent_behind s move frame next)
+IsWithin s move frame next = AreWithin (limit_of s.version) (sent_before s move) × AreWithin (limit_of s.version) (sent_behind s move frame next)
 
 abbrev pub FitsLast : Option LastStep → Reply → Type 0
 FitsLast None reply = ⊥

@@ -71,7 +71,7 @@ SaysBroken s Refuses frame = ⊥
 abbrev pub IsTooLong : Standing → Move → Option (List Passed) → Option (List Passed) → Type 0
 IsTooLong s Registers told later =
     (got : List ℕ) × ((next : Standing) × ((frame : List ℕ) × ((after s Registers got ≡ Some next) × (sent_behind s Registers got next ≡ Sent frame ∷ [])
-    × (limit_of next.version < length frame) × Adds told (Received got ∷ []) later)))
+    × (limit_of s.version < length frame) × Adds told (Received got ∷ []) later)))
 IsTooLong s (Begins tx) told later =
     (frame : List ℕ) × ((sent_before s (Begins tx) ≡ Sent frame ∷ []) × (limit_of s.version < length frame) × Adds told [] later)
 IsTooLong s (Answers reply) told later =

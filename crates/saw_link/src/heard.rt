@@ -72,8 +72,8 @@ pub struct Registration {
     pub request: TpRegisterRequest,
 }
 
-// What was read, or none.
-fn legal<M: Drop>(read: Result<M, MessageFault>) -> Result<Option<M>, AllocError>
+/// What was read, or none where the bytes are no such message.
+pub fn legal<M: Drop>(read: Result<M, MessageFault>) -> Result<Option<M>, AllocError>
     ensures { IfOk result (λ made. (said : Result M MessageFault) → Gives read said → made ≡ result_ok said) }
 {
     match read {

@@ -15,10 +15,11 @@ mod stream_link;
 mod written;
 
 pub use fault::LinkFault;
-pub use heard::{Asked, Finish, Heard, Kind, Registration};
+pub use heard::{Asked, Finish, Heard, Kind, Registration, legal};
 pub use link::Link;
 pub use memory::MemoryPeer;
 pub use passed::Passed;
 pub use remote::{Health, RemoteStation};
 pub use standing::{LastStep, Standing};
 pub use stream_link::StreamLink;
+pub use written::{framed, limit_of};

@@ -292,7 +292,7 @@ fn register<L: Link>(alloc: Global, link: &mut L, standing: &mut Standing) -> Re
     }
     let sent = welcome(alloc, version, found.correlation.as_str())?;
     enter(standing, version, found)?;
-    send(alloc, link, limit_of(version), &sent)
+    send(alloc, link, limit, &sent)
 }
 
 fn version_by(protocol: u32) -> u32

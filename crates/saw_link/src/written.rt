@@ -18,13 +18,14 @@ use saw_wire::{Bytes, Items, Text, write_bytes, write_text};
 use std::alloc::{AllocError, Global};
 
 /// How long the content of a frame may be on a link of this version.
-pub(crate) fn limit_of(version: u32) -> usize
+pub fn limit_of(version: u32) -> usize
     ensures { result ≡ limit_of version }
 {
     if version == 2 { 8_388_608 } else { 1_048_576 }
 }
 
-fn frame(
+/// The frame of a message of this type, under this correlation id.
+pub fn framed(
     alloc: Global,
     message_type: u32,
     correlation: &str,
@@ -49,7 +50,7 @@ pub(crate) fn welcome(alloc: Global, version: u32, correlation: &str) -> Result<
         protocol_version: if version == 2 { 2 } else { 0 },
     };
     let content = encode_tp_register_response(alloc, &message)?;
-    frame(alloc, 2, correlation, content)
+    framed(alloc, 2, correlation, content)
 }
 
 fn one_of<'a>(test: bool, first: &'a Bytes, second: &'a Bytes) -> &'a Bytes
@@ -88,7 +89,7 @@ pub(crate) fn process_request(
     ensures { IfOk result (λ made. made.items ≡ process_request version context.now tx.now) }
 {
     let content = process_content(alloc, version, context, tx)?;
-    frame(alloc, 5, context.as_str(), content)
+    framed(alloc, 5, context.as_str(), content)
 }
 
 fn entries_of(
@@ -127,7 +128,7 @@ fn get_answer(
     ensures { IfOk result (λ made. made.items ≡ get_answer correlation.now entries status) }
 {
     let content = encode_tp_state_get_response(alloc, &TpStateGetResponse { entries, status })?;
-    frame(alloc, 8, correlation, content)
+    framed(alloc, 8, correlation, content)
 }
 
 fn set_answer(
@@ -140,7 +141,7 @@ fn set_answer(
 {
     let message = TpStateSetResponse { addresses, status };
     let content = encode_tp_state_set_response(alloc, &message)?;
-    frame(alloc, 10, correlation, content)
+    framed(alloc, 10, correlation, content)
 }
 
 fn delete_answer(
@@ -153,14 +154,14 @@ fn delete_answer(
 {
     let message = TpStateDeleteResponse { addresses, status };
     let content = encode_tp_state_delete_response(alloc, &message)?;
-    frame(alloc, 12, correlation, content)
+    framed(alloc, 12, correlation, content)
 }
 
 fn event_answer(alloc: Global, correlation: &str, status: u32) -> Result<Vec<u8>, AllocError>
     ensures { IfOk result (λ made. made.items ≡ event_answer correlation.now status) }
 {
     let content = encode_tp_event_add_response(alloc, &TpEventAddResponse { status })?;
-    frame(alloc, 16, correlation, content)
+    framed(alloc, 16, correlation, content)
 }
 
 // No entries are in the answer to a refused request to read.

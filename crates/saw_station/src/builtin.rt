@@ -11,8 +11,12 @@ use crate::station::Station;
 use saw_messages::{Action, Reason, Transcript, Tx};
 use std::alloc::{AllocError, Global};
 
-/// The next action by the processor of the transaction's family.
-fn next_action(alloc: Global, tx: &Tx, talk: &Transcript) -> Result<Action, AllocError>
+/// The next action by the processor of the transaction's family. A family that is not built in is refused.
+pub fn built_in_action(
+    alloc: Global,
+    tx: &Tx,
+    talk: &Transcript,
+) -> Result<Action, AllocError>
     ensures told { IfOk result (λ action. action ≡ built_in_next tx.now talk.now.turns) }
     ensures short { IfOk result IsShort }
 {
@@ -60,7 +64,7 @@ impl Station for BuiltIn {
     }
 
     fn step(&mut self, alloc: Global, tx: &Tx, talk: &Transcript) -> Result<Action, StationFault> {
-        Ok(next_action(alloc, tx, talk)?)
+        Ok(built_in_action(alloc, tx, talk)?)
     }
 
     fn close(&mut self, _alloc: Global, _tx: &Tx, _talk: &Transcript) -> Result<(), StationFault> {

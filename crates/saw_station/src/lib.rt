@@ -13,6 +13,7 @@ mod run;
 mod serving;
 mod station;
 
+pub use builtin::built_in_action;
 pub use common::common_offers;
 pub use desk::Desk;
 pub use fault::StationFault;

@@ -13,7 +13,7 @@ returns-clause-moved g c =
     ok_map_two c.send.result (λ adds short.
     registers_moved (L.told c.args.link.now) (L.told c.receive.new.link) (L.told c.send.new.link) c.args.standing.now c.enter.new.standing
     c.in_ok-frame.frame.items c.deref-2.result.now
-    c.limit_of-limit.result c.limit_of.result c.in_ok-found.field-0 found c.version_by-version.result c.limit_of.ensures short c.limit_of-limit.ensures
+    c.limit_of-limit.result c.in_ok-found.field-0 found c.version_by-version.result short c.limit_of-limit.ensures
     (search (rules, c.in_ok-found.ensures, c.deref.ensures.value)) c.in-Some.is c.version_by-version.ensures
     (search (rules, c.may_register.ensures)) c.in_ok-enter.ensures.entered (search
     (rules, c.in_ok-sent.ensures, c.as_str.ensures, c.deref-2.ensures.value)) c.in_ok-frame.ensures.ok c.requires adds)
@@ -53,8 +53,8 @@ returns-clause-troubled g c =
     err_map c.send.result (λ trouble unsent.
     register_unsent (L.told c.args.link.now) (L.told c.receive.new.link) (L.told c.send.new.link) c.args.standing.now c.enter.new.standing
     c.in_ok-frame.frame.items c.deref-2.result.now
-    c.limit_of-limit.result c.limit_of.result c.in_ok-found.field-0 found c.version_by-version.result c.limit_of-limit.ensures
+    c.limit_of-limit.result c.in_ok-found.field-0 found c.version_by-version.result c.limit_of-limit.ensures
     (search (rules, c.in_ok-found.ensures, c.deref.ensures.value)) c.in-Some.is c.version_by-version.ensures
     (search (rules, c.may_register.ensures)) c.in_ok-enter.ensures.entered (search
-    (rules, c.in_ok-sent.ensures, c.as_str.ensures, c.deref-2.ensures.value)) c.limit_of.ensures c.in_ok-frame.ensures.ok trouble unsent)
+    (rules, c.in_ok-sent.ensures, c.as_str.ensures, c.deref-2.ensures.value)) c.in_ok-frame.ensures.ok trouble unsent)
     c.send.ensures.unsent
