@@ -21,7 +21,7 @@ pub(crate) fn lines(alloc: Global, script: &str) -> anyhow::Result<Vec<u8>> {
 }
 
 /// The transaction of a line `tx INPUTS OUTPUTS`.
-fn declaring(alloc: Global, line: &str) -> anyhow::Result<Tx> {
+fn declaring(alloc: Global, line: &str) -> Result<Tx, ScriptFault> {
     match words_of(alloc, line)?.as_slice() {
         ["tx", inputs, outputs] => tx_of(
             alloc,
@@ -31,7 +31,7 @@ fn declaring(alloc: Global, line: &str) -> anyhow::Result<Tx> {
                 ..NO_WORDS
             },
         ),
-        _ => Err(ScriptFault::NoForm.into()),
+        _ => Err(ScriptFault::NoForm),
     }
 }
 

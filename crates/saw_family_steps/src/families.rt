@@ -1,8 +1,9 @@
 //! The next action of a built-in family: its payload, and the replies so far.
 
-use saw_messages::{Action, Entry, Place, Reason, Reply, Transcript, Turn, Tx};
+use saw_messages::{Action, Entry, Place, Reply, Transcript, Turn, Tx};
 use saw_scripts::{
-    NO_WORDS, ScriptFault, Words, bytes_of, put_hex, put_number, put_word, tx_of, words_of,
+    NO_WORDS, ScriptFault, Words, bytes_of, put_hex, put_number, put_reason, put_word, tx_of,
+    words_of,
 };
 use saw_wire::Items;
 use std::alloc::{AllocError, Global};
