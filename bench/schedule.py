@@ -1,6 +1,6 @@
 """Measures the schedule of a plan: how long the lines of the plan take, the schedule, and a single worker.
 
-Run by hand, never by the gate, after `rt run` has built the program:
+Run by hand, never by the gate, after `rt run` in crates/saw_plan_steps has built the program:
 python3 bench/schedule.py [PROGRAM]
 
 Each plan has so many counter transactions, ten in a batch, over so many names. In the second table each reads all of its
@@ -20,7 +20,7 @@ from counters import address, operation  # noqa: E402
 
 FAMILY = "1cf126"
 
-KINDS = ["access", "families", "plans", "schedules", "trees", "states", "settings", "requests", "journal", "clashes"]
+KINDS = ["plans", "schedules", "trees"]
 SECONDS, BYTES = 300, 6 * 2**30
 
 
@@ -87,7 +87,7 @@ def table(program, counts, names_of, read):
 
 
 def main():
-    program = os.path.abspath(sys.argv[1] if len(sys.argv) > 1 else f"{ROOT}/crates/saw_steps/out/saw_steps")
+    program = os.path.abspath(sys.argv[1] if len(sys.argv) > 1 else f"{ROOT}/crates/saw_plan_steps/out/saw_plan_steps")
     print("schedule - plan and drain - schedule are given for each transaction")
     table(program, (2000, 20000), lambda count: (count, 100, 1), None)
     table(program, (1000, 2000, 4000, 20000), lambda count: (count,), FAMILY)

@@ -46,16 +46,17 @@ def has_test(crate, function):
     return any(re.search(r"#\[test\]\s*fn %s\(" % function, text) for text in texts)
 
 
-def has_script(name):
-    data = os.path.join(CRATES, "saw_steps", "data")
+def has_script(crate, name):
+    data = os.path.join(CRATES, crate, "data")
     return any(os.path.isfile(os.path.join(data, kind, name + ".script")) for kind in os.listdir(data))
 
 
 def is_shown(name, cases):
     """Whether there is a script, a test or a case of this name."""
-    if name.startswith("saw_steps: "):
-        return has_script(name.split(": ")[1])
-    return has_test(*name.split(": ")) if ": " in name else name in cases
+    if ": " not in name:
+        return name in cases
+    crate, called = name.split(": ")
+    return has_script(crate, called) if crate.endswith("_steps") else has_test(crate, called)
 
 
 def missing_cases(cell, cases):

@@ -1,8 +1,8 @@
-"""Makes the scripts of saw_steps, with the lines that each is to say.
+"""Makes the scripts of saw_family_steps, saw_plan_steps and saw_state_steps, with the lines that each is to say.
 
 Written apart from the validator: roots, addresses, ids and messages are made here, from the public formats alone, and
 the verdicts, numbers and places are written by hand. Nothing comes out of the validator.
-Usage: python3 tools/steps.py crates/saw_steps/data
+Usage: python3 -B tools/steps.py crates
 """
 
 import hashlib
@@ -21,6 +21,14 @@ OTHER_KEY = "02" + "2" * 64
 NO_BLOCK = "0" * 16
 A = address("a")
 
+# The kinds of calls that each program runs, and the blocks that its journals read.
+KINDS = {
+    "saw_family_steps": ("access", "families", "settings", "requests"),
+    "saw_plan_steps": ("plans", "schedules", "trees"),
+    "saw_state_steps": ("states", "journal", "blocks", "clashes"),
+}
+FOLDERS = {kind: f"{FOLDER}/{crate}/data/{kind}" for crate, kinds in KINDS.items() for kind in kinds}
+
 
 def hexed(data):
     return data.hex() if data else "-"
@@ -28,10 +36,9 @@ def hexed(data):
 
 def put(kind, name, calls):
     """A script of calls, each with the lines that it is to say."""
-    os.makedirs(f"{FOLDER}/{kind}", exist_ok=True)
-    with open(f"{FOLDER}/{kind}/{name}.script", "w") as file:
+    with open(f"{FOLDERS[kind]}/{name}.script", "w") as file:
         file.writelines(call + "\n" for call, _ in calls)
-    with open(f"{FOLDER}/{kind}/{name}.want", "w") as file:
+    with open(f"{FOLDERS[kind]}/{name}.want", "w") as file:
         file.writelines(line + "\n" for _, lines in calls for line in lines.split("\n") if lines)
 
 
@@ -483,7 +490,7 @@ class Block:
         header = (b"\x08" + varint(number) if number else b"") + record(2, previous) + record(3, signer)
         header += b"".join(record(4, i) for i, _ in made) + record(5, consensus) + record(6, counters_root(counters))
         self.id, self.name, self.number, self.root = mark(signer, header), name, number, counters_root(counters)
-        with open(f"{FOLDER}/blocks/{name}.block", "wb") as file:
+        with open(f"{FOLDERS['blocks']}/{name}.block", "wb") as file:
             file.write(record(1, header) + record(2, self.id) + b"".join(record(3, b) for _, b in made))
 
     def accept(self, line):
@@ -545,7 +552,7 @@ def verdicts():
         ("blocks", "blocks 2"),
     ])
     wrong_root = first("wrong-root", counters={})
-    with open(f"{FOLDER}/blocks/no.block", "wb") as file:
+    with open(f"{FOLDERS['blocks']}/no.block", "wb") as file:
         file.write(b"\x0b")
     pair = child("pair", genesis, batches=[[SETS["b"], SETS["c"]]], counters={"a": 1, "b": 1, "c": 1})
     put("journal", "receipts", [
@@ -649,7 +656,8 @@ def clashes():
 
 
 def main():
-    os.makedirs(f"{FOLDER}/blocks", exist_ok=True)
+    for folder in FOLDERS.values():
+        os.makedirs(folder, exist_ok=True)
     access()
     counters()
     games()
