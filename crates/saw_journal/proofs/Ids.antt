@@ -1,11 +1,11 @@
 -- Ids of branches, gathered from the latest block on.
-use Rattle.std.proofs.Common.{◌≡◌, ℕ, ◌+◌, ◌<◌, Bool, true, false, List, [], ◌∷◌, ◌++◌, length, map, take, get_or, reverse, refl, sym, ap, subst, ◌∙◌}
-use Rattle.std.proofs.Common.{◌⊎◌, inl, inr, arith, ◌-◌, ◌≤◌}
+use Rattle.std.proofs.Common.{◌≡◌, ℕ, ◌+◌, ◌<◌, Bool, true, false, List, [], ◌∷◌, ◌++◌, length, map, take, get_or, refl, sym, ap, subst, ◌∙◌}
+use Rattle.std.proofs.Common.{◌⊎◌, inl, inr, arith}
 use Rattle.std.specs.Prelude.{◌||◌}
 use Rattle.std.specs.Str.{bytes_eq}
 use Rattle.std.specs.BTreeSet.{BTreeSet}
 use Rattle.std.proofs.lemmas.Grind.{flat_map-append}
-use Rattle.std.proofs.lemmas.List.{append_assoc, append-nil, map_push, reverse-append, take_more}
+use Rattle.std.proofs.lemmas.List.{append_assoc, append-nil, map_push, take_more}
 use Rattle.std.proofs.lemmas.List.Concat.{flat_map-cons}
 use Rattle.std.proofs.lemmas.List.Folds.{list_any-append}
 use Rattle.saw_ids.specs.Seen.{HoldsIds, is_among}
@@ -104,32 +104,16 @@ ids_push_block blocks block =
       append-nil (batch_ids block.batches).transactions,
     ) refl
 
-latest_first : (blocks : List BlockRecord) (i : ℕ) (block : BlockRecord) → i < length blocks → block ≡ get_or blocks i block
-    → reverse (take (i + 1) blocks) ≡ block ∷ reverse (take i blocks)
-latest_first blocks i block more here =
-    ap reverse (take_more blocks i block more ∙ ap (λ one. take i blocks ++ one ∷ []) (sym here)) ∙ reverse-append (take i blocks) (block ∷ [])
-
-module _ (blocks : List BlockRecord) (i : ℕ) (block : BlockRecord) (more : i < length blocks) (here : block ≡ get_or blocks i block) (wanted : List ℕ)
-    (gathered whole : Ids)
-    (covers : CoversIds gathered (ids_in (walk (reverse (take (i + 1) blocks)) wanted)) whole) where
-  -- the block is not of the branch
-  pub passed_by : bytes_eq block.id wanted ≡ false → CoversIds gathered (ids_in (walk (reverse (take i blocks)) wanted)) whole
-  passed_by other =
-      let same : walk (reverse (take (i + 1) blocks)) wanted ≡ walk (reverse (take i blocks)) wanted = rw (latest_first blocks i block more here, other) refl in
-      subst (λ (branch : List BlockRecord). CoversIds gathered (ids_in branch) whole) same covers
-
-  -- the block is the next one of the branch
-  pub taken_in : bytes_eq block.id wanted ≡ true → CoversIds (both gathered (batch_ids block.batches))
-      (ids_in (walk (reverse (take i blocks)) block.previous)) whole
-  taken_in it =
-      let rest = walk (reverse (take i blocks)) block.previous in
-      let same : walk (reverse (take (i + 1) blocks)) wanted ≡ rest ++ block ∷ [] = rw (latest_first blocks i block more here, it) refl in
-      let now : CoversIds gathered (both (ids_in rest) (batch_ids block.batches)) whole =
-      subst (λ (left : Ids). CoversIds gathered left whole) (ap ids_in same ∙ ids_push_block rest block) covers in
-      record {
-        batches = covers_more gathered.batches (batch_ids block.batches).batches (ids_in rest).batches whole.batches now.batches;
-        transactions = covers_more gathered.transactions (batch_ids block.batches).transactions (ids_in rest).transactions whole.transactions now.transactions;
-      }
+-- the last block of a branch is gathered
+pub gathers_last : (branch rest : List BlockRecord) (block : BlockRecord) → branch ≡ rest ++ block ∷ [] → (gathered whole : Ids)
+    → CoversIds gathered (ids_in branch) whole → CoversIds (both gathered (batch_ids block.batches)) (ids_in rest) whole
+gathers_last branch rest block cut gathered whole covers =
+    let now : CoversIds gathered (both (ids_in rest) (batch_ids block.batches)) whole =
+    subst (λ (left : Ids). CoversIds gathered left whole) (ap ids_in cut ∙ ids_push_block rest block) covers in
+    record {
+      batches = covers_more gathered.batches (batch_ids block.batches).batches (ids_in rest).batches whole.batches now.batches;
+      transactions = covers_more gathered.transactions (batch_ids block.batches).transactions (ids_in rest).transactions whole.transactions now.transactions;
+    }
 
 pub opens : (whole : Ids) → CoversIds (record { batches = []; transactions = [] }) whole whole
 opens whole = record { batches = none_gathered whole.batches; transactions = none_gathered whole.transactions }
@@ -153,20 +137,3 @@ no_records (batch ∷ batches) (result ∷ results) (inr is) = absurd (grind (ar
 pub ended : (made whole : List BatchRecord) (batches : List BatchShape) (results : List BatchResult) → (batches ≡ []) ⊎ (results ≡ [])
     → made ++ batch_records batches results ≡ whole → made ≡ whole
 ended made whole batches results none known = sym (append-nil made) ∙ ap (λ rest. made ++ rest) (sym (no_records batches results none)) ∙ known
-
--- ---- a place of the walk
-
-module _ (blocks : List BlockRecord) (place : ℕ) (block : BlockRecord) (some : 0 < place) (within : place ≤ length blocks)
-    (here : block ≡ get_or blocks (place - 1) block) (wanted : List ℕ) (gathered whole : Ids)
-    (covers : CoversIds gathered (ids_in (walk (reverse (take place blocks)) wanted)) whole) where
-  again : CoversIds gathered (ids_in (walk (reverse (take (place - 1 + 1) blocks)) wanted)) whole
-  again =
-      let same : place ≡ place - 1 + 1 = omega (arith, some) in
-      subst (λ (n : ℕ). CoversIds gathered (ids_in (walk (reverse (take n blocks)) wanted)) whole) same covers
-
-  pub passed_at : bytes_eq block.id wanted ≡ false → CoversIds gathered (ids_in (walk (reverse (take (place - 1) blocks)) wanted)) whole
-  passed_at other = passed_by blocks (place - 1) block (omega (arith, some, within)) here wanted gathered whole again other
-
-  pub taken_at : bytes_eq block.id wanted ≡ true → CoversIds (both gathered (batch_ids block.batches))
-      (ids_in (walk (reverse (take (place - 1) blocks)) block.previous)) whole
-  taken_at it = taken_in blocks (place - 1) block (omega (arith, some, within)) here wanted gathered whole again it

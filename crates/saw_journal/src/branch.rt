@@ -1,6 +1,6 @@
 //! The ids of a branch, gathered by a walk along it.
 
-ghost use Rattle.std.specs.Prelude.{◌≡◌, ◌<◌, ◌++◌, ◌∷◌, [], ℕ, List, length, get_or, map, option_copied, OnOk, IfOk};
+ghost use Rattle.std.specs.Prelude.{◌++◌, ◌∷◌, [], ℕ, List, map, option_copied, OnOk, IfOk};
 ghost use Rattle.indexmap.specs.IndexMap.{values};
 ghost use Rattle.saw_ids.specs.Seen.{HoldsIds};
 ghost use Rattle.saw_receipts.specs.Branches.{batch_ids, branch_of, ids_in};
@@ -11,7 +11,7 @@ ghost use Rattle.saw_plan.specs.SortingSteps.{both};
 use saw_ids::add_id;
 use saw_messages::Receipt;
 use saw_plan::Known;
-use saw_receipts::{BatchRecord, BlockMap, BlockRecord};
+use saw_receipts::{BatchRecord, BlockMap, BlockRecord, BranchWalk};
 use saw_wire::Text;
 use std::alloc::{AllocError, Global};
 use std::collections::BTreeSet;
@@ -50,32 +50,15 @@ fn add_batches(known: &mut Known, alloc: Global, batches: &[BatchRecord]) -> Res
     Ok(())
 }
 
-fn block_in(blocks: &BlockMap, place: usize) -> &BlockRecord
-    requires { place < length (values blocks.now) }
-    ensures { result.now ≡ get_or (values blocks.now) place result.now }
-{
-    match blocks.get_index(place) {
-        Some((_, block)) => block,
-        None => unreachable!(),
-    }
-}
-
 // The ids of the branch that ends with the block of this id.
 fn known_in(alloc: Global, blocks: &BlockMap, id: &Text) -> Result<Known, AllocError>
     ensures { IfOk result (λ known.
         Knows known (ids_in (branch_of (λ block. block) (values blocks.now) id.now))) }
 {
     let mut known = Known::new(alloc);
-    let mut wanted = id;
-    let mut place = blocks.len();
-    while place > 0 {
-        place -= 1;
-        let block = block_in(blocks, place);
-        if block.id != *wanted {
-            continue;
-        }
+    let mut walk = BranchWalk::new(blocks, id);
+    while let Some(block) = walk.next() {
         add_batches(&mut known, alloc, block.batches.as_slice())?;
-        wanted = &block.previous;
     }
     Ok(known)
 }

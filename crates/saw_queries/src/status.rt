@@ -5,8 +5,7 @@ ghost use Rattle.indexmap.specs.IndexMap.{values};
 ghost use Rattle.saw_queries.specs.Queries.{block_with, holds};
 ghost use Rattle.saw_receipts.specs.Branches.{branch_of};
 
-use crate::branch::block_in;
-use saw_receipts::{BlockMap, BlockRecord};
+use saw_receipts::{BlockMap, BlockRecord, BranchWalk};
 use saw_wire::Text;
 
 fn holds(block: &BlockRecord, batch: &Text) -> bool
@@ -16,24 +15,17 @@ fn holds(block: &BlockRecord, batch: &Text) -> bool
 }
 
 /// The block of the branch that ends with `head` that holds the batch. `None`: none does. It takes no memory.
-pub fn status_of<'a>(blocks: &'a BlockMap, head: &Text, batch: &Text) -> Option<&'a BlockRecord>
+pub fn status_of<'a>(blocks: &'a BlockMap, head: &'a Text, batch: &Text) -> Option<&'a BlockRecord>
     ensures { option_copied result
         ≡ block_with batch.now (branch_of (λ block. block) (values blocks.now) head.now) }
 {
     let mut found = None;
-    let mut wanted = head;
-    let mut place = blocks.len();
-    while place > 0 {
-        place -= 1;
-        let block = block_in(blocks, place);
-        if block.id != *wanted {
-            continue;
-        }
+    let mut walk = BranchWalk::new(blocks, head);
+    while let Some(block) = walk.next() {
         // The first block of the branch counts, and it is met last.
         if holds(block, batch) {
             found = Some(block);
         }
-        wanted = &block.previous;
     }
     found
 }

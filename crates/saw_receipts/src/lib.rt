@@ -1,12 +1,14 @@
-//! What is kept and said of blocks: receipts, records and verdicts.
+//! What is kept and said of blocks: receipts, records, verdicts and walks along branches.
 #![tactic(auto)]
 
 mod block;
 mod loss;
 mod receipt;
 mod verdict;
+mod walk;
 
 pub use block::{BatchRecord, BlockMap, BlockRecord, Parent};
 pub use loss::{Loss, LossCause};
 pub use receipt::{batch_receipts, receipt_of};
 pub use verdict::{BlockFault, Verdict};
+pub use walk::BranchWalk;

@@ -1,18 +1,14 @@
-use Rattle.std.proofs.Common.{◌≡◌, ◌≤◌, length}
+use Rattle.std.proofs.Common.{◌≡◌, length}
 use Rattle.std.specs.Option.{option_or}
 use Rattle.std.specs.Prelude.{option_copied}
 use Rattle.indexmap.specs.IndexMap.{values}
 use Rattle.saw_receipts.specs.Branches.{branch_of}
 use Rattle.saw_queries.specs.Queries.{block_with}
-use Rattle.saw_queries.proofs.Walks.{walk}
 use Rattle.saw_queries.proofs.status.status_of.Given as goal
 
-abbrev pub invariant-loop-place : goal.invariant-loop-place
-invariant-loop-place l = record {
-  within : l.place ≤ length (values l.blocks);
-  whole : option_or (block_with l.batch (walk (values l.blocks) l.place l.wanted)) (option_copied l.found)
-      ≡ block_with l.batch (branch_of (λ block. block) (values l.blocks) l.head);
-}
+abbrev pub invariant-loop-block : goal.invariant-loop-block
+invariant-loop-block l = option_or (block_with l.batch l.walk) (option_copied l.found)
+    ≡ block_with l.batch (branch_of (λ block. block) (values l.blocks) l.head)
 
-abbrev pub decreases-loop-place : goal.decreases-loop-place
-decreases-loop-place l = l.place
+abbrev pub decreases-loop-block : goal.decreases-loop-block
+decreases-loop-block l = length l.walk
