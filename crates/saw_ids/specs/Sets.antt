@@ -36,6 +36,10 @@ has (Fork' bit p zero q one) id = if turns id bit then has one id else has zero 
 abbrev pub HasOneMore : Tree → List ℕ → Tree → Type 0
 HasOneMore tree id made = (other : List ℕ) → has made other ≡ (has tree other || bytes_eq id other)
 
+-- the trees have the same ids
+abbrev pub HasSame : Tree → Tree → Type 0
+HasSame tree other = (id : List ℕ) → has other id ≡ has tree id
+
 -- exactly these ids are in the set
 abbrev pub HasIds : IdSet → List (List ℕ) → Type 0
 HasIds set ids = (id : List ℕ) → has set.tree id ≡ is_among ids id

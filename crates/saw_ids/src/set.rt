@@ -1,11 +1,11 @@
 //! Sets of ids of which many may stand side by side: a set with one id more shares all but a few nodes with the set before.
 
-ghost use Rattle.std.specs.Prelude.{◌≡◌, ◌==◌, ◌<◌, ◌++◌, ◌||◌, ◌∷◌, [], ℕ, List, filter, IfOk, true, false};
+ghost use Rattle.std.specs.Prelude.{◌≡◌, ◌==◌, ◌<◌, ◌++◌, ◌||◌, ◌∷◌, [], ℕ, List, filter, IfOk, OnErr, OnOk, true, false};
 ghost use Rattle.saw_ids.specs.Seen.{is_among};
 ghost use Rattle.std.specs.Arc.{arc_value};
 ghost use Rattle.std.specs.List.{list_any};
 ghost use Rattle.std.specs.Str.{bytes_eq};
-ghost use Rattle.saw_ids.specs.Sets.{HasIds, HasOneMore, goes, has, texts_of, turns};
+ghost use Rattle.saw_ids.specs.Sets.{HasIds, HasOneMore, HasSame, goes, has, texts_of, turns};
 
 use saw_wire::{Items, Text};
 use std::alloc::{AllocError, Global};
@@ -159,6 +159,47 @@ fn with(alloc: Global, tree: &Tree, id: &Arc<Text>) -> Result<Tree, AllocError>
     }
 }
 
+// Adds an id in place: nodes that another set shares are made anew, and all others written.
+#[cycle(insertion)]
+fn insert_in(alloc: Global, tree: &mut Tree, id: &Arc<Text>) -> Result<(), AllocError>
+    ensures more { OnOk result (HasOneMore tree.old (arc_value id.now) tree.new) }
+    ensures same { OnErr result (HasSame tree.old tree.new) }
+{
+    match tree {
+        Tree::Few { bit, ids } => {
+            if ids.len() < FEW || *bit >= DEEPEST {
+                ids.push(Arc::try_clone(id)?)
+            } else {
+                let made = few_with(alloc, *bit, ids.as_slice(), id)?;
+                *tree = made;
+                Ok(())
+            }
+        }
+        Tree::Fork { bit, zero, one } => {
+            if turns(id.as_str(), *bit) {
+                insert_below(alloc, one, id)
+            } else {
+                insert_below(alloc, zero, id)
+            }
+        }
+    }
+}
+
+#[cycle(insertion)]
+fn insert_below(alloc: Global, at: &mut Arc<Tree>, id: &Arc<Text>) -> Result<(), AllocError>
+    ensures more { OnOk result (HasOneMore (arc_value at.old) (arc_value id.now) (arc_value at.new)) }
+    ensures same { OnErr result (HasSame (arc_value at.old) (arc_value at.new)) }
+{
+    match Arc::get_mut(at) {
+        Some(tree) => insert_in(alloc, tree, id),
+        None => {
+            let made = with(alloc, at, id)?;
+            *at = Arc::new(alloc, made)?;
+            Ok(())
+        }
+    }
+}
+
 fn share(alloc: Global, tree: &Tree) -> Result<Tree, AllocError>
     ensures { IfOk result (λ made. (id : List ℕ) → has made id ≡ has tree.now id) }
 {
@@ -204,6 +245,17 @@ impl IdSet {
         Ok(IdSet {
             tree: with(alloc, &self.tree, &id)?,
         })
+    }
+
+    /// Adds this id in place, for less than a set beside it where no other shares its nodes. After a fault the ids are those
+    /// of before.
+    pub fn insert(&mut self, alloc: Global, id: &Text) -> Result<(), AllocError>
+        ensures more { OnOk result ((ids : List (List ℕ)) → HasIds self.old ids
+            → HasIds self.new (ids ++ id.now ∷ [])) }
+        ensures same { OnErr result ((ids : List (List ℕ)) → HasIds self.old ids → HasIds self.new ids) }
+    {
+        let id = Arc::new(alloc, id.try_clone(alloc)?)?;
+        insert_in(alloc, &mut self.tree, &id)
     }
 
     /// The same set once more, for a few counts of references.

@@ -6,6 +6,7 @@ ghost use Rattle.saw_intkey.specs.Actions.{RepliesDecide, ReasonsAreOwn, address
 ghost use Rattle.saw_intkey.specs.Payloads.{payload_of};
 ghost use Rattle.saw_intkey.specs.States.{names_of};
 
+use crate::noted::{Noted, note, taken};
 use crate::payload::{Payload, read_payload};
 use crate::state::{change, kept_bytes, read_names};
 use saw_address::Address;
@@ -40,37 +41,77 @@ pub fn address_of(name: &str) -> Address
 pub fn step(alloc: Global, tx: &Tx, talk: &Transcript) -> Result<Action, AllocError>
     ensures { IfOk result (λ action. action ≡ next tx.now.payload talk.now.turns) }
 {
+    let mut noted = None;
+    step_noting(alloc, &mut noted, tx, talk)
+}
+
+/// The same for one who keeps between the turns what was noted. It may be of any turn, or none.
+pub fn step_noting(
+    alloc: Global,
+    noted: &mut Option<Noted>,
+    tx: &Tx,
+    talk: &Transcript,
+) -> Result<Action, AllocError>
+    ensures { IfOk result (λ action. action ≡ next tx.now.payload talk.now.turns) }
+{
     match talk.turns.as_slice() {
-        [] => ask(alloc, tx.payload.as_slice()),
-        [turn] => changing(alloc, tx.payload.as_slice(), &turn.reply),
+        [] => ask(alloc, noted, tx.payload.as_slice()),
+        [turn] => changing(alloc, noted, tx.payload.as_slice(), &turn.reply),
         [_, turn, ..] => Ok(after_set(&turn.reply)),
     }
 }
 
-fn ask(alloc: Global, payload: &[u8]) -> Result<Action, AllocError>
+fn ask(alloc: Global, noted: &mut Option<Noted>, payload: &[u8]) -> Result<Action, AllocError>
     ensures { IfOk result (λ action. action ≡ asked (payload_of payload.now)) }
 {
     match read_payload(alloc, payload)? {
-        Ok(payload) => Action::get(alloc, address_of(payload.name.as_str())),
+        Ok(read) => {
+            let new = note(alloc, payload, read)?;
+            let address = new.address;
+            *noted = Some(new);
+            Action::get(alloc, address)
+        }
         Err(number) => Ok(Action::invalid(number)),
     }
 }
 
-fn changing(alloc: Global, payload: &[u8], reply: &Reply) -> Result<Action, AllocError>
+fn changing(
+    alloc: Global,
+    noted: &mut Option<Noted>,
+    payload: &[u8],
+    reply: &Reply,
+) -> Result<Action, AllocError>
     ensures { IfOk result (λ action. action ≡ changing (payload_of payload.now) reply.now) }
 {
+    if let Some(last) = taken(noted, payload) {
+        let Noted {
+            bytes: _,
+            payload,
+            address,
+        } = last;
+        return after_get(alloc, payload, address, reply);
+    }
     match read_payload(alloc, payload)? {
-        Ok(payload) => after_get(alloc, payload, reply),
+        Ok(read) => {
+            let address = address_of(read.name.as_str());
+            after_get(alloc, read, address, reply)
+        }
         Err(number) => Ok(Action::invalid(number)),
     }
 }
 
-fn after_get(alloc: Global, payload: Payload, reply: &Reply) -> Result<Action, AllocError>
+fn after_get(
+    alloc: Global,
+    payload: Payload,
+    address: Address,
+    reply: &Reply,
+) -> Result<Action, AllocError>
+    requires { address ≡ address_of payload.name }
     ensures { IfOk result (λ action. action ≡ after_get payload reply.now) }
 {
     match reply {
         Reply::Entries(bodies) => match bodies.as_slice() {
-            [body] => changed_in(alloc, payload, body.as_slice()),
+            [body] => changed_in(alloc, payload, address, body.as_slice()),
             _ => Ok(Action::invalid(REFUSED)),
         },
         Reply::Done => Ok(Action::invalid(REFUSED)),
@@ -78,13 +119,18 @@ fn after_get(alloc: Global, payload: Payload, reply: &Reply) -> Result<Action, A
     }
 }
 
-fn changed_in(alloc: Global, payload: Payload, body: &[u8]) -> Result<Action, AllocError>
+fn changed_in(
+    alloc: Global,
+    payload: Payload,
+    address: Address,
+    body: &[u8],
+) -> Result<Action, AllocError>
+    requires { address ≡ address_of payload.name }
     ensures { IfOk result (λ action. action ≡ changed_in payload (names_of body.now)) }
 {
     let Some(names) = read_names(alloc, body)? else {
         return Ok(Action::invalid(BAD_STATE));
     };
-    let address = address_of(payload.name.as_str());
     match change(payload, names)? {
         Ok(names) => Action::set(alloc, address, kept_bytes(alloc, names)?),
         Err(number) => Ok(Action::invalid(number)),

@@ -4,9 +4,11 @@
 mod action;
 mod item;
 mod laws;
+mod noted;
 mod payload;
 mod state;
 
-pub use action::{address_of, reasons_are_own, replies_decide, serves, step};
+pub use action::{address_of, reasons_are_own, replies_decide, serves, step, step_noting};
 pub use laws::{kept_is_read, payload_is_read};
+pub use noted::Noted;
 pub use payload::{Payload, Verb, encode_payload};

@@ -1,6 +1,6 @@
 //! The ids of a branch, kept so that those of a longer branch share with them.
 
-ghost use Rattle.std.specs.Prelude.{◌≡◌, ◌<◌, ◌++◌, ◌∷◌, [], ℕ, List, get_or, length, map, string_bytes, IfOk};
+ghost use Rattle.std.specs.Prelude.{◌≡◌, ◌<◌, ◌++◌, ◌∷◌, [], ℕ, List, get_or, length, map, string_bytes, IfOk, OnOk};
 ghost use Rattle.indexmap.specs.IndexMap.{keys, values};
 ghost use Rattle.saw_ids.specs.Sets.{HasIds};
 ghost use Rattle.saw_receipts.specs.Branches.{batch_ids, branch_of, ids_in};
@@ -36,15 +36,14 @@ impl KnownIds for BranchIds {
     }
 }
 
-fn with_receipts(alloc: Global, ids: &IdSet, receipts: &[Receipt]) -> Result<IdSet, AllocError>
-    ensures { IfOk result (λ made. (there : List (List ℕ)) → HasIds ids.now there
-        → HasIds made (there ++ map (λ receipt. receipt.transaction_id) receipts.now)) }
+fn insert_receipts(alloc: Global, ids: &mut IdSet, receipts: &[Receipt]) -> Result<(), AllocError>
+    ensures { OnOk result ((there : List (List ℕ)) → HasIds ids.old there
+        → HasIds ids.new (there ++ map (λ receipt. receipt.transaction_id) receipts.now)) }
 {
-    let mut made = ids.try_share(alloc)?;
     for receipt in receipts {
-        made = made.with(alloc, &receipt.transaction_id)?;
+        ids.insert(alloc, &receipt.transaction_id)?;
     }
-    Ok(made)
+    Ok(())
 }
 
 impl BranchIds {
@@ -68,16 +67,14 @@ impl BranchIds {
         })
     }
 
-    fn with_batch(&self, alloc: Global, batch: &BatchRecord) -> Result<Self, AllocError>
-        ensures { IfOk result (λ made. (there : Ids) → KnowsIds self.now there → KnowsIds made (both there (record {
+    fn insert_batch(&mut self, alloc: Global, batch: &BatchRecord) -> Result<(), AllocError>
+        ensures { OnOk result ((there : Ids) → KnowsIds self.old there → KnowsIds self.new (both there (record {
           batches = batch.now.id ∷ [];
           transactions = map (λ receipt. receipt.transaction_id) batch.now.receipts;
         }))) }
     {
-        Ok(BranchIds {
-            batches: self.batches.with(alloc, &batch.id)?,
-            transactions: with_receipts(alloc, &self.transactions, batch.receipts.as_slice())?,
-        })
+        self.batches.insert(alloc, &batch.id)?;
+        insert_receipts(alloc, &mut self.transactions, batch.receipts.as_slice())
     }
 
     /// These ids and those of batches.
@@ -91,7 +88,7 @@ impl BranchIds {
     {
         let mut made = self.try_share(alloc)?;
         for batch in batches {
-            made = made.with_batch(alloc, batch)?;
+            made.insert_batch(alloc, batch)?;
         }
         Ok(made)
     }

@@ -121,7 +121,7 @@ fn speak<R: Station, B: Base>(
         → Rose (faults_by R.faults desk.old.remote) (faults_by R.faults desk.new.remote) }
 {
     match served {
-        Served::BuiltIn => converse(alloc, &mut BuiltIn, tx, context),
+        Served::BuiltIn => converse(alloc, &mut BuiltIn::new(), tx, context),
         Served::Remote => match &mut desk.remote {
             Some(remote) => converse(alloc, remote, tx, context),
             None => unreachable!(),

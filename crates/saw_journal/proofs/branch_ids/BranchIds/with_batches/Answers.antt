@@ -12,8 +12,8 @@ pub loop-batch-preserved : goal.loop-batch-preserved
 loop-batch-preserved c = λ there knows.
     let at = c.loop-batch.batch-index in
     let batches = c.args.batches.now in
-    subst (λ (ids : Ids). KnowsIds c.in_ok-made-2.made ids) (batch_ids_more batches at c.batch-item.result c.loop-batch-test.true c.batch-item.is there)
-    (c.in_ok-made-2.ensures (both there (batch_ids (take at batches))) (c.loop-batch.invariant there knows))
+    subst (λ (ids : Ids). KnowsIds c.insert_batch.new.self ids) (batch_ids_more batches at c.batch-item.result c.loop-batch-test.true c.batch-item.is there)
+    (c.in_ok-insert_batch.ensures (both there (batch_ids (take at batches))) (c.loop-batch.invariant there knows))
 
 pub returns : goal.returns
 returns c = λ there knows.

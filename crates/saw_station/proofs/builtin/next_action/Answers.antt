@@ -4,7 +4,7 @@ use Rattle.saw_messages.specs.declared.talk.Turn.{Turn}
 use Rattle.saw_settings.proofs.Reasons.{each_action}
 use Rattle.saw_settings.specs.Actions.{next}
 use Rattle.saw_station.specs.TalkSteps.{IsShort}
-use Rattle.saw_station.proofs.builtin.built_in_action.Goals as goal
+use Rattle.saw_station.proofs.builtin.next_action.Goals as goal
 
 one_fits : 1 < 2 ^ 32
 one_fits = omega arith
