@@ -34,11 +34,7 @@ fn next_action(
 }
 
 /// The next action by the processor of the transaction's family. A family that is not built in is refused.
-pub fn built_in_action(
-    alloc: Global,
-    tx: &Tx,
-    talk: &Transcript,
-) -> Result<Action, AllocError>
+pub fn built_in_action(alloc: Global, tx: &Tx, talk: &Transcript) -> Result<Action, AllocError>
     ensures told { IfOk result (λ action. action ≡ built_in_next tx.now talk.now.turns) }
     ensures short { IfOk result IsShort }
 {
