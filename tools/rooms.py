@@ -1,7 +1,8 @@
 """Makes the cases of long batch lists of saw_cases: batches that find no room, and lists that are too long.
 
 Written apart from the validator, from the public formats alone, so its answers are expected values. What is long is
-zeros: `zeros` beside a case has two numbers for each run of them, one a line, a place in the stored list and how many.
+zeros or a part that comes again and again. `zeros` beside a case has two numbers for each run of zeros, one a line: a
+place in the stored list and how many. `repeats` has three: where a part begins and ends there, and how often it stands.
 Usage: python3 tools/rooms.py crates/saw_cases/data/cases
 """
 
@@ -15,6 +16,7 @@ from generator import KEY, batch_of, block_of, grown, mark
 
 LONGEST_LIST = 16777216
 ROOM = 12582912
+MOST_TRANSACTIONS = 20000
 
 
 def transaction(payload, nonce):
@@ -22,6 +24,12 @@ def transaction(payload, nonce):
     at = address("a")
     header = record(1, KEY) + record(3, "intkey") + record(4, "1.0") + record(5, at)
     header += record(6, nonce) + record(7, at) + record(9, sha512(payload)) + record(10, KEY)
+    return mark(header), record(1, header) + record(2, mark(header)) + record(3, payload)
+
+
+def short_transaction(payload):
+    """The same of one that declares no address."""
+    header = record(1, KEY) + record(3, "intkey") + record(4, "1.0") + record(9, sha512(payload)) + record(10, KEY)
     return mark(header), record(1, header) + record(2, mark(header)) + record(3, payload)
 
 
@@ -44,17 +52,41 @@ def sized(size, nonce):
     return made
 
 
-def put(folder, case, content, output, notes, status):
-    """Stores a case. Runs of zeros in the list are cut out."""
+def without_zeros(content):
+    """The bytes without their long runs of zeros, and where these stand."""
     runs, stored, done = [], b"", 0
     for run in re.finditer(rb"\0{1000,}", content):
         stored += content[done : run.start()]
         runs += [len(stored), len(run.group())]
         done = run.end()
-    stored += content[done:]
+    return stored + content[done:], runs
+
+
+def without_repeats(content, parts):
+    """The bytes in which these parts stand once, in this order, where they come again and again; and where they stand."""
+    repeats, stored, done = [], b"", 0
+    for part in parts:
+        run = re.compile(b"(?:" + re.escape(part) + b"){100,}").search(content, done)
+        stored += content[done : run.start()]
+        repeats += [len(stored), len(stored) + len(part), len(run.group()) // len(part)]
+        stored += part
+        done = run.end()
+    return stored + content[done:], repeats
+
+
+def zeros_of(count):
+    """A batch of so many transactions, whose payloads are zeros, each more of them."""
+    return batch_of([short_transaction(bytes(more)) for more in range(2, count + 2)])
+
+
+def put(folder, case, content, output, notes, status, again=()):
+    """Stores a case. Runs of zeros in the list are cut out, and the parts that come again stand once."""
+    once, repeats = without_repeats(content, again)
+    stored, runs = without_zeros(once)
     os.makedirs(f"{folder}/{case}/files", exist_ok=True)
     parts = {"files/list": stored, "stdin": b"", "stdout": output, "words": b"publish\n--batches\nlist\n"}
-    parts |= {"zeros": "".join(f"{number}\n" for number in runs).encode()}
+    for name, numbers in ("zeros", runs), ("repeats", repeats):
+        parts |= {name: "".join(f"{number}\n" for number in numbers).encode()} if numbers else {}
     parts |= {"stderr": notes.encode(), "status": f"{status}\n".encode()}
     for name, part in parts.items():
         with open(f"{folder}/{case}/{name}", "wb") as file:
@@ -84,6 +116,15 @@ def main():
     put(folder, "publish-room-filled", listed([sized(rest, "first"), small]), output, early, 0)
     full = [sized(rest + 1, "first"), small]
     put(folder, "publish-room-one-byte-short", listed(full), b"", early + "batch 1 dropped room\n", 1)
+    # A batch that comes again and again takes their room, though only its first is run: one more transaction finds room,
+    # and the next none.
+    again, filling = zeros_of(20), zeros_of(19)
+    often = (MOST_TRANSACTIONS - 20) // 20
+    last, late = batch(set_to(5), "last"), batch(set_to(6), "late")
+    notes = early + "".join(f"batch {place} dropped static 1\n" for place in range(1, often))
+    notes += f"batch {often} dropped static 2 0\nbatch {often + 2} dropped room\n"
+    batches = listed([again] * often + [filling, last, late])
+    put(folder, "publish-no-room-for-transactions", batches, first_block([last], {"a": 5}), notes, 0, [listed([again])])
     put(folder, "publish-list-too-long", bytes(LONGEST_LIST + 1), b"", "fault 11 toolong\n", 11)
     put(folder, "publish-list-longest", bytes(LONGEST_LIST), b"", "fault 11 badlist\n", 11)
 

@@ -80,15 +80,42 @@ fn with_zeros(alloc: Global, bytes: &[u8], runs: &[u64]) -> Result<Vec<u8>, Allo
     Ok(out)
 }
 
+fn put_again(out: &mut Vec<u8>, part: &[u8], count: u64) -> Result<(), AllocError> {
+    for _ in 0..count {
+        out.extend_from_slice(part)?;
+    }
+    Ok(())
+}
+
+/// The bytes with parts of them again and again: of each three numbers the first two are the places in the bytes where a
+/// part begins and ends, and the third how often it stands there.
+fn with_repeats(alloc: Global, bytes: &[u8], parts: &[u64]) -> Result<Vec<u8>, AllocError> {
+    let mut out = Vec::new(alloc);
+    let mut done = 0;
+    for part in parts.chunks_exact(3) {
+        if let [from, to, count] = part {
+            let from = *from as usize;
+            let to = *to as usize;
+            out.extend_from_slice(bytes.get(done..from).unwrap_or(&[]))?;
+            put_again(&mut out, bytes.get(from..to).unwrap_or(&[]), *count)?;
+            done = to;
+        }
+    }
+    out.extend_from_slice(bytes.get(done..).unwrap_or(&[]))?;
+    Ok(out)
+}
+
 /// The files of a case that its words name.
 fn files_of(rt: &HostRuntime, case: &str, words: &[String]) -> io::Result<BTreeMap<Text, Vec<u8>>> {
     let alloc = rt.alloc();
+    let repeats = numbers_of(rt, case, "repeats")?;
     let zeros = numbers_of(rt, case, "zeros")?;
     let mut files = BTreeMap::new(alloc);
     for word in words {
         let name = named(word.as_str());
         let path = format!(in alloc; "cases/{case}/files/{name}")?;
         if let Some(bytes) = bytes_of(rt, path.as_str())? {
+            let bytes = with_repeats(alloc, &bytes, &repeats)?;
             let bytes = with_zeros(alloc, &bytes, &zeros)?;
             let _ = files.insert(Text::from_str(alloc, name)?, bytes)?;
         }

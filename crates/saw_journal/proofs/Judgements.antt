@@ -20,9 +20,9 @@ use Rattle.saw_plan.specs.BatchShapes.{txs_of}
 use Rattle.saw_receipts.specs.declared.block.BlockRecord.{BlockRecord}
 use Rattle.saw_receipts.specs.declared.verdict.BlockFault.{BlockFault}
 use Rattle.saw_receipts.specs.declared.verdict.BlockFault.TheVariants.{Structure}
-use Rattle.saw_journal.specs.BlockFaults.{early_fault, ids_before, parent_of, place_tests, static_fault}
+use Rattle.saw_journal.specs.BlockFaults.{early_fault, failure_fault, ids_before, parent_of, place_tests, static_fault}
 use Rattle.saw_journal.specs.BlockShapes.{parts_in}
-use Rattle.saw_journal.specs.Judgement.{Kept, judged, judged_parts, kept_of, rules_with, unless, unless_early, would_leave}
+use Rattle.saw_journal.specs.Judgement.{Kept, judged, judged_parts, kept_of, rules_with, some_unless, unless, would_leave}
 use Rattle.saw_receipts.specs.Running.{Runs}
 use Rattle.saw_journal.specs.Ledger.{map_under}
 use Rattle.saw_receipts.specs.Running.{RunsBy}
@@ -100,17 +100,18 @@ module _ (processors : Processors) (own : (tx : TxShape) (turns : List Turn) →
         may_here results may = is_or_here processors own before txs results
             (subst (λ (m : StateMap). MayComeOfAll processors m txs results) (sym same) may)
 
-        -- the map that the block would leave with these results
-        leaves : (results : List BatchResult)
+        -- the map that the block would leave with these results, if none fails
+        leaves : (results : List BatchResult) → failure_fault results ≡ None
             → would_leave (rules_with hash accepts (or_here processors before txs results)) (map_under states) blocks content
             ≡ Some (left_after (map_at states at) results)
-        leaves results =
+        leaves results fine =
             let runs = or_here processors before txs results in
             let early : early_fault blocks (parts_in checked) ≡ None = ap (λ first. first <|> static_fault (ids_before blocks checked.header) checked.batches)
             placed ∙ whole in
             left_is accepts hash runs (map_under states) blocks content checked sound of
-            ∙ ap (λ found. unless_early found (left_after before (runs before txs))) early
-            ∙ ap (λ results. Some (left_after before results)) (here_are processors before txs results)
+            ∙ ap (λ found. some_unless (found <|> failure_fault (runs before txs)) (left_after before (runs before txs))) early
+            ∙ ap (λ results. some_unless (failure_fault results) (left_after before results)) (here_are processors before txs results)
+            ∙ ap (λ found. some_unless found (left_after before results)) fine
             ∙ ap (λ m. Some (left_after m results)) same
 
         came : (results : List BatchResult) (found : Option BlockFault) → HasRun processors hash states at (parts_in checked) results found
@@ -136,7 +137,7 @@ module _ (processors : Processors) (own : (tx : TxShape) (turns : List Turn) →
         by_results (Err (Failed (faults.Collision kept given))) is = (
           or_here processors before txs is.0,
           may_here is.0 is.1,
-          record { left = left_after (map_at states at) is.0; left_is = leaves is.0; clash = is.3 },
+          record { left = left_after (map_at states at) is.0; left_is = leaves is.0 is.2; clash = is.3 },
         )
         by_results (Err (Failed faults.Full)) is = tt
         by_results (Err (Failed faults.PeerFailed)) is = tt

@@ -14,7 +14,7 @@ use Rattle.saw_receipts.specs.declared.verdict.BlockFault.{BlockFault}
 use Rattle.saw_receipts.specs.declared.verdict.BlockFault.TheVariants.{BatchInvalid, BlockNumber, Consensus, GenesisAgain, Known, PreviousUnknown}
 use Rattle.saw_receipts.specs.declared.verdict.BlockFault.TheVariants.{Root, Structure}
 use Rattle.saw_journal.specs.BlockFaults.{early_fault, failure_fault, fault_by, first_dropped, ids_before, parent_of, place_tests, static_fault}
-use Rattle.saw_journal.specs.Judgement.{Kept, Rules, judged, kept_of, unless, unless_early, would_leave}
+use Rattle.saw_journal.specs.Judgement.{Kept, Rules, judged, kept_of, some_unless, unless, would_leave}
 use Rattle.saw_journal.specs.Left.{KeptIsLeft}
 use Rattle.saw_journal.proofs.FromBytes.{HasParts, from_bytes}
 use Rattle.saw_journal.proofs.Judging.{unless_ok}
@@ -64,13 +64,15 @@ module _ (rules : Rules) (map_behind : Option BlockRecord → StateMap) (blocks 
   abbrev results : List BatchResult
   results = rules.runs before (txs_of has.parts.batches)
 
-  -- what its batches leave, where no test before them has a fault
+  -- what its batches leave, where no test but that of its root has a fault
   leaves : first_of (place_tests blocks has.parts.id has.parts.header) ≡ None → static_fault (ids_before blocks has.parts.header) has.parts.batches ≡ None
-      → would_leave rules map_behind blocks content ≡ Some (left_after before results)
-  leaves placed whole =
+      → failure_fault results ≡ None → would_leave rules map_behind blocks content ≡ Some (left_after before results)
+  leaves placed whole fine =
       let early : early_fault blocks has.parts ≡ None = ap (λ first. first <|> static_fault (ids_before blocks has.parts.header) has.parts.batches)
       placed ∙ whole in
-      has.leaves map_behind blocks ∙ ap (λ found. unless_early found (left_after before results)) early
+      has.leaves map_behind blocks
+      ∙ ap (λ found. some_unless (found <|> failure_fault results) (left_after before results)) early
+      ∙ ap (λ found. some_unless found (left_after before results)) fine
 
   fine_left : (kept : Kept) → judged rules map_behind blocks content ≡ Ok kept → would_leave rules map_behind blocks content ≡ Some kept.left
   fine_left kept fine =
@@ -78,7 +80,8 @@ module _ (rules : Rules) (map_behind : Option BlockRecord → StateMap) (blocks 
       (sym (has.judged_as map_behind blocks) ∙ fine) in
       let placed = neither (first_of (place_tests blocks has.parts.id has.parts.header)) _ split.0 in
       let whole = neither (static_fault (ids_before blocks has.parts.header) has.parts.batches) _ placed.1 in
-      leaves placed.0 whole.0 ∙ ap (λ (kept : Kept). Some kept.left) split.1
+      let run = neither (failure_fault results) _ whole.1 in
+      leaves placed.0 whole.0 run.0 ∙ ap (λ (kept : Kept). Some kept.left) split.1
 
   root_left : (stated computed : List ℕ) → judged rules map_behind blocks content ≡ Err (Root stated computed)
       → (m : StateMap) × (would_leave rules map_behind blocks content ≡ Some m) × (computed ≡ root_of_map rules.hash m)
@@ -90,7 +93,7 @@ module _ (rules : Rules) (map_behind : Option BlockRecord → StateMap) (blocks 
       let whole = others_none stated computed (static_fault (ids_before blocks has.parts.header) has.parts.batches) _
       (static_other stated computed _) placed.1 in
       let run = others_none stated computed (failure_fault results) _ (failure_other stated computed _) whole.1 in
-      (left_after before results, leaves placed.0 whole.0, root_is stated computed _ _ _ run.1)
+      (left_after before results, leaves placed.0 whole.0 run.0, root_is stated computed _ _ _ run.1)
 
 pub kept_is_left : KeptIsLeft
 kept_is_left rules map_behind blocks content = elim (from_bytes rules content) [

@@ -3,6 +3,7 @@ use Rattle.std.specs.Prelude.{ℕ, Bool, List, [], map, Option, Some, None, Resu
 use Rattle.std.specs.List.{zip}
 use Rattle.saw_address.specs.Maps.{StateMap}
 use Rattle.saw_checks.specs.StructureFaults.{structure_fault}
+use Rattle.saw_checks.specs.Tests.{◌<|>◌}
 use Rattle.saw_checks.specs.declared.fault.StructureFault.{StructureFault}
 use Rattle.saw_checks.specs.declared.fault.StructureFault.TheVariants.{Undecodable}
 use Rattle.saw_context.specs.Serial.{left_after}
@@ -22,7 +23,7 @@ use Rattle.saw_receipts.specs.declared.block.BlockRecord.{BlockRecord}
 use Rattle.saw_receipts.specs.declared.verdict.BlockFault.{BlockFault}
 use Rattle.saw_receipts.specs.declared.verdict.BlockFault.TheVariants.{Structure}
 use Rattle.saw_wire.specs.declared.fault.MessageFault.{MessageFault}
-use Rattle.saw_journal.specs.BlockFaults.{early_fault, fault_by, parent_of}
+use Rattle.saw_journal.specs.BlockFaults.{early_fault, failure_fault, fault_by, parent_of}
 use Rattle.saw_journal.specs.BlockShapes.{Parts, parts_of}
 
 -- what is kept of a block without fault
@@ -96,18 +97,19 @@ unfoldable pub judged : Rules → (Option BlockRecord → StateMap) → List Blo
 judged rules map_behind blocks content =
     judged_unless rules.hash rules.runs map_behind blocks content (structure_fault rules.accepts content)
 
--- ---- the map that a block would leave, also where it is refused then
+-- ---- the map that a block would leave, also where it is refused then for its root
 
-abbrev pub unless_early : {A : Type 0} → Option BlockFault → A → Option A
-unless_early None left = Some left
-unless_early (Some fault) left = None
+abbrev pub some_unless : {A : Type 0} → Option BlockFault → A → Option A
+some_unless None left = Some left
+some_unless (Some fault) left = None
 
 module _ (runs : Runs) (map_behind : Option BlockRecord → StateMap) where
-  -- what its batches leave of the map behind its parent, where its place and the static rules have no fault
+  -- what its batches leave of the map behind its parent, where its place, the static rules and their run have no fault
   abbrev pub left_parts : List BlockRecord → Parts → Option StateMap
   left_parts blocks parts =
       let before = map_behind (parent_of blocks parts.header) in
-      unless_early (early_fault blocks parts) (left_after before (runs before (txs_of parts.batches)))
+      let results = runs before (txs_of parts.batches) in
+      some_unless (early_fault blocks parts <|> failure_fault results) (left_after before results)
 
   abbrev pub left_header : List BlockRecord → Block → Result BlockHeader MessageFault → Option StateMap
   left_header blocks b (Ok header) = left_parts blocks (parts_of b header)
@@ -121,7 +123,7 @@ module _ (runs : Runs) (map_behind : Option BlockRecord → StateMap) where
   left_unless blocks content (Some fault) = None
   left_unless blocks content None = left_block blocks (block content)
 
--- the map that the bytes of a block would leave behind accepted ones: none where its batches are not run
+-- the map that the bytes of a block would leave behind accepted ones: none where its batches are not run or one fails
 unfoldable pub would_leave : Rules → (Option BlockRecord → StateMap) → List BlockRecord → List ℕ → Option StateMap
 would_leave rules map_behind blocks content =
     left_unless rules.runs map_behind blocks content (structure_fault rules.accepts content)

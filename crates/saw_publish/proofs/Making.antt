@@ -4,6 +4,7 @@ use Rattle.std.proofs.lemmas.Bool.{eqb-true, true≢false}
 use Rattle.std.specs.Prelude.{unwrap_or}
 use Rattle.saw_address.specs.Maps.{StateMap, no_entries}
 use Rattle.saw_context.specs.Outcome.{Processors, map_after}
+use Rattle.saw_merkle.specs.Clashes.{IsClashFor}
 use Rattle.saw_merkle.specs.States.{States, map_at, state_at}
 use Rattle.saw_messages.specs.Blocks.{block_header_pieces, block_pieces}
 use Rattle.saw_messages.specs.Reasons.{has_own_reason}
@@ -17,11 +18,14 @@ use Rattle.saw_receipts.proofs.Ways.{by_serial, is_by_serial}
 use Rattle.saw_receipts.specs.Shapes.{batch_in}
 use Rattle.saw_receipts.specs.declared.block.Parent.{Parent}
 use Rattle.saw_receipts.specs.declared.loss.Loss.{Loss}
+use Rattle.saw_store.specs.declared.fault.StoreFault.{StoreFault}
+use Rattle.saw_store.specs.declared.fault.StoreFault.TheVariants as stores
 use Rattle.saw_wire.specs.Writing.{spelled}
 use Rattle.saw_publish.specs.Building.{Answers, Builds, IsPlain, map_before, root_behind}
 use Rattle.saw_publish.specs.Candidates.{Signing, content_of, header_of, header_with, signed_block}
 use Rattle.saw_publish.specs.Drafts.{Draft}
 use Rattle.saw_publish.specs.Fates.{further, losses_from, still_in}
+use Rattle.saw_publish.specs.LowerFaults.{fault_of_store}
 use Rattle.saw_publish.specs.Ran.{IsDraft}
 use Rattle.saw_publish.specs.Room.{encoded}
 use Rattle.saw_publish.specs.declared.fault.PublishFault.{PublishFault}
@@ -71,6 +75,16 @@ module _ (hash : List ℕ → List ℕ) (signing : Signing) (states : States) (p
         told.2 ∙ ap (losses_from 0) is.fates,
       )
 
+  some_applied : ((ids ≡ []) → ⊥) → 0 < length draft.applied
+  some_applied some = length_some draft.applied (λ none. some (applied_ids ∙ ap (map (λ (batch : Batch). batch.header_signature)) none))
+
+  -- two nodes clash, of which one is of the map that those that are leave
+  pub made_clash : ((ids ≡ []) → ⊥) → (fault : StoreFault) → IsClashFor hash states (map_after before ran.changes) fault
+      → Answers hash signing states parent draft (Err (fault_of_store fault))
+  made_clash some (stores.Collision kept given) clash =
+      (some_applied some, subst (λ (m : StateMap). IsClashFor hash states m (stores.Collision kept given)) is.left clash)
+  made_clash some stores.OutOfMemory clash = tt
+
   -- the block of those that are
   pub made_block : ((ids ≡ []) → ⊥) → (root : List ℕ) → root ≡ root_of_map hash (map_after before ran.changes) → (header : BlockHeader)
       → header ≡ header_with signing.key parent ids root → (bytes : List ℕ) → bytes ≡ spelled (block_header_pieces header) → (sig : List ℕ)
@@ -84,7 +98,7 @@ module _ (hash : List ℕ → List ℕ) (signing : Signing) (states : States) (p
       bytes_are ∙ ap (λ header. spelled (block_header_pieces header)) (header_is
       ∙ ap (λ ids. header_with signing.key parent ids root) applied_ids
       ∙ ap (header_of signing.key parent draft.applied) (root_is ∙ ap (root_of_map hash) is.left)) in (
-        length_some draft.applied (λ none. some (applied_ids ∙ ap (map (λ (batch : Batch). batch.header_signature)) none)),
+        some_applied some,
         written is.roomy signing.signature is.encodings sig_is
             ∙ ap (λ applied. spelled (block_pieces (signed_block signing.signature bytes applied))) is.applied
             ∙ ap (λ bytes. spelled (block_pieces (signed_block signing.signature bytes draft.applied))) said,

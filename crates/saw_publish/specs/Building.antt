@@ -28,13 +28,13 @@ root_behind hash None = root_of_map hash no_entries
 root_behind hash (Some parent) = parent.root
 
 module _ (hash : List ℕ → List ℕ) (signing : Signing) (states : States) (parent : Option Parent) where
-  -- what is answered with this draft: its block, if a batch is applied, else that none is, with all losses; or two nodes
-  -- that clash, of which one is of the map that it leaves
+  -- what is answered with this draft: its block, if a batch is applied, else that none is, with all losses; or, if one is,
+  -- two nodes that clash, of which one is of the map that it leaves
   abbrev pub Answers : Draft → Result Candidate PublishFault → Type 0
   Answers draft (Ok made) =
       (0 < length draft.applied) × (made.block.items ≡ content_of hash signing parent draft) × (made.dropped ≡ losses_from 0 draft.fates)
   Answers draft (Err (faults.NothingValid dropped)) = (draft.applied ≡ []) × (dropped ≡ losses_from 0 draft.fates)
-  Answers draft (Err (faults.Collision kept given)) = IsClashFor hash states draft.left (Collision kept given)
+  Answers draft (Err (faults.Collision kept given)) = (0 < length draft.applied) × IsClashFor hash states draft.left (Collision kept given)
   Answers draft (Err fault) = ⊤
 
   module _ (processors : Processors) (accepts : List ℕ → List ℕ → List ℕ → Bool) (there : Ids) (batches : List Batch) where

@@ -15,7 +15,7 @@ fn holds(block: &BlockRecord, batch: &Text) -> bool
 }
 
 /// The block of the branch that ends with `head` that holds the batch. `None`: none does. It takes no memory.
-pub fn status_of<'a>(blocks: &'a BlockMap, head: &'a Text, batch: &Text) -> Option<&'a BlockRecord>
+pub fn status_of<'a>(blocks: &'a BlockMap, head: &Text, batch: &Text) -> Option<&'a BlockRecord>
     ensures { option_copied result
         ≡ block_with batch.now (branch_of (λ block. block) (values blocks.now) head.now) }
 {

@@ -11,13 +11,13 @@ use std::marker::Model;
 /// A walk along a branch, from its last block to its first. It is seen as what is still to come of the branch, its first
 /// block first.
 #[derive(Drop)]
-pub struct BranchWalk<'a> {
+pub struct BranchWalk<'a: 'id, 'id> {
     blocks: &'a BlockMap,
-    wanted: &'a Text,
+    wanted: &'id Text,
     place: usize,
 }
 
-impl<'a> Model for BranchWalk<'a> {
+impl<'a: 'id, 'id> Model for BranchWalk<'a, 'id> {
     ghost use Rattle.std.specs.Prelude.{◌≤◌, List, length};
     ghost use Rattle.indexmap.specs.IndexMap.{values};
     ghost use Rattle.saw_receipts.specs.declared.block.BlockRecord.{BlockRecord};
@@ -41,9 +41,9 @@ fn block_in(blocks: &BlockMap, place: usize) -> &BlockRecord
     }
 }
 
-impl<'a> BranchWalk<'a> {
+impl<'a: 'id, 'id> BranchWalk<'a, 'id> {
     /// The walk along the branch that ends with the block of this id.
-    pub fn new(blocks: &'a BlockMap, last: &'a Text) -> Self
+    pub fn new(blocks: &'a BlockMap, last: &'id Text) -> Self
         ensures { result ≡ branch_of (λ block. block) (values blocks.now) last.now }
     {
         BranchWalk {

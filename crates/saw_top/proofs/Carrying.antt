@@ -13,13 +13,14 @@ use Rattle.saw_top.specs.Answers.{Prepared, answer_for, prepared}
 use Rattle.saw_generate.specs.Streams.{stream}
 use Rattle.saw_generate.specs.declared.wish.GenerateWish.{GenerateWish}
 use Rattle.saw_top.specs.Command.{Asked, Generate, Judge, Wish}
-use Rattle.saw_top.specs.Headline.{Carries, CarriesOut, Does, EndsBy, GoesOn, HasCause, HasFault, Shows, WritesBy}
+use Rattle.saw_top.specs.Headline.{Carries, CarriesOut, Does, EndsBy, GoesOn, HasCause, HasFault, Shows, TellsFirst, WritesBy}
 use Rattle.saw_top.specs.History.{ended, history}
 use Rattle.saw_top.specs.Outside.{AreLater, End, Outside, SomeRose, sides, sides_of}
 use Rattle.saw_top.specs.Run.{faulty, noted_by, written_by}
 use Rattle.saw_top.specs.Vouching.{ComesBy, Prepares, prepared_in}
 use Rattle.saw_top.specs.Telling.{IsTold}
 use Rattle.saw_top.specs.World.{Accepts, World, world_with}
+use Rattle.saw_top.specs.declared.task.Lines.{Lines}
 use Rattle.saw_top.specs.declared.task.Lines.TheVariants.{All, Refused}
 use Rattle.saw_top.specs.declared.task.Task.{Task}
 use Rattle.saw_top.proofs.Counting.{later_on, later_same, rose_since_later}
@@ -60,6 +61,11 @@ whole : (fault : RunFault) (old told : Option (List ℕ)) (bytes : List ℕ) (le
     → HasFault (faulty fault) bytes left (sides old old told told) fault
 whole fault old told bytes left = (record { output = Appends-nil old; notes = Appends-nil told; code = refl }, refl)
 
+-- nothing was written
+untouched : (lines : Lines) (old told : Option (List ℕ)) (noted : List ℕ) → TellsFirst lines noted (sides old old told told)
+untouched All old told noted = tt
+untouched Refused old told noted = inl refl
+
 module _ (processors : Processors) (before : Outside) (held : End Files) (counts : List ℕ) where
   -- only the shelf and the processors elsewhere were asked
   abbrev still : Outside
@@ -80,14 +86,18 @@ module _ (processors : Processors) (before : Outside) (held : End Files) (counts
     where
       here : (first : Option (List ℕ))
           → IfSome first (λ bytes. IsTold processors ready bytes
-          → Shows (answer_for processors task ready bytes) bytes first (sides_of before still) came)
+          → Shows (answer_for processors task ready bytes) bytes first (sides_of before still) came
+          × TellsFirst task.lines (answer_for processors task ready bytes).noted (sides_of before still))
       here None = tt
-      here (Some bytes) = λ told. record {
-        output = no_front (answer_for processors task ready bytes).output before.output.tells;
-        notes = no_front (answer_for processors task ready bytes).noted before.notes.tells;
-        prompt = begun processors bytes before.output.tells before.notes.tells task ready;
-        ends = ends bytes (Some bytes);
-      }
+      here (Some bytes) = λ told. (
+        record {
+          output = no_front (answer_for processors task ready bytes).output before.output.tells;
+          notes = no_front (answer_for processors task ready bytes).noted before.notes.tells;
+          prompt = begun processors bytes before.output.tells before.notes.tells task ready;
+          ends = ends bytes (Some bytes);
+        },
+        untouched task.lines before.output.tells before.notes.tells (answer_for processors task ready bytes).noted,
+      )
 
   -- words or a list have a fault
   faulted : (task : Task) (fault : RunFault) → HasCause processors task (Err fault) before still (Err fault)

@@ -23,7 +23,7 @@ use Rattle.saw_report.specs.declared.run_fault.RunFault.{RunFault}
 use Rattle.saw_top.specs.Answers.{Prepared, ready_with}
 use Rattle.saw_top.specs.Clashing.{ClashIn, TellsAlike}
 use Rattle.saw_top.specs.Ends.{ClashesAt, Finishes, IsOfEnd, WritesBy, WritesEnd, draft_in, end_at, plain_end}
-use Rattle.saw_top.specs.Publishing.{Waiting, candidate_status, candidate_text, draft_at, losses_text, parent_at}
+use Rattle.saw_top.specs.Publishing.{Waiting, candidate_status, candidate_text, draft_at, losses_text, map_left, parent_at}
 use Rattle.saw_publish.specs.Building.{map_before}
 use Rattle.saw_publish.specs.Candidates.{Signing}
 use Rattle.saw_publish.specs.Drafts.{Draft, draft_of}
@@ -31,7 +31,7 @@ use Rattle.saw_receipts.specs.Branches.{ids_in}
 use Rattle.saw_messages.specs.declared.batch.Batch.{Batch as BatchMessage}
 use Rattle.saw_address.specs.Maps.{StateMap}
 use Rattle.saw_top.specs.EndingFaults.{IsOfStream}
-use Rattle.saw_top.specs.Headline.{Does, EndsBy, GoesOn, HasCause, HasFault, IsDone, KeepsUp, MeetsClash, MeetsClashBehind, Shows}
+use Rattle.saw_top.specs.Headline.{Does, EndsBy, GoesOn, HasCause, HasFault, IsDone, KeepsUp, MeetsClash, MeetsClashBehind, Shows, TellsFirst}
 use Rattle.saw_top.specs.History.{History, map_behind, records_of, some_refused}
 use Rattle.saw_top.specs.StreamJudging.{JudgesFor}
 use Rattle.saw_top.specs.StreamJudging.{IsPrompt, IsUpToDate, Judges, JudgesAll, JudgesBy, JudgesTo, StopsAtClash}
@@ -329,7 +329,7 @@ end_same rules waiting lines Candidate bytes left first others refused ledger ju
       output = candidate_text rules.hash waiting.signing (parent_at blocks) draft;
       noted = losses_text draft;
       status = candidate_status some draft;
-      made = Some draft.left;
+      made = map_left draft;
     } in
     ap (end (records_of accepted) (some_refused (run_of rules bytes).said)) (same_draft rules accepted ledger judged.after waiting.batches)
     ∙ ap (λ (blocks : List BlockRecord). end blocks (some_refused (run_of rules bytes).said) (draft_in rules ledger waiting.batches)) (sym judged.after.blocks)
@@ -358,6 +358,22 @@ either_side : (lines : Lines) (before after : Outside) → Rose (lines_side line
     → Rose before.output.faults after.output.faults ⊎ Rose before.notes.faults after.notes.faults
 either_side All before after rose = inl rose
 either_side Refused before after rose = inr rose
+
+-- nothing was written yet
+unwritten : (lines : Lines) (before after : Outside) → other_side lines after ≡ other_side lines before → (noted : List ℕ)
+    → TellsFirst lines noted (sides_of before after)
+unwritten All before after aside noted = tt
+unwritten Refused before after aside noted = inl (ap (λ (e : End (List ℕ)). e.tells) aside)
+
+-- all was told before anything was written
+told_first : (lines : Lines) (before middle : Outside) → other_side lines middle ≡ other_side lines before → (out told : End (List ℕ))
+    (noted on_notes more : List ℕ) → noted ≡ on_notes ++ more → Appends before.notes.tells middle.notes.tells on_notes
+    → (out.tells ≡ middle.output.tells) ⊎ Appends middle.notes.tells told.tells more
+    → TellsFirst lines noted (sides_of before (record middle { output = out; notes = told }))
+told_first All before middle aside out told noted on_notes more is first order = tt
+told_first Refused before middle aside out told noted on_notes more is first (inl same) = inl (same ∙ ap (λ (e : End (List ℕ)). e.tells) aside)
+told_first Refused before middle aside out told noted on_notes more is first (inr wrote) =
+    inr (subst (Appends before.notes.tells told.tells) (sym is) (Appends-trans before.notes.tells middle.notes.tells told.tells on_notes more first wrote))
 
 both_none : (first others : List ℕ) → first ≡ [] → others ≡ [] → first ++ others ≡ []
 both_none first others none nothing = rw (none, nothing) refl
@@ -390,6 +406,7 @@ module _ (processors : Processors) (task : Task) (accepts : Accepts) (signing : 
   abbrev ShownTo : Outside → Result ℕ RunFault → List ℕ → Type 0
   ShownTo after came bytes = IsTold processors (Ok ready) bytes
       → Shows (task_answer rules ready.waiting task bytes) bytes after.input.tells (sides_of before after) came
+      × TellsFirst task.lines (task_answer rules ready.waiting task bytes).noted (sides_of before after)
 
   module _ (middle : Outside) (ledger : Ledger) where
     abbrev JudgedBy : Result Bool RunFault → List ℕ → Type 0
@@ -401,7 +418,8 @@ module _ (processors : Processors) (task : Task) (accepts : Accepts) (signing : 
         → IfSome first (λ bytes. tell_stream processors bytes ≡ true → JudgedBy result bytes)
         → ((bytes : List ℕ) → Judges rules task.lines bytes middle.input.tells (lines_side task.lines before).tells
         (lines_side task.lines middle).tells ledger result
-        → Shows (task_answer rules ready.waiting task bytes) bytes after.input.tells (sides_of before after) came) → IfSome first (ShownTo after came)
+        → Shows (task_answer rules ready.waiting task bytes) bytes after.input.tells (sides_of before after) came
+        × TellsFirst task.lines (task_answer rules ready.waiting task bytes).noted (sides_of before after)) → IfSome first (ShownTo after came)
     shown_to result after came None judged shows = tt
     shown_to result after came (Some bytes) judged shows = λ told. shows bytes (judged told.0)
 
@@ -418,7 +436,10 @@ module _ (processors : Processors) (task : Task) (accepts : Accepts) (signing : 
           noted = noted.2;
           later = later_notes task.lines before middle judged.aside judged.later;
           shows = shown_to (Err e) middle (Err e) before.input.tells judged.judges
-              (λ bytes. shows_fault rules ready.waiting task bytes middle.input.tells before middle judged.aside refl ledger e);
+              (λ bytes found. (
+                shows_fault rules ready.waiting task bytes middle.input.tells before middle judged.aside refl ledger e found,
+                unwritten task.lines before middle judged.aside (task_answer rules ready.waiting task bytes).noted,
+              ));
         }
 
     -- the end was written behind all blocks, or a front of it
@@ -453,10 +474,17 @@ module _ (processors : Processors) (task : Task) (accepts : Accepts) (signing : 
       shown_at None judges = tt
       shown_at (Some bytes) judges = λ told_all.
           let j = judges told_all.0 in
-          finished rules ready.waiting task bytes middle.input.tells before middle judged.aside out told refused ledger j
-          (end_at rules ready.waiting task.ending ledger refused)
-          (end_same rules ready.waiting task.lines task.ending bytes middle.input.tells (lines_side task.lines before).tells
-          (lines_side task.lines middle).tells refused ledger j.ends) refl result (finish.writes told_all.1) finish.kind
+          let end = end_at rules ready.waiting task.ending ledger refused in
+          let same = end_same rules ready.waiting task.lines task.ending bytes middle.input.tells (lines_side task.lines before).tells
+          (lines_side task.lines middle).tells refused ledger j.ends in
+          let wrote = finish.writes told_all.1 in (
+            finished rules ready.waiting task bytes middle.input.tells before middle judged.aside out told refused ledger j end same refl result wrote
+                finish.kind,
+            told_first task.lines before middle judged.aside out told (task_answer rules ready.waiting task bytes).noted
+                (noted_by task.lines (run_of rules bytes)) end.noted
+                (noted_is rules ready.waiting task bytes middle.input.tells before middle judged.aside out told refused ledger j end same)
+                (there rules ready.waiting task bytes middle.input.tells before middle judged.aside out told refused ledger j end same).1 wrote.order,
+          )
 
       pub does_all : Does processors task (Ok ready) before after result
       does_all =

@@ -13,7 +13,7 @@ use Rattle.saw_generate.specs.Streams.{stream}
 use Rattle.saw_top.specs.Answers.{Prepared, answer_by, answer_to, prepared, task_by}
 use Rattle.saw_top.specs.Command.{Asked, Generate, Judge, Wish, asked_of}
 use Rattle.saw_top.specs.EndingFaults.{is_told}
-use Rattle.saw_top.specs.Headline.{Carries, CarriesOut, EndsBy, Gives, HasCause, HasEnded, HasFault, IsAnswered, IsToldFor, IsWhole, Shows, TellsEnd, TellsFault, WhereRead, WritesBy}
+use Rattle.saw_top.specs.Headline.{Carries, CarriesOut, EndsBy, Gives, HasCause, HasEnded, HasFault, IsAnswered, IsToldFor, IsWhole, Shows, TellsEnd, TellsFault, TellsFirst, WhereRead, WritesBy}
 use Rattle.saw_node.specs.declared.node.Node.{Node}
 use Rattle.saw_top.specs.Outside.{End, Outside, SomeFailed, sides_of}
 use Rattle.saw_top.specs.Run.{Answer, line_by, whole}
@@ -117,10 +117,11 @@ module _ (given : Files → World) (before after : Outside) (notes : End (List �
         done.held,
         some_map before.input.tells
             (λ bytes. IsTold world.processors (prepared world wish) bytes
-            → Shows (answer_to world wish bytes) bytes after.input.tells (sides_of before noted) came)
+            → Shows (answer_to world wish bytes) bytes after.input.tells (sides_of before noted) came
+            × TellsFirst (task_by wish).lines (answer_to world wish bytes).noted (sides_of before noted))
             (λ bytes. IsTold world.processors (prepared world wish) bytes → Answered (answer_to world wish bytes) bytes before after notes status)
             (λ bytes shows all. by_end (answer_to world wish bytes) bytes before after notes status world.processors (task_by wish)
-            (prepared world wish) came (shows all).ends does.cause told does.later)
+            (prepared world wish) came (shows all).0.ends does.cause told does.later)
             does.shows,
       )
 

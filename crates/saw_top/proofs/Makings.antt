@@ -68,4 +68,6 @@ module _ (processors : Processors) (accepts : Accepts) (signing : Signing) (ledg
 
   pub meets_clash : (kept given : Node) → Built (Err (faults.Collision kept given))
       → Makes processors accepts signing ledger batches (Err (Collision kept given))
-  meets_clash kept given built = here (Err (faults.Collision kept given)) built
+  meets_clash kept given built =
+      let b = here (Err (faults.Collision kept given)) built in
+      (b.0, b.1, (not_zero (length (draft_by b.0).applied) b.2.0, b.2.1))

@@ -85,6 +85,7 @@ module _ (text lines : List ℕ) (code : ℕ) (old new told told_new : End (List
   tells_all status wrote noted same = record {
     output = whole_front text old.tells new.tells wrote;
     notes = whole_front lines told.tells told_new.tells noted;
+    order = inr noted;
     all = (wrote, noted);
     same = same;
     which = tt;
@@ -94,12 +95,13 @@ module _ (text lines : List ℕ) (code : ℕ) (old new told told_new : End (List
 
   -- a part was
   pub tells_part : (e : RunFault) → WritesFront text old.tells new.tells → WritesFront lines told.tells told_new.tells
-      → (e ≡ runs.Write) ⊎ (e ≡ runs.Memory)
+      → (new.tells ≡ old.tells) ⊎ Appends told.tells told_new.tells lines → (e ≡ runs.Write) ⊎ (e ≡ runs.Memory)
       → (as_status e ≡ Err runs.Write → Rose old.faults new.faults ⊎ Rose told.faults told_new.faults)
       → Tells text lines code old new told told_new (Err e)
-  tells_part e wrote noted which rose = record {
+  tells_part e wrote noted order which rose = record {
     output = wrote;
     notes = noted;
+    order = order;
     all = tt;
     same = tt;
     which = which;
@@ -112,7 +114,7 @@ pub losses_cut : (text : List ℕ) (code : ℕ) (old told told_new : End (List �
     → (n : ℕ) × Appends told.tells told_new.tells (take n lines) → (e ≡ runs.Write) ⊎ (e ≡ runs.Memory)
     → (as_end e ≡ Err runs.Write → Rose told.faults told_new.faults) → Tells text lines code old old told told_new (Err e)
 losses_cut text code old told told_new lines e later cut which rose =
-    tells_part text lines code old old told told_new later e (nothing_yet text old.tells) (part_front lines cut.0 told.tells told_new.tells cut.1) which
+    tells_part text lines code old old told told_new later e (nothing_yet text old.tells) (part_front lines cut.0 told.tells told_new.tells cut.1) (inl refl) which
     (λ is. let same : e ≡ runs.Write = cc in inr (rose (ap Err same)))
 
 -- all lines were told, and a part of the text was written
@@ -121,7 +123,7 @@ pub text_part : (text : List ℕ) (code : ℕ) (old new told told_new : End (Lis
     → (as_end e ≡ Err runs.Write → Rose old.faults new.faults) → Tells text lines code old new told told_new (Err e)
 text_part text code old new told told_new lines e later noted cut which rose =
     tells_part text lines code old new told told_new later e (part_front text cut.0 old.tells new.tells cut.1)
-    (whole_front lines told.tells told_new.tells noted) which (λ is. let same : e ≡ runs.Write = cc in inl (rose (ap Err same)))
+    (whole_front lines told.tells told_new.tells noted) (inr noted) which (λ is. let same : e ≡ runs.Write = cc in inl (rose (ap Err same)))
 
 -- what only the output has
 pub tells_only : (text : List ℕ) (code : ℕ) (old new told : End (List ℕ)) (result : Result ℕ RunFault)
@@ -131,8 +133,8 @@ pub tells_only : (text : List ℕ) (code : ℕ) (old new told : End (List ℕ)) 
 tells_only text code old new told (Ok status) wrote same cut which rose =
     tells_all text [] code old new told told (omega arith) status wrote (Appends-nil told.tells) same
 tells_only text code old new told (Err e) wrote same cut which rose =
-    tells_part text [] code old new told told (omega arith) e (part_front text cut.0 old.tells new.tells cut.1) (nothing_yet [] told.tells) which
-    (λ is. inl (rose is))
+    tells_part text [] code old new told told (omega arith) e (part_front text cut.0 old.tells new.tells cut.1) (nothing_yet [] told.tells)
+    (inr (Appends-nil told.tells)) which (λ is. inl (rose is))
 
 -- ---- the end
 
@@ -161,7 +163,7 @@ module _ (end : AtEnd) (ledger : Ledger) (old new told told_new : End (List ℕ)
 
   writes_end : (result : Result ℕ RunFault) → Tells end.output end.noted end.status old new told told_new result
       → WritesEnd end ledger old new told told_new result
-  writes_end result tells = record { output = tells.output; notes = tells.notes; by = by_result result tells }
+  writes_end result tells = record { output = tells.output; notes = tells.notes; order = tells.order; by = by_result result tells }
 
 if_done : (ending : Ending) (code : ℕ) → ((status : ℕ) → status ≡ code → IsDone ending status) → (result : Result ℕ RunFault)
     → IfOk result (λ status. status ≡ code) → IfOk result (IsDone ending)
@@ -283,7 +285,7 @@ module _ (processors : Processors) (accepts : Accepts) (signing : Signing) (batc
   never_write e makes is = makes.2
 
   kind_of : (e : RunFault) → Unmade e → IsOfEnd e
-  kind_of (runs.Collision kept given) makes = (makes.2.2, makes.2.3)
+  kind_of (runs.Collision kept given) makes = (makes.2.1.2, makes.2.1.3)
   kind_of runs.Peer makes = tt
   kind_of runs.Memory makes = tt
   kind_of e makes = absurd makes.2
@@ -292,8 +294,9 @@ module _ (processors : Processors) (accepts : Accepts) (signing : Signing) (batc
       → WritesBy (end_at (rules_by accepts processors) (record { signing = signing; batches = batches }) Candidate ledger refused) ledger old old told told (Err e)
   by_unmade all (runs.Collision kept given) makes = record {
     m = (draft_in (rules_by accepts processors) ledger batches).left;
-    made = refl;
-    clash = made_by processors accepts signing batches ledger all (Err (runs.Collision kept given)) makes;
+    made = ap (λ (none : Bool). if none then None else Some (draft_in (rules_by accepts processors) ledger batches).left)
+        (made_by processors accepts signing batches ledger all (Err (runs.Collision kept given)) makes).0;
+    clash = (made_by processors accepts signing batches ledger all (Err (runs.Collision kept given)) makes).1;
     still = refl;
     quiet = refl;
   }
@@ -303,7 +306,7 @@ module _ (processors : Processors) (accepts : Accepts) (signing : Signing) (batc
   pub finishes_unmade : (e : RunFault) → Unmade e → (as_status e ≡ Err runs.Peer → SomeRose counts news)
       → Finishes processors accepts (record { signing = signing; batches = batches }) Candidate ledger refused old old told told counts news (Err e)
   finishes_unmade e makes peer = record {
-    writes = λ all. record { output = nothing_yet _ old.tells; notes = nothing_yet _ told.tells; by = by_unmade all e makes };
+    writes = λ all. record { output = nothing_yet _ old.tells; notes = nothing_yet _ told.tells; order = inl refl; by = by_unmade all e makes };
     lines = [];
     aside = λ other. refl;
     noted = Appends-nil told.tells;

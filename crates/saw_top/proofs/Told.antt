@@ -4,6 +4,7 @@ use Rattle.std.proofs.lemmas.Bool.{and_from, and_parts}
 use Rattle.std.specs.List.{list_all}
 use Rattle.saw_address.specs.Maps.{StateMap}
 use Rattle.saw_checks.specs.StructureFaults.{structure_fault}
+use Rattle.saw_checks.specs.Tests.{◌<|>◌}
 use Rattle.saw_checks.specs.declared.fault.StructureFault.{StructureFault}
 use Rattle.saw_context.proofs.Coming.{from_told}
 use Rattle.saw_context.specs.Outcome.{Processors}
@@ -12,8 +13,8 @@ use Rattle.saw_context.specs.Serial.{serial}
 use Rattle.saw_journal.specs.BlockFaults.{parent_of}
 use Rattle.saw_journal.specs.BlockShapes.{Parts, parts_of}
 use Rattle.saw_journal.specs.Clashing.{Clashes}
-use Rattle.saw_journal.specs.Judgement.{judged, judged_block, judged_header, judged_parts, judged_unless, judged_with, left_block, left_header, left_parts, left_unless, rules_with, unless_early, would_leave}
-use Rattle.saw_journal.specs.BlockFaults.{early_fault}
+use Rattle.saw_journal.specs.Judgement.{judged, judged_block, judged_header, judged_parts, judged_unless, judged_with, left_block, left_header, left_parts, left_unless, rules_with, some_unless, would_leave}
+use Rattle.saw_journal.specs.BlockFaults.{early_fault, failure_fault}
 use Rattle.saw_journal.specs.Ledger.{IsFull, Ledger, Says, judged_in, map_under}
 use Rattle.saw_context.specs.Serial.{left_after}
 use Rattle.saw_context.specs.declared.batch_result.BatchResult.{BatchResult}
@@ -104,7 +105,7 @@ module _ (processors : Processors) (runs : Runs) (by : RunsBy processors runs) w
         → left_parts runs map_behind blocks parts ≡ left_parts serially map_behind blocks parts
     left_parts_told parts told =
         let before = map_behind (parent_of blocks parts.header) in
-        ap (λ (results : List BatchResult). unless_early (early_fault blocks parts) (left_after before results)) (same before (txs_of parts.batches) told)
+        ap (λ (results : List BatchResult). some_unless (early_fault blocks parts <|> failure_fault results) (left_after before results)) (same before (txs_of parts.batches) told)
 
     left_header_told : (b : Block) (header : Result BlockHeader MessageFault) → tell_batches processors b.batches ≡ true
         → left_header runs map_behind blocks b header ≡ left_header serially map_behind blocks b header

@@ -22,7 +22,7 @@ use Rattle.saw_top.specs.Clashing.{AreAlike}
 use Rattle.saw_top.specs.Headline.{IsDone}
 use Rattle.saw_top.specs.Listing.{batch_status, batch_text, listing, listing_status, receipts_status, receipts_text}
 use Rattle.saw_top.specs.Outside.{End, SomeRose, WritesFront}
-use Rattle.saw_top.specs.Publishing.{Waiting, candidate_status, candidate_text, losses_text, parent_at}
+use Rattle.saw_top.specs.Publishing.{Waiting, candidate_status, candidate_text, losses_text, map_left, parent_at}
 use Rattle.saw_top.specs.Run.{AtEnd, status_by}
 use Rattle.saw_top.specs.Telling.{tell_batches}
 use Rattle.saw_top.specs.World.{Accepts, rules_by}
@@ -47,7 +47,7 @@ end_of_draft rules waiting ledger refused draft = record {
   output = candidate_text rules.hash waiting.signing (parent_at ledger.blocks) draft;
   noted = losses_text draft;
   status = candidate_status refused draft;
-  made = Some draft.left;
+  made = map_left draft;
 }
 
 -- what is written and told at the end, and the status
@@ -61,11 +61,12 @@ end_at rules waiting Candidate ledger refused = end_of_draft rules waiting ledge
 
 -- ---- what was written
 
--- a text was written and lines were told, and this status came of it; or a front of both, since writing failed or memory was
--- refused
+-- lines were told, then a text was written, and this status came of it; or a front of both, since writing failed or memory
+-- was refused
 pub record Tells (text lines : List ℕ) (code : ℕ) (old new told_old told_new : End (List ℕ)) (result : Result ℕ RunFault) : Type 0 where
   pub output : WritesFront text old.tells new.tells
   pub notes : WritesFront lines told_old.tells told_new.tells
+  pub order : (new.tells ≡ old.tells) ⊎ Appends told_old.tells told_new.tells lines
   pub all : IfOk result (λ status. Appends old.tells new.tells text × Appends told_old.tells told_new.tells lines)
   pub same : IfOk result (λ status. status ≡ code)
   pub which : IfErr result (λ e. (e ≡ runs.Write) ⊎ (e ≡ runs.Memory))
@@ -96,10 +97,11 @@ module _ (end : AtEnd) (ledger : Ledger) (old new told_old told_new : End (List 
   WritesBy (Err (runs.Collision kept given)) = ClashesAt kept given
   WritesBy (Err fault) = Unit {0}
 
-  -- all of it, or a front
+  -- all of it, or a front; nothing was written before all was told
   pub record WritesEnd (result : Result ℕ RunFault) : Type 0 where
     pub output : WritesFront end.output old.tells new.tells
     pub notes : WritesFront end.noted told_old.tells told_new.tells
+    pub order : (new.tells ≡ old.tells) ⊎ Appends told_old.tells told_new.tells end.noted
     pub by : WritesBy result
 
 -- What was done behind all blocks: the end was written where the processors tell their actions, or a front of it.

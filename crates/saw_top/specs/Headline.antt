@@ -27,7 +27,8 @@ use Rattle.saw_top.specs.Telling.{IsTold}
 use Rattle.saw_top.specs.World.{World}
 use Rattle.saw_top.specs.declared.task.Ending.{Ending}
 use Rattle.saw_top.specs.declared.task.Ending.TheVariants.{Batch, Candidate, Head, Entries, Receipts}
-use Rattle.saw_top.specs.declared.task.Lines.TheVariants.{All}
+use Rattle.saw_top.specs.declared.task.Lines.{Lines}
+use Rattle.saw_top.specs.declared.task.Lines.TheVariants.{All, Refused}
 use Rattle.saw_top.specs.declared.task.Task.{Task}
 
 -- ---- what was written of an answer
@@ -123,6 +124,11 @@ module _ (answer : Answer) (bytes : List ℕ) (left : Option (List ℕ)) (writte
     pub prompt : GoesOn
     pub ends : EndsBy came
 
+-- Where the lines of blocks go to the notes, all that is to be told there was told before anything was written.
+abbrev pub TellsFirst : Lines → List ℕ → Sides → Type 0
+TellsFirst All noted written = Unit {0}
+TellsFirst Refused noted written = (written.new ≡ written.old) ⊎ Appends written.told_old written.told_new noted
+
 -- ---- what a run comes to: a status, or the fault that ended it
 
 -- the statuses of a run that no fault ended
@@ -175,7 +181,8 @@ module _ (processors : Processors) (task : Task) (ready : Result Prepared RunFau
     pub noted : Appends before.notes.tells after.notes.tells lines
     pub later : before.notes.faults ≤ after.notes.faults
     pub shows : IfSome before.input.tells (λ bytes. let answer = answer_for processors task ready bytes in
-        IsTold processors ready bytes → Shows answer bytes after.input.tells (sides_of before after) came)
+        IsTold processors ready bytes → Shows answer bytes after.input.tells (sides_of before after) came
+        × TellsFirst task.lines answer.noted (sides_of before after))
 
 -- whether a file is named
 abbrev pub names_file : Option Wish → Bool

@@ -1,5 +1,5 @@
 -- What there is to publish, as it was made.
-use Rattle.std.specs.Prelude.{◌≡◌, ℕ, Bool, List, [], Option, Some, None, option_map, Result, Ok, Err, if◌then◌else◌}
+use Rattle.std.specs.Prelude.{◌≡◌, ℕ, Bool, false, List, [], Option, Some, None, option_map, Result, Ok, Err, if◌then◌else◌}
 use Rattle.saw_context.specs.Outcome.{Processors}
 use Rattle.saw_io.specs.Frame.{frame}
 use Rattle.saw_journal.specs.Judgement.{rules_with}
@@ -38,10 +38,12 @@ module _ (signing : Signing) (ledger : Ledger) (draft : Draft) where
   abbrev pub content_if : Option (List ℕ)
   content_if = if is_nothing draft then None else Some (content_of first_half signing (parent_at ledger.blocks) draft)
 
-  -- what was made is the draft's block and its losses; or two nodes clash, of which one is of the map that it leaves
+  -- what was made is the draft's block and its losses; or, if a batch is applied, two nodes clash, of which one is of the
+  -- map that it leaves
   abbrev pub MakesAs : Result Made RunFault → Type 0
   MakesAs (Ok made) = (block_in made ≡ content_if) × (made.dropped ≡ losses_from 0 draft.fates)
-  MakesAs (Err (Collision kept given)) = IsClashFor first_half ledger.states draft.left (stores.Collision kept given)
+  MakesAs (Err (Collision kept given)) =
+      (is_nothing draft ≡ false) × IsClashFor first_half ledger.states draft.left (stores.Collision kept given)
   MakesAs (Err Peer) = Unit {0}
   MakesAs (Err Memory) = Unit {0}
   MakesAs (Err fault) = ⊥

@@ -1,6 +1,7 @@
 -- What is published behind accepted blocks: a candidate of waiting batches, and those that it leaves out.
-use Rattle.std.specs.Prelude.{ℕ, Bool, ◌||◌, List, [], length, Option, option_map, ◌==◌, if◌then◌else◌}
+use Rattle.std.specs.Prelude.{ℕ, Bool, ◌||◌, List, [], length, Option, Some, None, option_map, ◌==◌, if◌then◌else◌}
 use Rattle.std.specs.List.{flat_map}
+use Rattle.saw_address.specs.Maps.{StateMap}
 use Rattle.saw_io.specs.Frame.{frame}
 use Rattle.saw_journal.specs.Judgement.{Kept, Rules}
 use Rattle.saw_messages.specs.declared.batch.Batch.{Batch}
@@ -31,6 +32,10 @@ draft_at rules accepted batches =
 -- whether no batch is applied
 abbrev pub is_nothing : Draft → Bool
 is_nothing draft = length draft.applied == 0
+
+-- the map that it leaves, if a batch is applied
+abbrev pub map_left : Draft → Option StateMap
+map_left draft = if is_nothing draft then None else Some draft.left
 
 -- the frame of its block, if a batch is applied
 abbrev pub candidate_text : (List ℕ → List ℕ) → Signing → Option Parent → Draft → List ℕ

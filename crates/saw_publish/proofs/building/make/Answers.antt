@@ -1,12 +1,15 @@
-use Rattle.std.proofs.Common.{List, map, ap, ◌∙◌}
+use Rattle.std.proofs.Common.{List, map, ap, subst, ◌∙◌}
+use Rattle.std.proofs.lemmas.Result.{err_from_is_err_and}
 use Rattle.std.specs.Prelude.{option_copied}
 use Rattle.saw_context.specs.Outcome.{map_after}
+use Rattle.saw_merkle.specs.Clashes.{IsClashFor}
 use Rattle.saw_merkle.specs.States.{map_at}
 use Rattle.saw_messages.specs.TxShapes.{BatchShape}
+use Rattle.saw_messages.specs.declared.outcome.Change.{Change}
 use Rattle.saw_node.specs.Trees.{root_of_map}
 use Rattle.saw_publish.specs.Candidates.{Signing}
 use Rattle.saw_publish.specs.Fates.{still_in}
-use Rattle.saw_publish.proofs.Making.{empty_is, made_block, made_nothing, some_are}
+use Rattle.saw_publish.proofs.Making.{empty_is, made_block, made_clash, made_nothing, some_are}
 use Rattle.saw_publish.proofs.building.make.Goals as goal
 
 pub returns-then-is_empty-clause-answers : goal.returns-then-is_empty-clause-answers
@@ -18,6 +21,21 @@ returns-then-is_empty-clause-answers g c =
     ∙ ap (λ (batches : List BatchShape). still_in c.args.ran.fates (map (λ (batch : BatchShape). batch.id) batches)) c.as_slice-2.ensures in
     made_nothing g.H.NodeHasher.hash_of signing c.args.state.now (option_copied c.args.parent) (map_at c.args.state.now c.args.before.now) c.args.sifted c.args.ran draft is c.in_ok-ids.ids ids_are
     (empty_is c.in_ok-ids.ids c.is_empty.result c.is_empty.ensures c.if-is_empty.true) c.nothing_valid.result c.nothing_valid.ensures
+
+pub returns-in_err-root-clause-answers : goal.returns-in_err-root-clause-answers
+returns-in_err-root-clause-answers g c =
+    λ draft is.
+    let signing : Signing = record { key = g.G.Signer.key_text c.args.signer.now; signature = g.G.Signer.signature c.args.signer.now } in
+    let hash = g.H.NodeHasher.hash_of in
+    let before = map_at c.args.state.now c.args.before.now in
+    let ids_are = c.in_ok-ids.ensures
+    ∙ ap (λ fates. still_in fates (map (λ (batch : BatchShape). batch.id) c.as_slice-2.result.now)) c.as_slice.ensures
+    ∙ ap (λ (batches : List BatchShape). still_in c.args.ran.fates (map (λ (batch : BatchShape). batch.id) batches)) c.as_slice-2.ensures in
+    let fault = c.in_err-root.field-0.0 in
+    let p = err_from_is_err_and c.from_residual-in_err-root.result c.from_residual-in_err-root.ensures.1 in
+    rw (p.1, p.2) (made_clash hash signing c.args.state.now (option_copied c.args.parent) before c.args.sifted c.args.ran draft is c.in_ok-ids.ids ids_are
+    (some_are c.in_ok-ids.ids c.is_empty.result c.is_empty.ensures c.if-is_empty.false) fault
+    (subst (λ (changes : List Change). IsClashFor hash c.args.state.now (map_after before changes) fault) c.as_slice-3.ensures c.in_err-root.ensures.clash))
 
 pub returns-clause-answers : goal.returns-clause-answers
 returns-clause-answers g c =
