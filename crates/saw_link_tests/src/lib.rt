@@ -1,4 +1,4 @@
-//! Tests of stations over links: conversations in bytes that come from outside the program, and calls of the laws of their messages.
+//! Tests of both ends of a link: conversations in bytes that come from outside the program, and calls of the laws of their messages.
 #![tactic(auto)]
 
 #[cfg(test)]
@@ -9,5 +9,7 @@ mod conversations;
 mod laws;
 #[cfg(test)]
 mod peers;
+#[cfg(test)]
+mod processors;
 #[cfg(test)]
 mod registrations;

@@ -29,3 +29,4 @@ pub mod BuiltInLaws
 pub mod TellingLaws
 pub mod CandidateLaws
 pub mod GeneratedLaws
+pub mod Processing

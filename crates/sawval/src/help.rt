@@ -14,7 +14,7 @@ const WRITE: u8 = 5;
 const MEMORY: u8 = 7;
 
 /// Each command, and what it does.
-const COMMANDS: [(&str, &str); 6] = [
+const COMMANDS: [(&str, &str); 7] = [
     (
         "apply",
         "Judge each block of the stream, and write a line for each",
@@ -39,10 +39,14 @@ const COMMANDS: [(&str, &str); 6] = [
         "generate",
         "Make a stream of blocks to try [--start, --blocks, --batches, --conflicts]",
     ),
+    (
+        "tp",
+        "Serve transactions of the built-in families to a program that listens [--connect]",
+    ),
 ];
 
 /// Each option, the name of its value, and what it says.
-const OPTIONS: [(&str, &str, &str); 10] = [
+const OPTIONS: [(&str, &str, &str); 11] = [
     (
         "workers",
         "N",
@@ -59,6 +63,7 @@ const OPTIONS: [(&str, &str, &str); 10] = [
         "A port of 127.0.0.1 to which processors connect; with --remotes",
     ),
     ("remotes", "N", "How many of them: 1 to 64"),
+    ("connect", "PORT", "The port of 127.0.0.1 that listens"),
     ("prefix", "P", "Only entries whose address begins with this"),
     ("batch", "ID", "A batch, by its header signature"),
     (

@@ -1,4 +1,4 @@
-//! Connections of processors elsewhere, on this machine alone.
+//! Connections to and from processors elsewhere, on this machine alone.
 
 ghost use Rattle.std.specs.Prelude.{◌≡◌, false, All, IfOk};
 
@@ -36,4 +36,13 @@ pub(crate) fn accept_links<R: Net<Listener = TcpListener, Stream = TcpStream>>(
         remotes.push(RemoteStation::new(alloc, link_over(stream)?))?;
     }
     Ok(remotes)
+}
+
+/// Connects to a port of 127.0.0.1.
+pub(crate) fn connect_link<R: Net<Stream = TcpStream>>(
+    rt: &R,
+    port: u16,
+) -> io::Result<Connection> {
+    let stream = TcpStream::connect(rt, SocketAddr::from((Ipv4Addr::LOCALHOST, port)))?;
+    link_over(stream)
 }

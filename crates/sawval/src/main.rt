@@ -1,15 +1,17 @@
-//! The program: judges the block stream of its standard input.
+//! The program: judges the block stream of its standard input, or serves transactions over a link.
 #![tactic(auto)]
 
 mod help;
 mod links;
+#[cfg(test)]
+mod loopback;
 
 ghost use Rattle.std.specs.Prelude.{◌≡◌, false, All};
 
-use crate::links::accept_links;
+use crate::links::{accept_links, connect_link};
 use saw_io::{DirShelf, StdSink, StdSource};
 use saw_station::{NoStation, Station};
-use saw_top::{Wish, listen_wish, run};
+use saw_top::{Wish, listen_wish, run, run_processor};
 use saw_verify::{DevSigner, DevVerifier};
 use saw_wire::Text;
 use std::alloc::Global;
@@ -89,6 +91,20 @@ where
     }
 }
 
+// Serves transactions over a connection to a port.
+fn serve<T: Wait + Net<Stream = TcpStream>>(
+    rt: &T,
+    host: &HostRuntime,
+    words: &[String],
+    port: u16,
+) -> ExitCode {
+    match connect_link(rt, port) {
+        Ok(mut link) => ExitCode::from(run_processor(rt, host.alloc(), &mut link, words).code()),
+        Err(e) if e.kind() == ErrorKind::OutOfMemory => ExitCode::from(MEMORY),
+        Err(_) => ExitCode::from(PEER),
+    }
+}
+
 fn main(rt: HostRuntime) -> ExitCode {
     let alloc = rt.alloc();
     let words = match words(&rt, alloc) {
@@ -102,8 +118,8 @@ fn main(rt: HostRuntime) -> ExitCode {
     }
     match listen_wish(&words) {
         Wish::Listen { port, remotes } => answer_with_links(&rt, &rt, &words, port, remotes),
-        // A processor of this program's own does not connect yet, so `run` refuses its words.
-        Wish::Plain | Wish::Connect { port: _ } => {
+        Wish::Connect { port } => serve(&rt, &rt, &words, port),
+        Wish::Plain => {
             let mut remotes: Vec<NoStation> = Vec::new(alloc);
             answer(&rt, &rt, &words, &mut remotes)
         }

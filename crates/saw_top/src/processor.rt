@@ -1,0 +1,79 @@
+//! A processor of the built-in families, at the other end of a link.
+
+ghost use Rattle.std.specs.Prelude.{◌≡◌, ◌≤◌, map, string_bytes, IfOk};
+ghost use Rattle.saw_top.specs.Opening.{opened_of};
+ghost use Rattle.saw_top.specs.Processing.{HasProcessed, family_offers, status_of};
+ghost use Rattle.saw_tpside.specs.ProcessorConversation.{starting};
+ghost use Rattle.saw_tpside.specs.ServedLinks.{HasServed};
+
+use crate::opening::{Wish, listen_wish};
+use crate::status::Status;
+use saw_link::Link;
+use saw_station::Offer;
+use saw_tpside::{TpFault, serve_link};
+use saw_wire::Text;
+use std::alloc::{AllocError, Global};
+use std::sync::Wait;
+
+/// The version of the link that is asked for.
+const VERSION: u32 = 2;
+
+fn offer(alloc: Global, family: &str, version: &str) -> Result<Offer, AllocError>
+    ensures { IfOk result (λ offer. offer ≡ record { family = family.now; version = version.now }) }
+{
+    Ok(Offer {
+        family: Text::from_str(alloc, family)?,
+        version: Text::from_str(alloc, version)?,
+    })
+}
+
+fn family_offers(alloc: Global) -> Result<Vec<Offer>, AllocError>
+    ensures { IfOk result (λ offers. offers.items ≡ family_offers) }
+{
+    let mut offers = Vec::new(alloc);
+    offers.push(offer(alloc, "intkey", "1.0")?)?;
+    offers.push(offer(alloc, "xo", "1.0")?)?;
+    offers.push(offer(alloc, "sawtooth_settings", "1.0")?)?;
+    Ok(offers)
+}
+
+fn serve<L: Link, R: Wait>(rt: &R, alloc: Global, link: &mut L) -> Result<u64, TpFault>
+    ensures served { HasServed (starting family_offers 2) result (L.told link.old) (L.told link.new) (L.faults link.old) (L.faults link.new) }
+    ensures later { L.faults link.old ≤ L.faults link.new }
+{
+    let offers = family_offers(alloc)?;
+    serve_link(rt, alloc, link, &offers, VERSION)
+}
+
+fn status_of(served: Result<u64, TpFault>) -> Status
+    ensures { result ≡ status_of served }
+{
+    match served {
+        Ok(_) => Status::new(0),
+        Err(TpFault::Failed) => Status::new(6),
+        Err(TpFault::Breach { frame: _ }) => Status::new(6),
+        Err(TpFault::OutOfMemory) => Status::new(7),
+    }
+}
+
+/// Serves transactions of the built-in families over a link that has not been used, to its end, where the words are those
+/// of `tp`. It writes nothing. The status is 0 at the link's end, 2 where the words are others, 6 where the link failed or
+/// a frame came that is not legal, and 7 where memory is wanting.
+pub fn run_processor<L: Link, R: Wait>(
+    rt: &R,
+    alloc: Global,
+    link: &mut L,
+    words: &[String],
+) -> Status
+    ensures processed { HasProcessed (opened_of (map string_bytes words.now)) result (L.told link.old) (L.told link.new) (L.faults link.old) (L.faults link.new) }
+    ensures later { L.faults link.old ≤ L.faults link.new }
+{
+    match listen_wish(words) {
+        Wish::Connect { port: _ } => status_of(serve(rt, alloc, link)),
+        Wish::Plain => Status::new(2),
+        Wish::Listen {
+            port: _,
+            remotes: _,
+        } => Status::new(2),
+    }
+}

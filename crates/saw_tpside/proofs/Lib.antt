@@ -1,0 +1,12 @@
+pub mod TextPlaces
+pub mod Fitting
+pub mod HeadersBack
+pub mod Said
+pub mod StationBack
+pub mod Answered
+pub mod Matching
+pub mod Moving
+pub mod Obeying
+pub mod Stepping
+pub mod Coming
+pub mod Taking

@@ -1,0 +1,11 @@
+pub mod ProcessorFrames
+pub mod StationFrames
+pub mod ProcessorConversation
+pub mod ServedLinks
+pub mod FamilyPeers
+pub mod RepliesAlike
+pub mod SettingsAlike
+pub mod FamilyLaws
+pub mod PeersInMemory
+pub mod Understood
+pub mod WrittenTexts
