@@ -8,7 +8,7 @@ mod loopback;
 
 ghost use Rattle.std.specs.Prelude.{◌≡◌, false, All};
 
-use crate::links::{accept_links, connect_link};
+use crate::links::{Connection, accept_links, connect_link};
 use saw_io::{DirShelf, StdSink, StdSource};
 use saw_station::{NoStation, Station};
 use saw_top::{Wish, listen_wish, run, run_processor};
@@ -19,11 +19,18 @@ use std::io::ErrorKind;
 use std::net::{Net, TcpListener, TcpStream};
 use std::process::ExitCode;
 use std::sync::Wait;
-use std::thread::Threads;
+use std::thread::{self, Threads};
+use std::time::{Clock, Duration};
 use std::{env, io};
 
 /// The status of a processor elsewhere that failed, and of a port that could not be opened.
 const PEER: u8 = 6;
+
+/// How often a processor of this program tries to connect.
+const TRIES: u32 = 100;
+
+/// How long it waits between, in milliseconds.
+const PAUSE: u64 = 100;
 
 /// The status of want of memory.
 const MEMORY: u8 = 7;
@@ -91,14 +98,27 @@ where
     }
 }
 
+// Connects to a port, once a program listens there.
+fn connect<T: Clock + Net<Stream = TcpStream>>(rt: &T, port: u16) -> io::Result<Connection> {
+    for _ in 1..TRIES {
+        match connect_link(rt, port) {
+            Err(e) if e.kind() == ErrorKind::ConnectionRefused => {
+                thread::sleep(rt, Duration::from_millis(PAUSE));
+            }
+            came => return came,
+        }
+    }
+    connect_link(rt, port)
+}
+
 // Serves transactions over a connection to a port.
-fn serve<T: Wait + Net<Stream = TcpStream>>(
+fn serve<T: Clock + Wait + Net<Stream = TcpStream>>(
     rt: &T,
     host: &HostRuntime,
     words: &[String],
     port: u16,
 ) -> ExitCode {
-    match connect_link(rt, port) {
+    match connect(rt, port) {
         Ok(mut link) => ExitCode::from(run_processor(rt, host.alloc(), &mut link, words).code()),
         Err(e) if e.kind() == ErrorKind::OutOfMemory => ExitCode::from(MEMORY),
         Err(_) => ExitCode::from(PEER),
