@@ -17,23 +17,23 @@ const MEMORY: u8 = 7;
 const COMMANDS: [(&str, &str); 7] = [
     (
         "apply",
-        "Judge each block of the stream, and write a line for each",
+        "Judge each block of the stream, and write a line for each [COMMON]",
     ),
     (
         "state",
-        "List the entries of the head's state [--prefix, --workers, --attest]",
+        "List the entries of the head's state [--prefix, COMMON]",
     ),
     (
         "receipts",
-        "List the receipts of the head's branch [--workers, --attest]",
+        "List the receipts of the head's branch [COMMON]",
     ),
     (
         "status",
-        "Tell which block of the head's branch holds a batch [--batch, --workers, --attest]",
+        "Tell which block of the head's branch holds a batch [--batch, COMMON]",
     ),
     (
         "publish",
-        "Make the next block of a list of batches [--batches, --workers, --attest]",
+        "Make the next block of a list of batches [--batches, COMMON]",
     ),
     (
         "generate",
@@ -125,7 +125,9 @@ fn with_words<'a>(alloc: Global, command: Command<'a>) -> Result<Command<'a>, Al
 /// The program, with a line for each command and option.
 fn program<'a>(alloc: Global) -> Result<Command<'a>, AllocError> {
     let command = Command::new(alloc, "sawval")
-        .about("Judges the block stream of its standard input")
+        .about(
+            "Judges the block stream of its standard input; COMMON is any of --workers, --attest, and --listen with --remotes",
+        )
         .version(VERSION)
         .override_usage("sawval COMMAND [OPTIONS] < STREAM")
         .no_binary_name(true)
