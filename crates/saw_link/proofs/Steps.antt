@@ -108,13 +108,26 @@ module _ (told later : Option (List Passed)) (s next : Standing) (context sent f
       refuses_moved = moved_by Refuses (λ at f n. refl) due (answer_is (Unauthorized 0) sent_is) refuses_legal
 
 -- the last step is written over
-pub acted_over : (s : Standing) (x : Option LastStep) (tx : Transaction) (turns : List Turn) (count : ℕ) (h : Heard)
+acted_over : (s : Standing) (x : Option LastStep) (tx : Transaction) (turns : List Turn) (count : ℕ) (h : Heard)
     → acted (record s { last = x }) tx turns count h ≡ acted s tx turns count h
 acted_over s x tx turns count (Asks asked action) = refl
 acted_over s x tx turns count (Ends Accepted) = refl
 acted_over s x tx turns count (Ends Refused) = refl
 acted_over s x tx turns count (Ends Broken) = refl
 acted_over s x tx turns count Breach = refl
+
+-- the parts of the last step, with its reply as the latest turn
+pub acted_behind : (s : Standing) (x : Option LastStep) (last : LastStep) (parts : Transaction × List Turn × Action) (turns : List Turn)
+    (copied reply : Reply) (h : Heard) (next : Standing)
+    → parts ≡ (last.tx, last.turns, last.action) → turns ≡ parts.1 ++ record { action = parts.2; reply = copied } ∷ [] → copied ≡ reply
+    → acted (record s { last = x }) parts.0 turns s.count h ≡ Some next
+    → acted s last.tx (last.turns ++ record { action = last.action; reply = reply } ∷ []) s.count h ≡ Some next
+acted_behind s x last parts turns copied reply h next parts_is turns_is copied_is legal =
+    let P : List Turn → Type 0 = λ all. acted s parts.0 all s.count h ≡ Some next in
+    let R : Reply → List Turn = λ said. parts.1 ++ record { action = parts.2; reply = said } ∷ [] in
+    let T : Transaction × List Turn × Action → Type 0 = λ p.
+    acted s p.0 (p.1 ++ record { action = p.2; reply = reply } ∷ []) s.count h ≡ Some next in
+    subst T parts_is (subst P (turns_is ∙ ap R copied_is) (sym (acted_over s x parts.0 turns s.count h) ∙ legal))
 
 -- a further request while there are refusals left
 pub closed_asks : (s : Standing) (h : Heard) (asked : Asked) (action : Action) → h ≡ Asks asked action → s.refused < 999

@@ -197,11 +197,7 @@ pub(crate) fn go_on<L: Link>(
     let Some(last) = standing.last.take() else {
         return Err(Trouble::OutOfMemory);
     };
-    let LastStep {
-        tx,
-        mut turns,
-        action,
-    } = last;
+    let (tx, mut turns, action) = last.parts();
     turns.push(Turn { action, reply })?;
     act(alloc, standing, tx, turns, count, said)
 }

@@ -32,7 +32,6 @@ pub enum Health {
 }
 
 /// A processor at the other end of a link.
-#[derive(Drop)]
 pub struct RemoteStation<L: Link> {
     link: L,
     standing: Standing,
@@ -40,6 +39,20 @@ pub struct RemoteStation<L: Link> {
     health: Health,
     faults: u64,
     breach: Option<Bytes>,
+}
+
+// A call of its own, so that each place where one is dropped is one step of a proof.
+impl<L: Link> Drop for RemoteStation<L> {
+    fn drop(self) {
+        let RemoteStation {
+            link: _link,
+            standing: _standing,
+            begun: _,
+            health: _,
+            faults: _,
+            breach: _breach,
+        } = self;
+    }
 }
 
 impl<L: Link> Model for RemoteStation<L> {
@@ -96,6 +109,35 @@ fn step_in<L: Link>(
     }
 }
 
+fn fault_of(trouble: &Trouble) -> StationFault
+    ensures { result ≡ fault_of trouble.now }
+{
+    match trouble {
+        Trouble::OutOfMemory => StationFault::OutOfMemory,
+        Trouble::Link
+        | Trouble::TooLong
+        | Trouble::Ended
+        | Trouble::Broken
+        | Trouble::Breach(_)
+        | Trouble::Exhausted => StationFault::PeerFailed,
+    }
+}
+
+// The frame that was not legal.
+fn breach_of(trouble: Trouble) -> Option<Bytes>
+    ensures { result ≡ breach_of trouble }
+{
+    match trouble {
+        Trouble::Breach(frame) => Some(frame),
+        Trouble::Link
+        | Trouble::TooLong
+        | Trouble::Ended
+        | Trouble::Broken
+        | Trouble::Exhausted
+        | Trouble::OutOfMemory => None,
+    }
+}
+
 // What a trouble leaves of the station.
 fn settle(
     health: &mut Health,
@@ -108,35 +150,13 @@ fn settle(
     ensures faults { faults.new ≡ faults_after faults.old result }
     ensures breach { breach.new ≡ breach_of trouble }
 {
-    match trouble {
-        Trouble::OutOfMemory => {
-            *breach = None;
+    let fault = fault_of(&trouble);
+    *breach = breach_of(trouble);
+    match fault {
+        StationFault::PeerFailed => fail(health, faults),
+        StationFault::OutOfMemory => {
             *health = Health::Starved;
-            StationFault::OutOfMemory
-        }
-        Trouble::Breach(frame) => {
-            *breach = Some(frame);
-            fail(health, faults)
-        }
-        Trouble::Link => {
-            *breach = None;
-            fail(health, faults)
-        }
-        Trouble::TooLong => {
-            *breach = None;
-            fail(health, faults)
-        }
-        Trouble::Ended => {
-            *breach = None;
-            fail(health, faults)
-        }
-        Trouble::Broken => {
-            *breach = None;
-            fail(health, faults)
-        }
-        Trouble::Exhausted => {
-            *breach = None;
-            fail(health, faults)
+            fault
         }
     }
 }
@@ -192,7 +212,15 @@ impl<L: Link> RemoteStation<L> {
     pub fn into_link(self) -> L
         ensures { result ≡ self.link }
     {
-        self.link
+        let RemoteStation {
+            link,
+            standing: _standing,
+            begun: _,
+            health: _,
+            faults: _,
+            breach: _breach,
+        } = self;
+        link
     }
 
     /// The frame that was not legal.

@@ -1,8 +1,5 @@
-use Rattle.std.proofs.Common.{◌≡◌, List, [], ◌∷◌, ◌++◌, Some, refl, sym, ap, ◌∙◌, subst}
-use Rattle.saw_messages.specs.declared.talk.Turn.{Turn}
-use Rattle.saw_messages.specs.declared.talk.Reply.{Reply}
-use Rattle.saw_link.specs.LinkConversation.{acted}
-use Rattle.saw_link.proofs.Steps.{ok_map, due_answers, answers_moved, answers_acts, acted_over}
+use Rattle.std.proofs.Common.{refl, sym, ◌∙◌}
+use Rattle.saw_link.proofs.Steps.{ok_map, due_answers, answers_moved, answers_acts, acted_behind}
 use Rattle.saw_link.specs.LinkConversation.{Answers}
 use Rattle.saw_link.proofs.Stops.{err_map, answers_asking, none_answers, said_at_count, sent_answers, unacted_troubled}
 use Rattle.saw_link.proofs.moves.go_on.Goals as goal
@@ -13,14 +10,13 @@ returns-clause-moved g c =
     let s = c.args.standing.now in
     let last = c.in-Some-take.last in
     let L = g.L.Link in
-    let P : List Turn → Type 0 = λ turns. acted s last.tx turns s.count said.said.heard ≡ Some c.act.new.standing in
-    let R : Reply → List Turn = λ reply. last.turns ++ record { action = last.action; reply = reply } ∷ [] in
     ok_map c.act.result (λ legal.
     answers_moved (L.told c.args.link.now) (L.told c.ask.new.link) s _ c.as_str.result.now c.deref.result.now _ _ said.said.heard
     c.limit_of-limit.ensures said.ensures.heard said.ensures.adds said.ensures.within
     c.in-Some.asked c.in-Some.is last c.args.reply.now (sym c.in-Some-take.ensures.value)
     (c.as_str.ensures ∙ c.in_ok-context.ensures) (c.deref.ensures.value ∙ c.in_ok-sent.ensures)
-    (subst P (c.in_ok-push.ensures.ok ∙ ap R c.in_ok-reply.ensures) (sym (acted_over s c.take.new.self last.tx _ s.count said.said.heard) ∙ legal))
+    (acted_behind s c.take.new.self last c.parts-tx.result _ _ c.args.reply.now said.said.heard c.act.new.standing c.parts-tx.ensures c.in_ok-push.ensures.ok
+    c.in_ok-reply.ensures legal)
     (due_answers s c.in-Some.asked last c.args.reply.now c.requires.still c.in-Some.is (sym c.in-Some-take.ensures.value) c.requires.fits))
     c.act.ensures.acted
 
@@ -30,14 +26,13 @@ returns-clause-acts g c tells =
     let s = c.args.standing.now in
     let last = c.in-Some-take.last in
     let L = g.L.Link in
-    let P : List Turn → Type 0 = λ turns. acted s last.tx turns s.count said.said.heard ≡ Some c.act.new.standing in
-    let R : Reply → List Turn = λ reply. last.turns ++ record { action = last.action; reply = reply } ∷ [] in
     ok_map c.act.result (λ legal spelled.
     answers_acts (L.told c.args.link.now) (L.told c.ask.new.link) s _ c.as_str.result.now c.deref.result.now _ _ said.said.heard
     c.limit_of-limit.ensures said.ensures.heard said.ensures.adds said.ensures.within
     c.in-Some.asked c.in-Some.is last c.args.reply.now (sym c.in-Some-take.ensures.value)
     (c.as_str.ensures ∙ c.in_ok-context.ensures) (c.deref.ensures.value ∙ c.in_ok-sent.ensures)
-    (subst P (c.in_ok-push.ensures.ok ∙ ap R c.in_ok-reply.ensures) (sym (acted_over s c.take.new.self last.tx _ s.count said.said.heard) ∙ legal))
+    (acted_behind s c.take.new.self last c.parts-tx.result _ _ c.args.reply.now said.said.heard c.act.new.standing c.parts-tx.ensures c.in_ok-push.ensures.ok
+    c.in_ok-reply.ensures legal)
     (due_answers s c.in-Some.asked last c.args.reply.now c.requires.still c.in-Some.is (sym c.in-Some-take.ensures.value) c.requires.fits)
     L.next (said.ensures.whole tells) (said.ensures.obeys tells) spelled)
     c.act.ensures.acted
