@@ -1,12 +1,12 @@
 -- How a peer in memory comes to stand so, step by step.
-use Rattle.std.proofs.Common.{◌≡◌, ◌≤◌, ℕ, List, [], ◌∷◌, ◌++◌, length, Bool, false, Option, Some, None, refl, sym, ap, subst, ◌∙◌, arith}
+use Rattle.std.proofs.Common.{◌≡◌, ◌≤◌, ℕ, List, [], ◌∷◌, ◌++◌, length, false, Option, Some, None, sym, subst, arith}
 use Rattle.std.specs.Prelude.{IfSome, nat_lt}
 use Rattle.std.proofs.lemmas.Bool.Decides.{nat_tests}
 use Rattle.saw_link.specs.LinkConversation.{Obeys}
 use Rattle.saw_link.specs.declared.passed.Passed.{Passed}
 use Rattle.saw_link.specs.declared.passed.Passed.TheVariants.{Sent, Received, Ended}
 use Rattle.saw_station.specs.declared.offer.Offer.{Offer}
-use Rattle.saw_tpside.specs.FamilyPeers.{Came, begins, hears, speaks, ends, gives_up, HasCome, due_from, family_next, is_above, spoken_by, spoken_from, taken_from}
+use Rattle.saw_tpside.specs.FamilyPeers.{begins, hears, speaks, ends, gives_up, HasCome, due_from, family_next, is_above, taken_from}
 use Rattle.saw_tpside.specs.ProcessorConversation.{AreOffers, IsVersion, after_sent, due, limit_at, starting}
 use Rattle.saw_tpside.specs.Understood.{IsUnderstood}
 use Rattle.saw_tpside.specs.declared.serving.Serving.{Serving}
@@ -63,8 +63,3 @@ module _ (passed : List Passed) (frame : List ℕ) where
   may_be_said None due_is short says has = absurd cc
   may_be_said (Some p) due_is short says has =
       obeys passed p frame has (record { due_is = due_is; short = short_enough (limit_at p) (length frame) short; understood = says })
-
--- nothing is due, so it stands as before
-pub stays : (now : Option Serving) → due_from now ≡ None → spoken_from now ≡ now
-stays None is = refl
-stays (Some p) is = ap (λ (d : Option (List ℕ)). Some (spoken_by p d)) is

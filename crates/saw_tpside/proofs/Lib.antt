@@ -5,8 +5,8 @@ pub mod Said
 pub mod StationBack
 pub mod Answered
 pub mod Matching
+pub mod Taking
 pub mod Moving
 pub mod Obeying
 pub mod Stepping
 pub mod Coming
-pub mod Taking

@@ -27,8 +27,9 @@ use Rattle.saw_station.specs.declared.offer.Offer.{Offer}
 use Rattle.saw_tpside.proofs.Answered.{IsReply, asked_by, reply_taken, tx_taken, version_taken}
 use Rattle.saw_tpside.proofs.Matching.{Agrees, HasLast, IsIdle, IsLast, IsOpen, Match, Talks, with_open, went_on}
 use Rattle.saw_tpside.proofs.StationBack.{IsSmall}
+use Rattle.saw_tpside.proofs.Taking.{taken_waiting}
 use Rattle.saw_tpside.specs.FamilyPeers.{as_remote, family_next}
-use Rattle.saw_tpside.specs.ProcessorConversation.{IsVersion, action_behind, after_sent, begun_by, context_of, due, due_by, family_action, is_refused_event, limit_at, no_offer, number_of, open_behind, replied, reply_in, taken, turns_with}
+use Rattle.saw_tpside.specs.ProcessorConversation.{IsVersion, action_behind, after_sent, begun_by, context_of, due, due_by, family_action, is_refused_event, limit_at, no_offer, number_of, open_behind, replied, taken, turns_with}
 use Rattle.saw_tpside.specs.ProcessorConversation as mine
 use Rattle.saw_tpside.specs.ProcessorFrames.{registering}
 use Rattle.saw_tpside.specs.StationFrames.{content_of, reply_of, tx_of, version_stated}
@@ -150,11 +151,6 @@ replied_by : (p : Serving) (current : Open) (found : Option Reply) (q : Serving)
 replied_by p current None q is = absurd cc
 replied_by p current (Some read) q is = record { read = read; found_it = refl; is = some_same _ q is }
 
-taken_open : (p : Serving) (current : Open) (frame : List ℕ) → p.current ≡ Some current → p.waits ≡ true
-    → taken p frame ≡ replied p current (reply_of (limit_at p) (number_of current) current.action frame)
-unfolding taken reply_in
-taken_open p current frame current_is waits_is = rw (current_is, waits_is) refl
-
 alike_push : (told turns : List Turn) (a b : Action) (r t : Reply) → AreAlike told turns → a ≡ b → with_no_index r ≡ with_no_index t
     → AreAlike (told ++ record { action = a; reply = r } ∷ []) (turns ++ record { action = b; reply = t } ∷ [])
 alike_push [] [] a b r t are same replies = ((same, replies), tt)
@@ -175,7 +171,7 @@ answers_by p s reply asked frame q (Some current) current_is agrees talk still a
     let last = talk.last still in
     let acts : last.step.action ≡ current.action = last.of.action ∙ remote_same current.action talk.request in
     let b = replied_by p current (reply_of (limit_at p) (number_of current) current.action (answer asked reply)) q
-    (sym (taken_open p current (answer asked reply) current_is talk.waits) ∙ took) in
+    (sym (taken_waiting p current (answer asked reply) current_is talk.waits) ∙ took) in
     let fit_here : fits current.action reply ≡ true = subst (λ (a : Action). fits a reply ≡ true) acts (fits_last s.last last.step reply last.is fit) in
     let r = reply_taken (limit_at p) (number_of current) current.action asked reply b.read (sym talk.asked ∙ asked_is) fit_here small b.found_it in
     let turns = turns_with current b.read in
@@ -267,7 +263,7 @@ unfolding after
 refuses_by p s asked frame q None current_is agrees talk asked_is took says = let none : None ≡ Some asked = sym talk.asked ∙ asked_is in absurd cc
 refuses_by p s asked frame q (Some current) current_is agrees talk asked_is took says =
     let sent = answer asked (Unauthorized 0) in
-    let b = replied_by p current (reply_of (limit_at p) (number_of current) current.action sent) q (sym (taken_open p current sent current_is talk.waits) ∙ took) in
+    let b = replied_by p current (reply_of (limit_at p) (number_of current) current.action sent) q (sym (taken_waiting p current sent current_is talk.waits) ∙ took) in
     let turns = turns_with current b.read in
     let action = action_behind current.tx turns (is_refused_event current.action b.read) in
     let says_it : IsDueFrame (with_open p current.tx turns action) frame = subst (λ (q : Serving). IsDueFrame q frame) (sym b.is) says in

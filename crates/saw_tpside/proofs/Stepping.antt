@@ -6,7 +6,7 @@ use Rattle.saw_link.specs.Tells.{Adds}
 use Rattle.saw_link.specs.declared.fault.LinkFault.{LinkFault}
 use Rattle.saw_link.specs.declared.fault.LinkFault.TheVariants as links
 use Rattle.saw_link.specs.declared.passed.Passed.{Passed}
-use Rattle.saw_link.specs.declared.passed.Passed.TheVariants.{Sent, Received, Ended}
+use Rattle.saw_link.specs.declared.passed.Passed.TheVariants.{Sent, Received}
 use Rattle.saw_tpside.specs.ProcessorConversation.{Serves, none, sends, takes, after_sent, due, taken}
 use Rattle.saw_tpside.specs.ServedLinks.{EndsBy, EndsHere, GoesOn, HasServed, HasStepped, HasTaken, of_link}
 use Rattle.saw_tpside.specs.declared.fault.TpFault.{TpFault}
@@ -76,11 +76,6 @@ has_taken p frame (Err (Breach shown)) told later before after none_due adds too
     λ l is took adds. record { last = Received l ∷ []; ends = (none_due, subst (λ (x : List ℕ). taken p x ≡ None) (sym is) took, ap (λ (x : List ℕ). Received x ∷ []) (sym is)); adds = adds } in
     ends frame took.1 took.0 adds
 has_taken p frame (Err OutOfMemory) told later before after none_due adds took = starved_late p frame told later before after none_due adds
-
--- the station ended the link
-pub is_over : (p : Serving) (told later : Option (List Passed)) (before after : ℕ) → due p ≡ None → Adds told (Ended ∷ []) later
-    → EndsHere p (Ok p.answered) told later before after
-is_over p told later before after none_due adds = record { last = Ended ∷ []; ends = (refl, none_due, refl); adds = adds }
 
 -- the conversation so far
 pub record SoFar (start : Serving) (told later : Option (List Passed)) (p : Serving) : Type 0 where

@@ -1,6 +1,6 @@
 //! How a processor stands on its link.
 
-ghost use Rattle.std.specs.Prelude.{◌≡◌, ◌+◌, nat_lt, length, min};
+ghost use Rattle.std.specs.Prelude.{◌≡◌, ◌+◌, true, false, None, nat_lt, length, min};
 ghost use Rattle.saw_context.specs.Outcome.{is_request};
 ghost use Rattle.saw_faults.specs.Counts.{last_count};
 ghost use Rattle.saw_tpside.specs.ProcessorConversation.{starting, limit_at, registers, after_sent};
@@ -100,48 +100,38 @@ fn asks(action: &Action) -> bool
     }
 }
 
+// It waits for an answer.
+fn waiting(serving: Serving) -> Serving
+    ensures { result ≡ record serving { waits = true } }
+{
+    let mut serving = serving;
+    serving.waits = true;
+    serving
+}
+
+// The open transaction is answered.
+fn answered(serving: Serving) -> Serving
+    ensures { result ≡ record serving { answered = min (serving.answered + 1) last_count; current = None; waits = false } }
+{
+    let mut serving = serving;
+    serving.answered = serving.answered.saturating_add(1);
+    serving.current = None;
+    serving.waits = false;
+    serving
+}
+
 /// How it stands once the frame that was due was sent.
 pub(crate) fn after_sent(serving: Serving) -> Serving
     ensures { result ≡ after_sent serving }
 {
-    let Serving {
-        offers,
-        version,
-        registered,
-        answered,
-        current,
-        waits: _,
-    } = serving;
-    match current {
+    match &serving.current {
         Some(current) => {
             if asks(&current.action) {
-                Serving {
-                    offers,
-                    version,
-                    registered,
-                    answered,
-                    current: Some(current),
-                    waits: true,
-                }
+                waiting(serving)
             } else {
-                let answered = answered.saturating_add(1);
-                Serving {
-                    offers,
-                    version,
-                    registered,
-                    answered,
-                    current: None,
-                    waits: false,
-                }
+                answered(serving)
             }
         }
-        None => Serving {
-            offers,
-            version,
-            registered,
-            answered,
-            current: None,
-            waits: true,
-        },
+        None => waiting(serving),
     }
 }
