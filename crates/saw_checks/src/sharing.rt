@@ -11,8 +11,11 @@ use std::alloc::{AllocError, Global};
 use std::thread;
 use std::thread::Threads;
 
+/// Of so few bytes no part goes to another thread: its start takes as long as the check of some ten transactions.
+const WORTH: u64 = 8192;
+
 /// Checks each batch by itself, whatever the others are. An `Err` says that memory ran out.
-/// As many threads as `workers` share them by their bytes; 0 and 1 mean this thread alone.
+/// As many threads as `workers` share them by their bytes, and fewer share a few; 0 and 1 mean this thread alone.
 pub fn check_batches<T: Threads + Sync, V: Verifier>(
     rt: &T,
     alloc: Global,
@@ -38,7 +41,7 @@ fn judge_all<T: Threads + Sync, V: Verifier>(
     requires { All (λ batch. length batch.transactions < 2 ^ 32) batches.now }
     ensures { IfOk result (λ judged. AreJudged (V.accepts verifier.now) batches.now judged.items) }
 {
-    if workers <= 1 || batches.len() <= 1 {
+    if workers <= 1 || batches.len() <= 1 || weight_of_all(batches) < WORTH {
         return judge_plainly(alloc, batches, verifier);
     }
     let near = workers / 2;

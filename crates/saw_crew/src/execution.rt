@@ -12,6 +12,7 @@ use crate::ending::{left_by_workers, run_alone};
 use crate::fault::CrewFault;
 use crate::locked::Locked;
 use crate::work::all_work;
+use crate::workers::threads_for;
 use saw_address::Base;
 use saw_plan::Plan;
 use saw_schedule::{Results, Schedule};
@@ -43,8 +44,9 @@ pub fn execute<B: Base, R: Station, T: Threads + Wait + Sync>(
 {
     let schedule = Schedule::new(alloc, plan.clone()?)?;
     let shared = desks[0].shared_offers()?;
-    let locked = Mutex::new(Locked::<R>::new(schedule, shared, desks.len()));
-    all_work(rt, alloc, desks, &locked, base);
+    let threads = threads_for(schedule.plan(), desks);
+    let locked = Mutex::new(Locked::<R>::new(schedule, shared, threads));
+    all_work(rt, alloc, desks, threads, &locked, base);
     let first = &mut desks[0];
     let offers = first.offers();
     let schedule = left_by_workers(alloc, locked.into_inner(), plan.clone()?, offers, base)?;

@@ -109,20 +109,20 @@ fn work<R: Station, B: Base, T: Wait>(
     }
 }
 
-/// Runs a worker for each desk, and joins them.
+/// Runs a worker for each desk, by so many threads that share the desks, and joins them.
 pub(crate) fn all_work<R: Station, B: Base, T: Threads + Wait + Sync>(
     rt: &T,
     alloc: Global,
     desks: &mut [Desk<R>],
+    threads: usize,
     locked: &Mutex<Locked<R>>,
     base: &B,
 )
-    requires { 0 < length desks.old }
+    requires { 0 < threads }
     ensures { (i : ℕ) (d : _) → i < length desks.old
         → KeepsDesk R.faults R.offered (slice_index_or desks.old i d) (slice_index_or desks.new i d) }
 {
     let moved = Condvar::new();
-    let threads = desks.len();
     thread::for_each_mut(
         rt,
         desks,

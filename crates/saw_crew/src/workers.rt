@@ -1,8 +1,12 @@
-//! How many workers there are.
+//! How many workers there are, and how many threads are worth their start.
 
 ghost use Rattle.std.specs.Prelude.{◌<◌, ◌≤◌, length};
 
+use saw_plan::Plan;
 use saw_station::{Desk, Station};
+
+/// For how many transactions of the built-in families a thread is started: its start takes as long as some ten of them.
+const WORTH: usize = 16;
 
 /// As many workers as desks.
 pub fn workers_at<R: Station>(desks: &[Desk<R>]) -> u32
@@ -10,4 +14,26 @@ pub fn workers_at<R: Station>(desks: &[Desk<R>]) -> u32
     ensures { 1 ≤ result }
 {
     u32::try_from(desks.len()).unwrap_or(u32::MAX)
+}
+
+fn transactions_of(plan: &Plan) -> usize {
+    let mut count = 0usize;
+    for batch in plan.batches.as_slice() {
+        count = count.saturating_add(batch.txs.len());
+    }
+    count
+}
+
+/// How many threads run a plan: no more than desks, and none for a few transactions alone. Each that a processor elsewhere
+/// may answer is worth one.
+pub(crate) fn threads_for<R: Station>(plan: &Plan, desks: &[Desk<R>]) -> usize
+    requires { 0 < length desks.now }
+    ensures { 0 < result }
+{
+    let worth = if desks[0].offers().is_empty() {
+        WORTH
+    } else {
+        1
+    };
+    (transactions_of(plan) / worth).min(desks.len()).max(1)
 }
