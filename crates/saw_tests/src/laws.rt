@@ -99,4 +99,5 @@ fn laws_of_blocks_and_streams(_rt: HostRuntime) {
     saw_top::all_is_told();
     saw_top::candidate_is_accepted();
     saw_top::generated_stream_is_committed();
+    saw_top::map_behind_is_branch();
 }

@@ -18,14 +18,15 @@ use Rattle.saw_top.specs.History.{ended, history}
 use Rattle.saw_top.specs.Outside.{AreLater, End, Outside, SomeRose, sides, sides_of}
 use Rattle.saw_top.specs.Run.{faulty, noted_by, written_by}
 use Rattle.saw_top.specs.Vouching.{ComesBy, Prepares, prepared_in}
-use Rattle.saw_top.specs.Telling.{IsTold}
-use Rattle.saw_top.specs.World.{Accepts, World, world_with}
+use Rattle.saw_top.specs.World.{Accepts, Ways, World, serially, world_with}
 use Rattle.saw_top.specs.declared.task.Lines.{Lines}
 use Rattle.saw_top.specs.declared.task.Lines.TheVariants.{All, Refused}
 use Rattle.saw_top.specs.declared.task.Task.{Task}
 use Rattle.saw_top.proofs.Counting.{later_on, later_same, rose_since_later}
 use Rattle.saw_top.proofs.Prepares.{files_in}
 use Rattle.saw_top.proofs.Doing.{no_front}
+use Rattle.saw_top.proofs.OneAnswer.{shows_told}
+use Rattle.saw_top.proofs.OwnReasons.{HasOwnReasons, serial_may}
 
 -- who signs, by the key's text and the signatures
 abbrev pub signs : List ℕ → (List ℕ → List ℕ) → Signing
@@ -33,8 +34,8 @@ signs key signature = record { key = key; signature = signature }
 
 -- ---- nothing was taken or written
 
-module _ (processors : Processors) (bytes : List ℕ) (old told : Option (List ℕ)) where
-  begun : (task : Task) (ready : Result Prepared RunFault) → GoesOn (answer_for processors task ready bytes) bytes (Some bytes) (sides old old told told)
+module _ (ways : Ways) (bytes : List ℕ) (old told : Option (List ℕ)) where
+  begun : (task : Task) (ready : Result Prepared RunFault) → GoesOn (answer_for ways task ready bytes) bytes (Some bytes) (sides old old told told)
   unfolding history
   begun task ready = record {
     frames = [];
@@ -48,11 +49,11 @@ module _ (processors : Processors) (bytes : List ℕ) (old told : Option (List �
     notes = subst (λ (l : List ℕ). Appends told told (l ++ [])) (sym (none_noted ready)) (Appends-nil told);
   }
     where
-      none_written : (ready : Result Prepared RunFault) → (answer_for processors task ready bytes).output_for [] ≡ []
+      none_written : (ready : Result Prepared RunFault) → (answer_for ways task ready bytes).output_for 0 ≡ []
       none_written (Err fault) = refl
       none_written (Ok made) = elim task.lines as (λ lines. written_by lines (ended [] false) ≡ []) [ All ↦ refl | Refused ↦ refl ]
 
-      none_noted : (ready : Result Prepared RunFault) → (answer_for processors task ready bytes).noted_for [] ≡ []
+      none_noted : (ready : Result Prepared RunFault) → (answer_for ways task ready bytes).noted_for 0 ≡ []
       none_noted (Err fault) = refl
       none_noted (Ok made) = elim task.lines as (λ lines. noted_by lines (ended [] false) ≡ []) [ All ↦ refl | Refused ↦ refl ]
 
@@ -66,13 +67,13 @@ untouched : (lines : Lines) (old told : Option (List ℕ)) (noted : List ℕ) �
 untouched All old told noted = tt
 untouched Refused old told noted = inl refl
 
-module _ (processors : Processors) (before : Outside) (held : End Files) (counts : List ℕ) where
+module _ (processors : Processors) (own : HasOwnReasons processors) (before : Outside) (held : End Files) (counts : List ℕ) where
   -- only the shelf and the processors elsewhere were asked
   abbrev still : Outside
   still = record before { shelf = held; remotes = counts }
 
   pub nothing : (task : Task) (ready : Result Prepared RunFault) (came : Result ℕ RunFault) → HasCause processors task ready before still came
-      → ((bytes : List ℕ) (left : Option (List ℕ)) → EndsBy (answer_for processors task ready bytes) bytes left (sides_of before still) came)
+      → ((bytes : List ℕ) (left : Option (List ℕ)) → EndsBy (answer_for (serially processors) task ready bytes) bytes left (sides_of before still) came)
       → Does processors task ready before still came
   nothing task ready came cause ends = record {
     cause = cause;
@@ -81,22 +82,23 @@ module _ (processors : Processors) (before : Outside) (held : End Files) (counts
     noted = Appends-nil before.notes.tells;
     later =
         omega arith;
+    ways = serially processors;
+    may = serial_may processors own;
     shows = here before.input.tells;
+    told = shows_told processors (serially processors) (serial_may processors own) task ready before still came before.input.tells (here before.input.tells);
   }
     where
-      here : (first : Option (List ℕ))
-          → IfSome first (λ bytes. IsTold processors ready bytes
-          → Shows (answer_for processors task ready bytes) bytes first (sides_of before still) came
-          × TellsFirst task.lines (answer_for processors task ready bytes).noted (sides_of before still))
+      here : (first : Option (List ℕ)) → IfSome first (λ bytes. let answer = answer_for (serially processors) task ready bytes in
+          Shows answer bytes first (sides_of before still) came × TellsFirst task.lines answer.noted (sides_of before still))
       here None = tt
-      here (Some bytes) = λ told. (
+      here (Some bytes) = (
         record {
-          output = no_front (answer_for processors task ready bytes).output before.output.tells;
-          notes = no_front (answer_for processors task ready bytes).noted before.notes.tells;
-          prompt = begun processors bytes before.output.tells before.notes.tells task ready;
+          output = no_front (answer_for (serially processors) task ready bytes).output before.output.tells;
+          notes = no_front (answer_for (serially processors) task ready bytes).noted before.notes.tells;
+          prompt = begun (serially processors) bytes before.output.tells before.notes.tells task ready;
           ends = ends bytes (Some bytes);
         },
-        untouched task.lines before.output.tells before.notes.tells (answer_for processors task ready bytes).noted,
+        untouched task.lines before.output.tells before.notes.tells (answer_for (serially processors) task ready bytes).noted,
       )
 
   -- words or a list have a fault
@@ -106,9 +108,9 @@ module _ (processors : Processors) (before : Outside) (held : End Files) (counts
   faulted task fault cause ends = nothing task (Err fault) (Err fault) cause ends
 
 -- the words ask for nothing
-pub unasked : (accepts : Accepts) (signing : Signing) (processors : Processors) (asked : Option Asked) (before : Outside) → asked ≡ None
+pub unasked : (accepts : Accepts) (signing : Signing) (processors : Processors) → HasOwnReasons processors → (asked : Option Asked) (before : Outside) → asked ≡ None
     → Carries (world_with accepts signing processors) asked before before (Err runs.Words)
-unasked accepts signing processors asked before none =
+unasked accepts signing processors own asked before none =
     let at = files_in before.shelf.tells in
     rw none (record {
       files = at.0;
@@ -116,14 +118,14 @@ unasked accepts signing processors asked before none =
       words = (λ same. refl, λ same. refl);
       named = λ same. absurd cc;
       later = later_same before.remotes;
-      does = faulted processors before before.shelf before.remotes _ runs.Words (refl, refl) (whole runs.Words _ _);
+      does = faulted processors own before before.shelf before.remotes _ runs.Words (refl, refl) (whole runs.Words _ _);
     })
 
 -- memory was refused while the words were read
-pub unread : (accepts : Accepts) (signing : Signing) (processors : Processors) (asked : Option Asked) (before : Outside) → IsSome asked
+pub unread : (accepts : Accepts) (signing : Signing) (processors : Processors) → HasOwnReasons processors → (asked : Option Asked) (before : Outside) → IsSome asked
     → Carries (world_with accepts signing processors) asked before before (Err runs.Memory)
-unread accepts signing processors None before some = absurd cc
-unread accepts signing processors (Some (Judge wish)) before some =
+unread accepts signing processors own None before some = absurd cc
+unread accepts signing processors own (Some (Judge wish)) before some =
     let at = files_in before.shelf.tells in
     record {
       files = at.0;
@@ -131,10 +133,10 @@ unread accepts signing processors (Some (Judge wish)) before some =
       words = (λ same. absurd cc, λ none. absurd cc);
       named = λ same. absurd cc;
       later = later_same before.remotes;
-      does = nothing processors before before.shelf before.remotes wish.task (prepared (world_with accepts signing processors at.0) (Some wish))
+      does = nothing processors own before before.shelf before.remotes wish.task (prepared (world_with accepts signing processors at.0) (Some wish))
           (Err runs.Memory) tt (λ bytes left. tt);
     }
-unread accepts signing processors (Some (Generate wish)) before some =
+unread accepts signing processors own (Some (Generate wish)) before some =
     λ files. record { still = refl; wrote = no_front (stream signing wish) before.output.tells }
 
 -- a job was done
@@ -149,7 +151,7 @@ pub generated : (given : Files → World) (asked : Option Asked) (wish : Generat
 generated given asked wish before after came is still wrote =
     subst (λ (a : Option Asked). Carries given a before after came) is (λ files. record { still = still; wrote = wrote files })
 
-module _ (accepts : Accepts) (signing : Signing) (processors : Processors) (workers : ℕ) (task : Task) (list batches : Option (List ℕ))
+module _ (accepts : Accepts) (signing : Signing) (processors : Processors) (own : HasOwnReasons processors) (workers : ℕ) (task : Task) (list batches : Option (List ℕ))
     (before : Outside) (held : End Files) where
   abbrev wish : Option Wish
   wish = Some (record { workers = workers; task = task; list = list; batches = batches })
@@ -189,7 +191,7 @@ module _ (accepts : Accepts) (signing : Signing) (processors : Processors) (work
           → Carried fault
       of_file fault other named is cause ends = carried fault other named
           (subst (λ (r : Result Prepared RunFault). Does processors task r before asked (Err fault)) (sym is)
-          (faulted processors before held before.remotes task fault cause ends))
+          (faulted processors own before held before.remotes task fault cause ends))
 
       by_fault : (fault : RunFault) → ComesBy why (ready_in prepares.files) (Err fault) → Carried fault
       by_fault runs.FileMissing by = of_file runs.FileMissing (λ same. cc) (λ same. absurd cc) by.0 (refl, refl) (whole runs.FileMissing _ _)
@@ -197,9 +199,9 @@ module _ (accepts : Accepts) (signing : Signing) (processors : Processors) (work
       by_fault (runs.BadLine line) by = of_file (runs.BadLine line) (λ same. cc) (λ same. absurd cc) by.0 (refl, refl) (whole (runs.BadLine line) _ _)
       by_fault runs.BadList by = of_file runs.BadList (λ same. cc) (λ same. absurd cc) by.0 (refl, refl) (whole runs.BadList _ _)
       by_fault runs.FileFailed by = carried runs.FileFailed (λ same. cc) (λ same. by.0)
-          (nothing processors before held before.remotes task (ready_in prepares.files) (Err runs.FileFailed) (by.1, refl) (λ bytes left. tt))
+          (nothing processors own before held before.remotes task (ready_in prepares.files) (Err runs.FileFailed) (by.1, refl) (λ bytes left. tt))
       by_fault runs.Memory by = carried runs.Memory (λ same. cc) (λ same. absurd cc)
-          (nothing processors before held before.remotes task (ready_in prepares.files) (Err runs.Memory) tt (λ bytes left. tt))
+          (nothing processors own before held before.remotes task (ready_in prepares.files) (Err runs.Memory) tt (λ bytes left. tt))
       by_fault fault by = absurd cc
 
   module _ (made : Prepared) (prepares : Prepares accepts signing list batches before.shelf held (Ok made)) where
@@ -211,7 +213,7 @@ module _ (accepts : Accepts) (signing : Signing) (processors : Processors) (work
       words = (λ same. absurd cc, λ none. absurd cc);
       named = λ same. absurd cc;
       later = later_same before.remotes;
-      does = nothing processors before held before.remotes task (ready_in prepares.files) (Err runs.Memory) tt (λ bytes left. tt);
+      does = nothing processors own before held before.remotes task (ready_in prepares.files) (Err runs.Memory) tt (λ bytes left. tt);
     }
 
     -- by a shelf that nothing is asked of
@@ -291,7 +293,10 @@ module _ (processors : Processors) (task : Task) (ready : Prepared) (before afte
     aside = does.aside;
     noted = does.noted;
     later = does.later;
+    ways = does.ways;
+    may = does.may;
     shows = does.shows;
+    told = does.told;
   }
 
 module _ (given : Files → World) (wish : Wish) (before : Outside) (counts : List ℕ) (later : AreLater before.remotes counts) where
@@ -299,9 +304,9 @@ module _ (given : Files → World) (wish : Wish) (before : Outside) (counts : Li
   begun_at = record before { remotes = counts }
 
   -- one of them failed as it began, or memory was refused
-  pub unbegun : (fault : RunFault) → (fault ≡ runs.Peer) ⊎ (fault ≡ runs.Memory) → (fault ≡ runs.Peer → SomeRose before.remotes counts)
+  pub unbegun : ((files : Files) → HasOwnReasons (given files).processors) → (fault : RunFault) → (fault ≡ runs.Peer) ⊎ (fault ≡ runs.Memory) → (fault ≡ runs.Peer → SomeRose before.remotes counts)
       → CarriesOut given (Some wish) before begun_at (Err fault)
-  unbegun fault (inl is) rose =
+  unbegun own fault (inl is) rose =
       let at = files_in before.shelf.tells in
       let world = given at.0 in
       rw is (record {
@@ -310,10 +315,10 @@ module _ (given : Files → World) (wish : Wish) (before : Outside) (counts : Li
         words = (λ same. absurd cc, λ none. absurd cc);
         named = λ same. absurd cc;
         later = later;
-        does = nothing world.processors before before.shelf counts wish.task (prepared world (Some wish)) (Err runs.Peer) (inr refl, rose is)
+        does = nothing world.processors (own at.0) before before.shelf counts wish.task (prepared world (Some wish)) (Err runs.Peer) (inr refl, rose is)
             (λ bytes left. tt);
       })
-  unbegun fault (inr is) rose =
+  unbegun own fault (inr is) rose =
       let at = files_in before.shelf.tells in
       let world = given at.0 in
       rw is (record {
@@ -322,7 +327,7 @@ module _ (given : Files → World) (wish : Wish) (before : Outside) (counts : Li
         words = (λ same. absurd cc, λ none. absurd cc);
         named = λ same. absurd cc;
         later = later;
-        does = nothing world.processors before before.shelf counts wish.task (prepared world (Some wish)) (Err runs.Memory) tt (λ bytes left. tt);
+        does = nothing world.processors (own at.0) before before.shelf counts wish.task (prepared world (Some wish)) (Err runs.Memory) tt (λ bytes left. tt);
       })
 
   -- what was done behind their beginning
@@ -363,6 +368,9 @@ module _ (given : Files → World) (wish : Wish) (before : Outside) (counts : Li
             aside = does.aside;
             noted = does.noted;
             later = does.later;
+            ways = does.ways;
+            may = does.may;
             shows = does.shows;
+            told = does.told;
           };
         }

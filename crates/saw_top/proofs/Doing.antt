@@ -1,26 +1,27 @@
 -- What a task does, by how the judging of the stream ended and what was written behind it.
 use Rattle.std.proofs.Common.{◌≡◌, ◌⊎◌, ◌≤◌, inl, inr, ℕ, Bool, true, false, List, [], ◌++◌, Option, Some, None, Result, Ok, Err, refl}
-use Rattle.std.proofs.Common.{sym, ap, subst, ◌∙◌, append_assoc, arith}
+use Rattle.std.proofs.Common.{sym, ap, subst, ◌∙◌, append_assoc, arith, length}
 use Rattle.std.specs.Prelude.{IfErr, IfOk, IfSome, IsErrOf, if◌then◌else◌}
 use Rattle.std.specs.FinMap as finite
 use Rattle.std.specs.Io.KnownBytes.{Appends}
 use Rattle.std.specs.List.{AllByRecursion}
 use Rattle.std.proofs.KnownBytes.{Appends-nil, Appends-trans}
-use Rattle.std.proofs.lemmas.List.{append-nil}
+use Rattle.std.proofs.lemmas.List.{append-nil, take_all}
 use Rattle.saw_context.specs.Outcome.{Processors}
 use Rattle.saw_faults.specs.Counts.{Rose}
 use Rattle.saw_io.specs.Shelf.{Files}
 use Rattle.saw_receipts.specs.Heads.{head_branch, head_of}
-use Rattle.saw_journal.specs.Judgement.{Kept, Rules}
+use Rattle.saw_journal.specs.Judgement.{Kept, Rules, rules_with}
 use Rattle.saw_journal.specs.Ledger.{Ledger, map_under}
 use Rattle.saw_merkle.specs.States.{States}
 use Rattle.saw_node.specs.Hashes.{first_half}
 use Rattle.saw_node.specs.declared.node.Node.{Node}
+use Rattle.saw_receipts.specs.Running.{Runs}
 use Rattle.saw_receipts.specs.declared.block.BlockRecord.{BlockRecord}
 use Rattle.saw_report.specs.Lines.{head_line}
 use Rattle.saw_report.specs.declared.run_fault.RunFault.TheVariants as runs
 use Rattle.saw_report.specs.declared.run_fault.RunFault.{RunFault}
-use Rattle.saw_top.specs.Answers.{Prepared, ready_with}
+use Rattle.saw_top.specs.Answers.{Prepared, answer_for, ready_with}
 use Rattle.saw_top.specs.Clashing.{ClashIn, TellsAlike}
 use Rattle.saw_top.specs.Ends.{ClashesAt, Finishes, IsOfEnd, WritesBy, WritesEnd, draft_in, end_at, plain_end}
 use Rattle.saw_top.specs.Publishing.{Waiting, candidate_status, candidate_text, draft_at, losses_text, map_left, parent_at}
@@ -31,17 +32,16 @@ use Rattle.saw_receipts.specs.Branches.{ids_in}
 use Rattle.saw_messages.specs.declared.batch.Batch.{Batch as BatchMessage}
 use Rattle.saw_address.specs.Maps.{StateMap}
 use Rattle.saw_top.specs.EndingFaults.{IsOfStream}
-use Rattle.saw_top.specs.Headline.{Does, EndsBy, GoesOn, HasCause, HasFault, IsDone, KeepsUp, MeetsClash, MeetsClashBehind, Shows, TellsFirst}
-use Rattle.saw_top.specs.History.{History, map_behind, records_of, some_refused}
+use Rattle.saw_top.specs.Headline.{Does, EndsBy, GoesOn, HasCause, HasFault, IsDone, KeepsUp, MeetsClash, MeetsClashBehind, Shows, ShowsBy, TellsFirst}
+use Rattle.saw_top.specs.History.{History, map_behind, maps_of, records_of, some_refused}
 use Rattle.saw_top.specs.StreamJudging.{JudgesFor}
 use Rattle.saw_top.specs.StreamJudging.{IsPrompt, IsUpToDate, Judges, JudgesAll, JudgesBy, JudgesTo, StopsAtClash}
 use Rattle.saw_top.specs.Listing.{batch_status, batch_text, listing, listing_status, receipts_status, receipts_text}
 use Rattle.saw_top.specs.Outside.{End, Outside, Sides, SomeRose, WritesFront, lines_side, other_side, sides_of}
 use Rattle.saw_top.specs.Reports.{report}
-use Rattle.saw_top.specs.Run.{Answer, AtEnd, end_by, ending_of, fault_of, history_of, noted_by, run_of, status_by, task_answer, written_by}
+use Rattle.saw_top.specs.Run.{Answer, AtEnd, end_by, ending_of, fault_of, history_of, noted_by, run_of, run_to, status_by, task_answer, written_by}
 use Rattle.saw_top.specs.KeptBlocks.{IsAfter, IsKept}
-use Rattle.saw_top.specs.Telling.{IsTold, tell_stream}
-use Rattle.saw_top.specs.World.{Accepts, rules_by}
+use Rattle.saw_top.specs.World.{Accepts, AreWays, Judging, Ways, judging_by, serially}
 use Rattle.saw_top.specs.declared.task.Ending.{Ending}
 use Rattle.saw_top.specs.declared.task.Ending.TheVariants.{Batch, Candidate, Head, Entries, Receipts}
 use Rattle.saw_top.specs.declared.task.Lines.{Lines}
@@ -50,8 +50,11 @@ use Rattle.saw_top.specs.declared.task.Task.{Task}
 use Rattle.saw_top.specs.Limits.{max_frames}
 use Rattle.saw_top.specs.Stream.{stream_of}
 use Rattle.saw_top.proofs.BehindHead.{map_is}
+use Rattle.saw_top.proofs.Histories.{by_ways}
 use Rattle.saw_top.proofs.Judgements.{IsRight, all_right}
 use Rattle.saw_top.proofs.Listed.{of_head}
+use Rattle.saw_top.proofs.OneAnswer.{shows_told}
+use Rattle.saw_top.proofs.OwnReasons.{HasOwnReasons, serial_may}
 use Rattle.saw_top.proofs.Standings.{clash_in, nothing_judged}
 use Rattle.saw_top.proofs.Streams.{whole_read}
 
@@ -109,13 +112,13 @@ none_in : (is_full : Bool) (fault : Option RunFault) → (if is_full then Some r
 none_in true fault none = absurd cc
 none_in false fault none = none
 
-module _ (rules : Rules) (waiting : Waiting) (task : Task) (bytes : List ℕ) (left : Option (List ℕ)) (before middle : Outside)
+module _ (judging : Judging) (rules : Rules) (waiting : Waiting) (task : Task) (bytes : List ℕ) (left : Option (List ℕ)) (before middle : Outside)
     (aside : other_side task.lines middle ≡ other_side task.lines before) where
   abbrev answer : Answer
-  answer = task_answer rules waiting task bytes
+  answer = task_answer judging rules waiting task bytes
 
   abbrev run : History
-  run = run_of rules bytes
+  run = run_of judging bytes
 
   abbrev old : Option (List ℕ)
   old = (lines_side task.lines before).tells
@@ -132,9 +135,9 @@ module _ (rules : Rules) (waiting : Waiting) (task : Task) (bytes : List ℕ) (l
   abbrev on_notes : List ℕ
   on_notes = noted_by task.lines run
 
-  keeps_up : IsUpToDate rules task.lines bytes left old mid → KeepsUp answer bytes left at
+  keeps_up : IsUpToDate judging task.lines bytes left old mid → KeepsUp answer bytes left at
   keeps_up up =
-      let there = placed_all before middle (history_of rules up.frames) task.lines aside up.written in
+      let there = placed_all before middle (run_to judging bytes (length up.frames)) task.lines aside up.written in
       record {
         frames = up.frames;
         rest = up.rest;
@@ -150,7 +153,7 @@ module _ (rules : Rules) (waiting : Waiting) (task : Task) (bytes : List ℕ) (l
       }
 
   -- the judging ended with a fault of the stream
-  shows_to : (fault : RunFault) → JudgesTo rules task.lines bytes old mid fault → HasFault answer bytes left at fault
+  shows_to : (fault : RunFault) → JudgesTo judging task.lines bytes old mid fault → HasFault answer bytes left at fault
   shows_to fault judged =
       let there = placed_all before middle run task.lines aside judged.1 in
       let end : AtEnd → Type 0 = λ e. (on_output ++ e.output ≡ on_output) × (on_notes ++ e.noted ≡ on_notes) in
@@ -164,10 +167,10 @@ module _ (rules : Rules) (waiting : Waiting) (task : Task) (bytes : List ℕ) (l
       )
 
   -- two different nodes of one hash were met
-  meets_clash : rules.hash ≡ first_half → (kept given : Node) → StopsAtClash rules task.lines bytes left old mid kept given
+  meets_clash : (kept given : Node) → StopsAtClash judging task.lines bytes left old mid kept given
       → MeetsClash answer bytes left at kept given
-  meets_clash same kept given met =
-      let there = placed_all before middle (history_of rules met.frames) task.lines aside met.written in
+  meets_clash kept given met =
+      let there = placed_all before middle (run_to judging bytes (length met.frames)) task.lines aside met.written in
       record {
         frames = met.frames;
         content = met.content;
@@ -178,19 +181,19 @@ module _ (rules : Rules) (waiting : Waiting) (task : Task) (bytes : List ℕ) (l
         tried = met.would;
         output = there.0;
         notes = there.1;
-        clash = subst (λ (hash : List ℕ → List ℕ). ClashIn hash met.m (answer.maps_for met.frames) kept given) same met.clash;
+        clash = met.clash;
       }
 
-  shows_by : rules.hash ≡ first_half → (ledger : Ledger) (e : RunFault) → JudgesBy rules task.lines bytes left old mid ledger (Err e) → EndsBy answer bytes left at (Err e)
-  shows_by same ledger (runs.Truncated have want) judged = (shows_to (runs.Truncated have want) judged.0, judged.1)
-  shows_by same ledger (runs.TooLong size) judged = (shows_to (runs.TooLong size) judged.0, judged.1)
-  shows_by same ledger runs.Read judged = keeps_up judged
-  shows_by same ledger runs.Write judged = tt
-  shows_by same ledger runs.Peer judged = tt
-  shows_by same ledger (runs.Collision kept given) judged = inl (meets_clash same kept given judged)
-  shows_by same ledger runs.Memory judged = tt
-  shows_by same ledger runs.FileFailed judged = tt
-  shows_by same ledger e judged = shows_to e judged
+  shows_by : (ledger : Ledger) (e : RunFault) → JudgesBy judging task.lines bytes left old mid ledger (Err e) → EndsBy answer bytes left at (Err e)
+  shows_by ledger (runs.Truncated have want) judged = (shows_to (runs.Truncated have want) judged.0, judged.1)
+  shows_by ledger (runs.TooLong size) judged = (shows_to (runs.TooLong size) judged.0, judged.1)
+  shows_by ledger runs.Read judged = keeps_up judged
+  shows_by ledger runs.Write judged = tt
+  shows_by ledger runs.Peer judged = tt
+  shows_by ledger (runs.Collision kept given) judged = inl (meets_clash kept given judged)
+  shows_by ledger runs.Memory judged = tt
+  shows_by ledger runs.FileFailed judged = tt
+  shows_by ledger e judged = shows_to e judged
 
   -- more was written and told behind what was judged
   module _ (out told : End (List ℕ)) (more lines : List ℕ) (wrote : Appends middle.output.tells out.tells more)
@@ -198,11 +201,11 @@ module _ (rules : Rules) (waiting : Waiting) (task : Task) (bytes : List ℕ) (l
     abbrev behind : Sides
     behind = sides_of before (record middle { output = out; notes = told })
 
-    goes_on : IsPrompt rules task.lines bytes left old mid → GoesOn answer bytes left behind
+    goes_on : IsPrompt judging task.lines bytes left old mid → GoesOn answer bytes left behind
     goes_on prompt =
-        let there = placed before middle (history_of rules prompt.frames) task.lines aside prompt.part prompt.written in
-        let output = answer.output_for prompt.frames in
-        let on_side = answer.noted_for prompt.frames in
+        let there = placed before middle (run_to judging bytes (length prompt.frames)) task.lines aside prompt.part prompt.written in
+        let output = answer.output_for (length prompt.frames) in
+        let on_side = answer.noted_for (length prompt.frames) in
         record {
           frames = prompt.frames;
           rest = prompt.rest;
@@ -218,24 +221,24 @@ module _ (rules : Rules) (waiting : Waiting) (task : Task) (bytes : List ℕ) (l
         }
 
   -- nothing was
-  pub shows_fault : rules.hash ≡ first_half → (ledger : Ledger) (e : RunFault) → Judges rules task.lines bytes left old mid ledger (Err e) → Shows answer bytes left at (Err e)
-  shows_fault same ledger e judged =
+  pub shows_fault : (ledger : Ledger) (e : RunFault) → Judges judging task.lines bytes left old mid ledger (Err e) → Shows answer bytes left at (Err e)
+  shows_fault ledger e judged =
       let front = placed_front before middle run task.lines aside judged.front in
-      let end = end_by rules waiting task.ending run (fault_of rules bytes) in
+      let end = end_by rules waiting task.ending run (fault_of judging bytes) in
       record {
         output = front_more on_output end.output at.old at.new front.0;
         notes = front_more on_notes end.noted at.told_old at.told_new front.1;
         prompt = goes_on middle.output middle.notes [] [] (Appends-nil middle.output.tells) (Appends-nil middle.notes.tells) judged.prompt;
-        ends = shows_by same ledger e judged.ends;
+        ends = shows_by ledger e judged.ends;
       }
 
   -- all blocks were judged, and then the end was written, or a front of it
-  module _ (out told : End (List ℕ)) (refused : Bool) (ledger : Ledger) (judged : Judges rules task.lines bytes left old mid ledger (Ok refused))
+  module _ (out told : End (List ℕ)) (refused : Bool) (ledger : Ledger) (judged : Judges judging task.lines bytes left old mid ledger (Ok refused))
       (end : AtEnd) (is : ending_of rules waiting task.ending run ≡ end) where
     abbrev last : Sides
     last = sides_of before (record middle { output = out; notes = told })
 
-    end_is : end_by rules waiting task.ending run (fault_of rules bytes) ≡ end
+    end_is : end_by rules waiting task.ending run (fault_of judging bytes) ≡ end
     end_is = ap (end_by rules waiting task.ending run) judged.ends.fine ∙ is
 
     output_is : answer.output ≡ on_output ++ end.output
@@ -247,23 +250,31 @@ module _ (rules : Rules) (waiting : Waiting) (task : Task) (bytes : List ℕ) (l
     there : Appends at.old at.new on_output × Appends at.told_old at.told_new on_notes
     there = placed_all before middle run task.lines aside judged.ends.written
 
+    -- all frames are the first of the stream
+    all_first : run ≡ run_to judging bytes (length (stream_of bytes).frames)
+    all_first = let frames = (stream_of bytes).frames in
+        sym (ap (λ (l : List (List ℕ)). history_of judging l) (take_all (length frames) frames (omega arith)))
+
     -- the nodes are of the map that a candidate would leave and of known ones
-    meets_behind : rules.hash ≡ first_half → (kept given : Node) → ClashesAt end ledger middle.output out middle.notes told kept given
+    meets_behind : (kept given : Node) → ClashesAt end ledger middle.output out middle.notes told kept given
         → MeetsClashBehind answer bytes left last kept given
-    meets_behind same kept given met = record {
+    meets_behind kept given met = record {
       frames = (stream_of bytes).frames;
       reads = whole_read max_frames bytes (none_in run.is_full (stream_of bytes).fault judged.ends.fine);
       ended = judged.ends.ended;
       m = met.m;
       made = ap (λ (e : AtEnd). e.made) end_is ∙ met.made;
-      output = subst (λ (new : Option (List ℕ)). Appends at.old new on_output) (sym met.still) there.0;
-      notes = subst (λ (new : Option (List ℕ)). Appends at.told_old new on_notes) (sym met.quiet) there.1;
-      clash = clash_in first_half rules run.accepted ledger judged.ends.after met.m kept given met.clash (met.clash.2, met.clash.3);
+      output = subst (λ (h : History). Appends at.old last.new (written_by task.lines h)) all_first
+          (subst (λ (new : Option (List ℕ)). Appends at.old new on_output) (sym met.still) there.0);
+      notes = subst (λ (h : History). Appends at.told_old last.told_new (noted_by task.lines h)) all_first
+          (subst (λ (new : Option (List ℕ)). Appends at.told_old new on_notes) (sym met.quiet) there.1);
+      clash = subst (λ (h : History). ClashIn first_half met.m (maps_of h.accepted) kept given) all_first
+          (clash_in first_half run.accepted ledger judged.ends.after met.m kept given met.clash (met.clash.2, met.clash.3));
     }
 
-    ends_by : rules.hash ≡ first_half → (came : Result ℕ RunFault) → WritesBy end ledger middle.output out middle.notes told came → IfErr came IsOfEnd
+    ends_by : (came : Result ℕ RunFault) → WritesBy end ledger middle.output out middle.notes told came → IfErr came IsOfEnd
         → EndsBy answer bytes left last came
-    ends_by same (Ok status) by kind = (
+    ends_by (Ok status) by kind = (
       record {
         output = subst (Appends at.old out.tells) (sym output_is) (Appends-trans at.old at.new out.tells on_output end.output there.0 by.0);
         notes = subst (Appends at.told_old told.tells) (sym noted_is)
@@ -272,67 +283,67 @@ module _ (rules : Rules) (waiting : Waiting) (task : Task) (bytes : List ℕ) (l
       },
       judged.ends.fine,
     )
-    ends_by same (Err runs.Write) by kind = tt
-    ends_by same (Err runs.Peer) by kind = tt
-    ends_by same (Err (runs.Collision kept given)) by kind = inr (meets_behind same kept given by)
-    ends_by same (Err runs.Memory) by kind = tt
-    ends_by same (Err e) by kind = absurd kind
+    ends_by (Err runs.Write) by kind = tt
+    ends_by (Err runs.Peer) by kind = tt
+    ends_by (Err (runs.Collision kept given)) by kind = inr (meets_behind kept given by)
+    ends_by (Err runs.Memory) by kind = tt
+    ends_by (Err e) by kind = absurd kind
 
-    pub finished : rules.hash ≡ first_half → (result : Result ℕ RunFault) → WritesEnd end ledger middle.output out middle.notes told result
+    pub finished : (result : Result ℕ RunFault) → WritesEnd end ledger middle.output out middle.notes told result
         → IfErr result IsOfEnd → Shows answer bytes left last result
-    finished same result wrote kind = record {
+    finished result wrote kind = record {
       output = front_behind answer.output at.old at.new out.tells on_output end.output output_is there.0 wrote.output;
       notes = front_behind answer.noted at.told_old at.told_new told.tells on_notes end.noted noted_is there.1 wrote.notes;
       prompt = goes_on out told wrote.output.0 wrote.notes.0 wrote.output.3 wrote.notes.3 judged.prompt;
-      ends = ends_by same result wrote.by kind;
+      ends = ends_by result wrote.by kind;
     }
 
 -- ---- what a journal with all blocks has at the end
 
-right_head : (rules : Rules) (accepted : List Kept) (states : States) → AllByRecursion (IsKept rules accepted states) accepted → (head : Option BlockRecord)
+right_head : (accepted : List Kept) (states : States) → AllByRecursion (IsKept accepted states) accepted → (head : Option BlockRecord)
     → head_of (records_of accepted) ≡ head
-    → map_under states head ≡ map_behind rules accepted head
-right_head rules accepted states kept None is = refl
-right_head rules accepted states kept (Some block) is = of_head (IsRight rules accepted states) (records_of accepted) block (sym is)
-    (all_right rules accepted states accepted kept)
+    → map_under states head ≡ map_behind accepted head
+right_head accepted states kept None is = refl
+right_head accepted states kept (Some block) is = of_head (IsRight accepted states) (records_of accepted) block (sym is)
+    (all_right accepted states accepted kept)
 
 -- the draft behind the accepted blocks is that behind the head of the journal
-same_draft : (rules : Rules) (accepted : List Kept) (ledger : Ledger) → IsAfter rules accepted ledger → (batches : List BatchMessage)
+same_draft : (rules : Rules) (accepted : List Kept) (ledger : Ledger) → IsAfter accepted ledger → (batches : List BatchMessage)
     → draft_at rules accepted batches ≡ draft_in rules ledger batches
 same_draft rules accepted ledger after batches =
     let head = head_of (records_of accepted) in
-    let same : map_behind rules accepted head ≡ map_before ledger.states (parent_at (records_of accepted)) =
-    sym (right_head rules accepted ledger.states after.kept head refl) ∙ map_is ledger.states head in
+    let same : map_behind accepted head ≡ map_before ledger.states (parent_at (records_of accepted)) =
+    sym (right_head accepted ledger.states after.kept head refl) ∙ map_is ledger.states head in
     ap (λ (m : StateMap). draft_of rules.accepts rules.runs m (ids_in (head_branch (records_of accepted))) batches) same
     ∙ ap (λ (blocks : List BlockRecord). draft_of rules.accepts rules.runs (map_before ledger.states (parent_at blocks)) (ids_in (head_branch blocks)) batches)
     (sym after.blocks)
 
-end_same : (rules : Rules) (waiting : Waiting) (lines : Lines) (ending : Ending) (bytes : List ℕ) (left old mid : Option (List ℕ)) (refused : Bool)
-    (ledger : Ledger) → JudgesAll rules lines bytes left old mid refused ledger
-    → ending_of rules waiting ending (run_of rules bytes) ≡ end_at rules waiting ending ledger refused
-end_same rules waiting lines Head bytes left first others refused ledger judged =
-    ap (λ (blocks : List BlockRecord). plain_end (head_line (head_of blocks)) (status_by (some_refused (run_of rules bytes).said))) (sym judged.after.blocks)
+end_same : (judging : Judging) (rules : Rules) (waiting : Waiting) (lines : Lines) (ending : Ending) (bytes : List ℕ) (left old mid : Option (List ℕ)) (refused : Bool)
+    (ledger : Ledger) → JudgesAll judging lines bytes left old mid refused ledger
+    → ending_of rules waiting ending (run_of judging bytes) ≡ end_at rules waiting ending ledger refused
+end_same judging rules waiting lines Head bytes left first others refused ledger judged =
+    ap (λ (blocks : List BlockRecord). plain_end (head_line (head_of blocks)) (status_by (some_refused (run_of judging bytes).said))) (sym judged.after.blocks)
     ∙ ap (λ (some : Bool). plain_end (head_line (head_of ledger.blocks)) (status_by some)) (sym judged.some)
-end_same rules waiting lines (Entries prefix) bytes left first others refused ledger judged =
-    let blocks = records_of (run_of rules bytes).accepted in
-    let same : map_behind rules (run_of rules bytes).accepted (head_of blocks) ≡ map_under ledger.states (head_of ledger.blocks) =
-    sym (right_head rules (run_of rules bytes).accepted ledger.states judged.after.kept (head_of blocks) refl)
+end_same judging rules waiting lines (Entries prefix) bytes left first others refused ledger judged =
+    let blocks = records_of (run_of judging bytes).accepted in
+    let same : map_behind (run_of judging bytes).accepted (head_of blocks) ≡ map_under ledger.states (head_of ledger.blocks) =
+    sym (right_head (run_of judging bytes).accepted ledger.states judged.after.kept (head_of blocks) refl)
     ∙ ap (λ (all : List BlockRecord). map_under ledger.states (head_of all)) (sym judged.after.blocks) in
     ap (λ (m : StateMap). plain_end (listing prefix m) (listing_status prefix m)) same
-end_same rules waiting lines Receipts bytes left first others refused ledger judged =
+end_same judging rules waiting lines Receipts bytes left first others refused ledger judged =
     ap (λ (blocks : List BlockRecord). plain_end (receipts_text blocks) (receipts_status blocks)) (sym judged.after.blocks)
-end_same rules waiting lines (Batch id) bytes left first others refused ledger judged =
+end_same judging rules waiting lines (Batch id) bytes left first others refused ledger judged =
     ap (λ (blocks : List BlockRecord). plain_end (batch_text id blocks) (batch_status id blocks)) (sym judged.after.blocks)
-end_same rules waiting lines Candidate bytes left first others refused ledger judged =
-    let accepted = (run_of rules bytes).accepted in
+end_same judging rules waiting lines Candidate bytes left first others refused ledger judged =
+    let accepted = (run_of judging bytes).accepted in
     let end : List BlockRecord → Bool → Draft → AtEnd = λ blocks some draft. record {
       output = candidate_text rules.hash waiting.signing (parent_at blocks) draft;
       noted = losses_text draft;
       status = candidate_status some draft;
       made = map_left draft;
     } in
-    ap (end (records_of accepted) (some_refused (run_of rules bytes).said)) (same_draft rules accepted ledger judged.after waiting.batches)
-    ∙ ap (λ (blocks : List BlockRecord). end blocks (some_refused (run_of rules bytes).said) (draft_in rules ledger waiting.batches)) (sym judged.after.blocks)
+    ap (end (records_of accepted) (some_refused (run_of judging bytes).said)) (same_draft rules accepted ledger judged.after waiting.batches)
+    ∙ ap (λ (blocks : List BlockRecord). end blocks (some_refused (run_of judging bytes).said) (draft_in rules ledger waiting.batches)) (sym judged.after.blocks)
     ∙ ap (λ (some : Bool). end ledger.blocks some (draft_in rules ledger waiting.batches)) (sym judged.some)
 
 -- ---- what was done
@@ -378,10 +389,8 @@ told_first Refused before middle aside out told noted on_notes more is first (in
 both_none : (first others : List ℕ) → first ≡ [] → others ≡ [] → first ++ others ≡ []
 both_none first others none nothing = rw (none, nothing) refl
 
-module _ (processors : Processors) (task : Task) (accepts : Accepts) (signing : Signing) (batches : List BatchMessage) (before : Outside) where
-  abbrev rules : Rules
-  rules = rules_by accepts processors
-
+module _ (processors : Processors) (own : HasOwnReasons processors) (task : Task) (accepts : Accepts) (signing : Signing)
+    (batches : List BatchMessage) (before : Outside) where
   abbrev ready : Prepared
   ready = ready_with accepts signing batches
 
@@ -402,26 +411,18 @@ module _ (processors : Processors) (task : Task) (accepts : Accepts) (signing : 
   cause_of after runs.Memory kind alike read write peer = tt
   cause_of after e kind alike read write peer = (ready, refl)
 
-  -- what is shown where the premises hold
-  abbrev ShownTo : Outside → Result ℕ RunFault → List ℕ → Type 0
-  ShownTo after came bytes = IsTold processors (Ok ready) bytes
-      → Shows (task_answer rules ready.waiting task bytes) bytes after.input.tells (sides_of before after) came
-      × TellsFirst task.lines (task_answer rules ready.waiting task bytes).noted (sides_of before after)
-
   module _ (middle : Outside) (ledger : Ledger) where
-    abbrev JudgedBy : Result Bool RunFault → List ℕ → Type 0
-    JudgedBy result bytes = Judges rules task.lines bytes middle.input.tells (lines_side task.lines before).tells
+    abbrev JudgedBy : (ℕ → Runs) → Result Bool RunFault → List ℕ → Type 0
+    JudgedBy blocks result bytes = Judges (by_ways accepts blocks) task.lines bytes middle.input.tells (lines_side task.lines before).tells
         (lines_side task.lines middle).tells ledger result
 
-    -- what is shown of the bytes, where they are told and the premises hold
-    shown_to : (result : Result Bool RunFault) (after : Outside) (came : Result ℕ RunFault) (first : Option (List ℕ))
-        → IfSome first (λ bytes. tell_stream processors bytes ≡ true → JudgedBy result bytes)
-        → ((bytes : List ℕ) → Judges rules task.lines bytes middle.input.tells (lines_side task.lines before).tells
-        (lines_side task.lines middle).tells ledger result
-        → Shows (task_answer rules ready.waiting task bytes) bytes after.input.tells (sides_of before after) came
-        × TellsFirst task.lines (task_answer rules ready.waiting task bytes).noted (sides_of before after)) → IfSome first (ShownTo after came)
-    shown_to result after came None judged shows = tt
-    shown_to result after came (Some bytes) judged shows = λ told. shows bytes (judged told.0)
+    -- what is shown of the bytes, where they are told
+    shown_to : (ways : Ways) (result : Result Bool RunFault) (after : Outside) (came : Result ℕ RunFault) (first : Option (List ℕ))
+        → IfSome first (JudgedBy ways.blocks result)
+        → ((bytes : List ℕ) → JudgedBy ways.blocks result bytes → ShowsBy processors task (Ok ready) before after came ways bytes)
+        → IfSome first (ShowsBy processors task (Ok ready) before after came ways)
+    shown_to ways result after came None judged shows = tt
+    shown_to ways result after came (Some bytes) judged shows = shows bytes judged
 
     -- the judging ended it
     pub does_to : (e : RunFault) → JudgesFor processors accepts task.lines before middle ledger (Err e)
@@ -435,12 +436,26 @@ module _ (processors : Processors) (task : Task) (accepts : Accepts) (signing : 
           aside = λ is. noted.1 is.0;
           noted = noted.2;
           later = later_notes task.lines before middle judged.aside judged.later;
-          shows = shown_to (Err e) middle (Err e) before.input.tells judged.judges
-              (λ bytes found. (
-                shows_fault rules ready.waiting task bytes middle.input.tells before middle judged.aside refl ledger e found,
-                unwritten task.lines before middle judged.aside (task_answer rules ready.waiting task bytes).noted,
-              ));
+          ways = ways;
+          may = may;
+          shows = shows;
+          told = shows_told processors ways may task (Ok ready) before middle (Err e) before.input.tells shows;
         }
+      where
+        -- no batch was published
+        ways : Ways
+        ways = record { blocks = judged.judges.ways; candidate = (serially processors).candidate }
+
+        may : AreWays processors ways
+        may = record { blocks = judged.judges.may; candidate = (serial_may processors own).candidate }
+
+        shows : IfSome before.input.tells (ShowsBy processors task (Ok ready) before middle (Err e) ways)
+        shows = shown_to ways (Err e) middle (Err e) before.input.tells judged.judges.so
+            (λ bytes found. (
+              shows_fault (judging_by accepts ways) (rules_with first_half accepts ways.candidate) ready.waiting task bytes middle.input.tells before middle
+                  judged.aside ledger e found,
+              unwritten task.lines before middle judged.aside (answer_for ways task (Ok ready) bytes).noted,
+            ))
 
     -- the end was written behind all blocks, or a front of it
     module _ (refused : Bool) (judged : JudgesFor processors accepts task.lines before middle ledger (Ok refused)) (out told : End (List ℕ))
@@ -468,23 +483,31 @@ module _ (processors : Processors) (task : Task) (accepts : Accepts) (signing : 
       cause_by (Err runs.Memory) done kind write peer = tt
       cause_by (Err e) done kind write peer = absurd kind
 
-      -- what is shown of the bytes, where they are told and the premises hold
-      shown_at : (first : Option (List ℕ)) → IfSome first (λ bytes. tell_stream processors bytes ≡ true → JudgedBy (Ok refused) bytes)
-          → IfSome first (ShownTo after result)
-      shown_at None judges = tt
-      shown_at (Some bytes) judges = λ told_all.
-          let j = judges told_all.0 in
+      -- the blocks' batches and those that were published, as they were run
+      abbrev ways : Ways
+      ways = record { blocks = judged.judges.ways; candidate = finish.way }
+
+      may : AreWays processors ways
+      may = record { blocks = judged.judges.may; candidate = finish.may }
+
+      shown_at : (bytes : List ℕ) → JudgedBy judged.judges.ways (Ok refused) bytes → ShowsBy processors task (Ok ready) before after result ways bytes
+      shown_at bytes j =
+          let judging = judging_by accepts ways in
+          let rules = rules_with first_half accepts finish.way in
           let end = end_at rules ready.waiting task.ending ledger refused in
-          let same = end_same rules ready.waiting task.lines task.ending bytes middle.input.tells (lines_side task.lines before).tells
-          (lines_side task.lines middle).tells refused ledger j.ends in
-          let wrote = finish.writes told_all.1 in (
-            finished rules ready.waiting task bytes middle.input.tells before middle judged.aside out told refused ledger j end same refl result wrote
-                finish.kind,
-            told_first task.lines before middle judged.aside out told (task_answer rules ready.waiting task bytes).noted
-                (noted_by task.lines (run_of rules bytes)) end.noted
-                (noted_is rules ready.waiting task bytes middle.input.tells before middle judged.aside out told refused ledger j end same)
-                (there rules ready.waiting task bytes middle.input.tells before middle judged.aside out told refused ledger j end same).1 wrote.order,
+          let same = end_same judging rules ready.waiting task.lines task.ending bytes middle.input.tells (lines_side task.lines before).tells
+          (lines_side task.lines middle).tells refused ledger j.ends in (
+            finished judging rules ready.waiting task bytes middle.input.tells before middle judged.aside out told refused ledger j end same result
+                finish.writes finish.kind,
+            told_first task.lines before middle judged.aside out told (task_answer judging rules ready.waiting task bytes).noted
+                (noted_by task.lines (run_of judging bytes)) end.noted
+                (noted_is judging rules ready.waiting task bytes middle.input.tells before middle judged.aside out told refused ledger j end same)
+                (there judging rules ready.waiting task bytes middle.input.tells before middle judged.aside out told refused ledger j end same).1
+                finish.writes.order,
           )
+
+      shows : IfSome before.input.tells (ShowsBy processors task (Ok ready) before after result ways)
+      shows = shown_to ways (Ok refused) after result before.input.tells judged.judges.so shown_at
 
       pub does_all : Does processors task (Ok ready) before after result
       does_all =
@@ -496,7 +519,10 @@ module _ (processors : Processors) (task : Task) (accepts : Accepts) (signing : 
             aside = λ is. both_none noted.0 finish.lines (noted.1 is.0) (finish.aside is.1);
             noted = Appends-trans before.notes.tells middle.notes.tells told.tells noted.0 finish.lines noted.2 finish.noted;
             later = omega (arith, first, finish.later);
-            shows = shown_at before.input.tells judged.judges;
+            ways = ways;
+            may = may;
+            shows = shows;
+            told = shows_told processors ways may task (Ok ready) before after result before.input.tells shows;
           }
 
   -- nothing was judged, since memory was refused
@@ -508,7 +534,7 @@ module _ (processors : Processors) (task : Task) (accepts : Accepts) (signing : 
 
       judges : (lines : Lines) → JudgesFor processors accepts lines before (record before { shelf = held }) none (Err runs.Memory)
       judges All = record {
-        judges = nothing_judged rules All (λ bytes. tell_stream processors bytes ≡ true) before.input.tells before.output.tells none;
+        judges = nothing_judged processors accepts All (serially processors).blocks (serial_may processors own).blocks before.input.tells before.output.tells none;
         aside = refl;
         wrote = ([], Appends-nil before.output.tells);
         kind = refl;
@@ -519,7 +545,7 @@ module _ (processors : Processors) (task : Task) (accepts : Accepts) (signing : 
         peer = λ is. absurd cc;
       }
       judges Refused = record {
-        judges = nothing_judged rules Refused (λ bytes. tell_stream processors bytes ≡ true) before.input.tells before.notes.tells none;
+        judges = nothing_judged processors accepts Refused (serially processors).blocks (serial_may processors own).blocks before.input.tells before.notes.tells none;
         aside = refl;
         wrote = ([], Appends-nil before.notes.tells);
         kind = refl;

@@ -13,13 +13,14 @@ use Rattle.saw_generate.specs.Streams.{stream}
 use Rattle.saw_top.specs.Answers.{Prepared, answer_by, answer_to, prepared, task_by}
 use Rattle.saw_top.specs.Command.{Asked, Generate, Judge, Wish, asked_of}
 use Rattle.saw_top.specs.EndingFaults.{is_told}
-use Rattle.saw_top.specs.Headline.{Carries, CarriesOut, EndsBy, Gives, HasCause, HasEnded, HasFault, IsAnswered, IsToldFor, IsWhole, Shows, TellsEnd, TellsFault, TellsFirst, WhereRead, WritesBy}
+use Rattle.saw_top.specs.Headline.{Carries, CarriesOut, EndsBy, Gives, HasCause, HasEnded, HasFault, IsAnswered, IsToldFor, IsWhole, ShowsBy, TellsEnd, TellsFault, WhereRead, WritesBy}
 use Rattle.saw_node.specs.declared.node.Node.{Node}
 use Rattle.saw_top.specs.Outside.{End, Outside, SomeFailed, sides_of}
 use Rattle.saw_top.specs.Run.{Answer, line_by, whole}
 use Rattle.saw_top.specs.Telling.{IsTold}
-use Rattle.saw_top.specs.World.{World}
+use Rattle.saw_top.specs.World.{AreWays, Ways, World, serially}
 use Rattle.saw_top.specs.declared.task.Task.{Task}
+use Rattle.saw_top.proofs.OwnReasons.{HasOwnReasons, serial_may}
 use Rattle.saw_top.proofs.Prepares.{files_in}
 
 -- what follows from what is so of the bytes, where they are told
@@ -97,33 +98,42 @@ module _ (given : Files → World) (before after : Outside) (notes : End (List �
   abbrev noted : Outside
   noted = record after { notes = notes }
 
-  -- the answer, for the bytes and files that are told or some files
-  abbrev Holds : Option Asked → Type 0
-  Holds asked = (files : Files) × IfSome before.shelf.tells (λ told. files ≡ told)
-      × WhereRead asked before.input.tells (λ bytes. IsToldFor (given files) asked bytes
-      → Answered (answer_by (given files) asked bytes) bytes before after notes status)
+  -- the answer, for the bytes and files that are told or some files: that of some ways to run batches, and where all is told
+  -- that of batches that are run one after another
+  pub record Holds (asked : Option Asked) : Type 0 where
+    pub files : Files
+    pub held : IfSome before.shelf.tells (λ told. files ≡ told)
+    pub gives : WhereRead asked before.input.tells (λ bytes. let world = given files in IsToldFor world asked bytes
+        → Answered (answer_by (serially world.processors) world asked bytes) bytes before after notes status)
+    pub ways : Ways
+    pub may : AreWays (given files).processors ways
+    pub comes : WhereRead asked before.input.tells
+        (λ bytes. Answered (answer_by ways (given files) asked bytes) bytes before after notes status)
 
-  abbrev HoldsFor : Option Wish → Type 0
-  HoldsFor wish = (files : Files) × IfSome before.shelf.tells (λ told. files ≡ told)
-      × IfSome before.input.tells (λ bytes. (let world = given files in IsTold world.processors (prepared world wish) bytes)
-      → Answered (answer_to (given files) wish bytes) bytes before after notes status)
+  module _ (wish : Option Wish) (came : Result ℕ RunFault) (done : CarriesOut given wish before noted came) (told : TellsEnd came notes after.notes status) where
+    abbrev world : World
+    world = given done.files
 
-  of_job : (wish : Option Wish) (came : Result ℕ RunFault) → CarriesOut given wish before noted came → TellsEnd came notes after.notes status
-      → HoldsFor wish
-  of_job wish came done told =
-      let does = done.does in
-      let world = given done.files in (
-        done.files,
-        done.held,
-        some_map before.input.tells
-            (λ bytes. IsTold world.processors (prepared world wish) bytes
-            → Shows (answer_to world wish bytes) bytes after.input.tells (sides_of before noted) came
-            × TellsFirst (task_by wish).lines (answer_to world wish bytes).noted (sides_of before noted))
-            (λ bytes. IsTold world.processors (prepared world wish) bytes → Answered (answer_to world wish bytes) bytes before after notes status)
-            (λ bytes shows all. by_end (answer_to world wish bytes) bytes before after notes status world.processors (task_by wish)
-            (prepared world wish) came (shows all).0.ends does.cause told does.later)
-            does.shows,
-      )
+    abbrev ready : Result Prepared RunFault
+    ready = prepared world wish
+
+    -- what is shown of bytes is the answer
+    as_answered : (ways : Ways) (bytes : List ℕ) → ShowsBy world.processors (task_by wish) ready before noted came ways bytes
+        → Answered (answer_to ways world wish bytes) bytes before after notes status
+    as_answered ways bytes shows =
+        by_end (answer_to ways world wish bytes) bytes before after notes status world.processors (task_by wish) ready came shows.0.ends done.does.cause told
+        done.does.later
+
+    answers : IfSome before.input.tells (λ bytes. Answered (answer_to done.does.ways world wish bytes) bytes before after notes status)
+    answers = some_map before.input.tells (ShowsBy world.processors (task_by wish) ready before noted came done.does.ways)
+        (λ bytes. Answered (answer_to done.does.ways world wish bytes) bytes before after notes status) (as_answered done.does.ways) done.does.shows
+
+    answers_told : IfSome before.input.tells (λ bytes. IsTold world.processors ready bytes
+        → Answered (answer_to (serially world.processors) world wish bytes) bytes before after notes status)
+    answers_told = some_map before.input.tells
+        (λ bytes. IsTold world.processors ready bytes → ShowsBy world.processors (task_by wish) ready before noted came (serially world.processors) bytes)
+        (λ bytes. IsTold world.processors ready bytes → Answered (answer_to (serially world.processors) world wish bytes) bytes before after notes status)
+        (λ bytes shows all. as_answered (serially world.processors) bytes (shows all)) done.does.told
 
   module _ (text bytes : List ℕ) (still : noted ≡ record before { output = after.output }) where
     -- the notes are as they were
@@ -143,17 +153,46 @@ module _ (given : Files → World) (before after : Outside) (notes : End (List �
     of_stream (Err Memory) wrote told = inl (seven (whole text) bytes before after notes status told.0)
     of_stream (Err fault) wrote told = absurd wrote
 
-  by_asked : (asked : Option Asked) (came : Result ℕ RunFault) → Carries given asked before noted came → TellsEnd came notes after.notes status
-      → Holds asked
-  by_asked None came done told = of_job None came done told
-  by_asked (Some (Judge wish)) came done told = of_job (Some wish) came done told
-  by_asked (Some (Generate wish)) came done told =
+  by_asked : ((files : Files) → HasOwnReasons (given files).processors) → (asked : Option Asked) (came : Result ℕ RunFault)
+      → Carries given asked before noted came → TellsEnd came notes after.notes status → Holds asked
+  by_asked own None came done told = record {
+    files = done.files;
+    held = done.held;
+    gives = answers_told None came done told;
+    ways = done.does.ways;
+    may = done.does.may;
+    comes = answers None came done told;
+  }
+  by_asked own (Some (Judge wish)) came done told = record {
+    files = done.files;
+    held = done.held;
+    gives = answers_told (Some wish) came done told;
+    ways = done.does.ways;
+    may = done.does.may;
+    comes = answers (Some wish) came done told;
+  }
+  by_asked own (Some (Generate wish)) came done told =
       let at = files_in before.shelf.tells in
       let made = done at.0 in
-      (at.0, at.1, λ bytes all. of_stream (stream (given at.0).signing wish) bytes made.still came made.wrote told)
+      let text = stream (given at.0).signing wish in
+      record {
+        files = at.0;
+        held = at.1;
+        gives = λ bytes all. of_stream text bytes made.still came made.wrote told;
+        ways = serially (given at.0).processors;
+        may = serial_may (given at.0).processors (own at.0);
+        comes = λ bytes. of_stream text bytes made.still came made.wrote told;
+      }
 
-pub answered : (given : Files → World) (words : List (List ℕ)) (before after : Outside) (status : ℕ) → HasEnded given words before after status
-    → IsAnswered given words before after status
-answered given words before after status ended =
-    let holds = by_asked given before after ended.notes status (asked_of words) ended.came ended.done ended.told in
-    record { files = holds.0; held = holds.1; gives = holds.2 }
+pub answered : (given : Files → World) → ((files : Files) → HasOwnReasons (given files).processors) → (words : List (List ℕ)) (before after : Outside)
+    (status : ℕ) → HasEnded given words before after status → IsAnswered given words before after status
+answered given own words before after status ended =
+    let holds = by_asked given before after ended.notes status own (asked_of words) ended.came ended.done ended.told in
+    record {
+      files = holds.files;
+      held = holds.held;
+      gives = holds.gives;
+      ways = holds.ways;
+      may = holds.may;
+      comes = holds.comes;
+    }

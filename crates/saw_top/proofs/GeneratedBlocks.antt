@@ -5,9 +5,7 @@ use Rattle.std.specs.Prelude.{option_map}
 use Rattle.std.specs.List.{flat_map, list_any, range_with_len}
 use Rattle.std.specs.Str.{bytes_eq}
 use Rattle.std.proofs.lemmas.List.{length_push, map_push}
-use Rattle.saw_address.specs.Maps.{StateMap, no_entries}
 use Rattle.saw_checks.specs.Tests.{first_of}
-use Rattle.saw_context.specs.Serial.{left_after}
 use Rattle.saw_generate.proofs.Every.{every_batch_applies}
 use Rattle.saw_generate.proofs.Places.{ids_more, parts_more}
 use Rattle.saw_generate.proofs.WholeBlocks.{batches_free, block_good, none_failed, number_is}
@@ -20,10 +18,9 @@ use Rattle.saw_journal.proofs.Ids.{ids_push_block}
 use Rattle.saw_journal.proofs.Judging.{stands}
 use Rattle.saw_journal.proofs.Linking.{linked_push, none_linked}
 use Rattle.saw_journal.proofs.Named.{hex_names}
-use Rattle.saw_journal.proofs.OneByOne.{RunsOneByOne, first_failure-append, left_after-append, serial_one_by_one}
 use Rattle.saw_journal.specs.BlockFaults.{ids_before, parent_of, place_tests}
 use Rattle.saw_journal.specs.BlockShapes.{Parts, parts_of}
-use Rattle.saw_journal.specs.Judgement.{Kept, Rules, kept_of}
+use Rattle.saw_journal.specs.Judgement.{Kept, kept_of}
 use Rattle.saw_journal.specs.Linked.{AreLinked, StandsBehind}
 use Rattle.saw_messages.specs.declared.batch.Batch.{Batch}
 use Rattle.saw_messages.specs.declared.block.BlockHeader.{BlockHeader}
@@ -31,17 +28,18 @@ use Rattle.saw_node.specs.Hashes.{first_half}
 use Rattle.saw_plan.specs.StaticRules.{Ids}
 use Rattle.saw_plan.specs.SortingSteps.{both}
 use Rattle.saw_publish.specs.Candidates.{Signing, header_of, header_with, number_behind, previous_of}
-use Rattle.saw_receipts.specs.Branches.{branch_of, has_block, ids_in, no_block}
+use Rattle.saw_receipts.specs.Branches.{branch_of, has_block, ids_in}
 use Rattle.saw_receipts.specs.Heads.{as_parent, head_of, is_new_head}
+use Rattle.saw_receipts.specs.Running.{Runs}
 use Rattle.saw_receipts.specs.declared.block.BlockRecord.{BlockRecord}
 use Rattle.saw_receipts.specs.declared.block.Parent.{Parent}
 use Rattle.saw_schedule.specs.BatchResults.{first_failure}
 use Rattle.saw_station.specs.Serving.{alone}
-use Rattle.saw_top.specs.GeneratedLaws.{IsVouchedFor, batch_ids_at, transaction_ids_at}
-use Rattle.saw_top.specs.History.{judged_behind, map_behind, record_of, records_of, results_to}
-use Rattle.saw_top.specs.World.{Accepts, rules_by}
+use Rattle.saw_top.specs.GeneratedLaws.{IsVouchedFor, batch_ids_at, transaction_ids_at, alone_by}
+use Rattle.saw_top.specs.History.{judged_behind, map_behind, record_of, records_of}
+use Rattle.saw_top.specs.World.{Accepts, serially}
 use Rattle.saw_top.proofs.BehindHead.{IsHead, becomes_head, branch_is, head_is, ids_are, is_head, parent_is, placed}
-use Rattle.saw_top.proofs.Branching.{results_to-new}
+use Rattle.saw_top.proofs.Branching.{left_last}
 use Rattle.saw_top.proofs.GeneratedIds.{kept_ids}
 use Rattle.saw_top.proofs.GeneratedSigned.{batches_differ, block_is_new, block_signed, id_at, transactions_differ}
 use Rattle.saw_top.proofs.NextBlocks.{IsFaultless, judged_over, judged_read}
@@ -52,26 +50,11 @@ has_mapped : (blocks : List BlockRecord) (id : List ℕ) → list_any (λ other.
 has_mapped [] id = refl
 has_mapped (block ∷ blocks) id = ap (λ b. bytes_eq block.id id || b) (has_mapped blocks id)
 
-none_kept : (accepted : List Kept) → records_of accepted ≡ [] → accepted ≡ []
-none_kept [] none = refl
-none_kept (kept ∷ accepted) none = absurd cc
-
--- the map behind the head is what the batches of the branch leave that a block behind it goes on
-map_behind_head : (rules : Rules) → RunsOneByOne rules.runs → (accepted : List Kept) (head : Option BlockRecord) → IsHead (records_of accepted) head
-    → map_behind rules accepted head ≡ left_after no_entries (results_to rules accepted (previous_of (option_map as_parent head)))
-map_behind_head rules one_by_one accepted None is =
-    sym (ap (λ (accepted : List Kept). left_after no_entries (results_to rules accepted no_block)) (none_kept accepted is)
-    ∙ ap (left_after no_entries) (one_by_one.none no_entries))
-map_behind_head rules one_by_one accepted (Some head) is = refl
-
 -- ---- what is kept of a stream
 
 module _ (accepts : Accepts) (signing : Signing) (wish : GenerateWish) where
-  abbrev rules : Rules
-  rules = rules_by accepts (alone [])
-
-  one_by_one : RunsOneByOne (rules_by accepts (alone [])).runs
-  one_by_one = serial_one_by_one (alone [])
+  abbrev runs : Runs
+  runs = (serially (alone [])).candidate
 
   abbrev header_at : ℕ → BlockHeader
   header_at b = header_of signing.key (parent_after signing wish b) (batches_at signing wish b) (root_at signing wish b)
@@ -101,25 +84,18 @@ module _ (accepts : Accepts) (signing : Signing) (wish : GenerateWish) where
     transactions = flat_map (transaction_ids_at signing wish) (range_with_len 0 b);
   }
 
-  -- How so many blocks stand behind one another: the head, and what the branch to it has and leaves.
+  -- How so many blocks stand behind one another: the head, the map behind it, and what the branch to it has.
   pub record IsBehind (b : ℕ) : Type 0 where
     pub linked : AreLinked (records_after b)
     pub parent : option_map as_parent (head_of (records_after b)) ≡ parent_after signing wish b
-    pub whole : first_failure 0 (results_to rules (accepted_after b) (previous b)) ≡ None
-    pub left : left_after no_entries (results_to rules (accepted_after b) (previous b)) ≡ map_after_blocks signing wish b
+    pub left : map_behind (accepted_after b) (head_of (records_after b)) ≡ map_after_blocks signing wish b
     pub ids : ids_in (branch_of (λ block. block) (records_after b) (previous b)) ≡ ids_after b
     pub blocks : map (λ block. block.id) (records_after b) ≡ map (id_at signing wish) (range_with_len 0 b)
     pub count : length (accepted_after b) ≡ b
 
   behind_none : IsBehind 0
   unfolding accepted_after parent_after map_after_blocks
-  behind_none = record { linked = none_linked; parent = refl; whole = refl; left = refl; ids = refl; blocks = refl; count = refl }
-
-  -- the map behind the head
-  pub head_leaves : (b : ℕ) → IsBehind b → map_behind rules (accepted_after b) (head_of (records_after b)) ≡ map_after_blocks signing wish b
-  head_leaves b is =
-      map_behind_head rules one_by_one (accepted_after b) (head_of (records_after b)) (is_head (records_after b) (head_of (records_after b)) is.linked refl)
-      ∙ ap (λ (parent : Option Parent). left_after no_entries (results_to rules (accepted_after b) (previous_of parent))) is.parent ∙ is.left
+  behind_none = record { linked = none_linked; parent = refl; left = refl; ids = refl; blocks = refl; count = refl }
 
   -- ---- one block more
 
@@ -164,7 +140,7 @@ module _ (accepts : Accepts) (signing : Signing) (wish : GenerateWish) where
     none_fails : first_failure 0 (results_at signing wish b) ≡ None
     none_fails = none_failed 0 (results_at signing wish b) (every_batch_applies signing wish vouched.key few narrow b low)
 
-    faultless : IsFaultless first_half rules.runs (records_after b) (map_after_blocks signing wish b) (ids_after b) (parts_at b)
+    faultless : IsFaultless first_half runs (records_after b) (map_after_blocks signing wish b) (ids_after b) (parts_at b)
         (map_after_blocks signing wish (suc b))
     unfolding map_after_blocks
     faultless = record {
@@ -177,14 +153,14 @@ module _ (accepts : Accepts) (signing : Signing) (wish : GenerateWish) where
     }
 
     -- the block is kept
-    pub judged_at : judged_behind rules (accepted_after b) (content_at signing wish b) ≡ Ok (kept_at b)
+    pub judged_at : judged_behind (alone_by accepts) b (accepted_after b) (content_at signing wish b) ≡ Ok (kept_at b)
     judged_at =
         let good = block_good signing wish vouched.key few narrow accepts (block_signed accepts signing wish vouched) b low in
-        judged_read first_half accepts rules.runs (map_behind rules (accepted_after b)) blocks (content_at signing wish b) (block_at signing wish b)
+        judged_read first_half accepts runs (map_behind (accepted_after b)) blocks (content_at signing wish b) (block_at signing wish b)
         (header_at b) good.2 good.0 good.1
-        ∙ judged_over first_half rules.runs (map_behind rules (accepted_after b)) blocks (parts_at b) (map_after_blocks signing wish (suc b))
+        ∙ judged_over first_half runs (map_behind (accepted_after b)) blocks (parts_at b) (map_after_blocks signing wish (suc b))
         (map_after_blocks signing wish b) (ids_after b)
-        (ap (map_behind rules (accepted_after b)) parent_found ∙ head_leaves b is) ids_found faultless
+        (ap (map_behind (accepted_after b)) parent_found ∙ is.left) ids_found faultless
 
     -- and is the new head
     pub new_head : is_new_head (head_of (records_after b)) (kept_at b).block ≡ true
@@ -194,10 +170,6 @@ module _ (accepts : Accepts) (signing : Signing) (wish : GenerateWish) where
     stands_behind =
         stands blocks (id_at signing wish b) (header_at b) (sym well_placed)
         (hex_names (id_at signing wish b) (block_signed accepts signing wish vouched b low).header.form) new refl refl refl
-
-    results_after : results_to rules (accepted_after b ++ kept_at b ∷ []) (kept_at b).block.id
-        ≡ results_to rules (accepted_after b) (previous b) ++ results_at signing wish b
-    results_after = results_to-new rules one_by_one (accepted_after b) (kept_at b) (map_after_blocks signing wish b) is.whole is.left
 
     records_more : records_of (accepted_after b ++ kept_at b ∷ []) ≡ records_after b ++ (kept_at b).block ∷ []
     records_more = map_push record_of (accepted_after b) (kept_at b)
@@ -219,11 +191,8 @@ module _ (accepts : Accepts) (signing : Signing) (wish : GenerateWish) where
       parent = ap (λ (blocks : List BlockRecord). option_map as_parent (head_of blocks)) records_more
           ∙ ap (option_map as_parent) (head_is blocks new new_head)
           ∙ ap (λ (number : ℕ). Some (record { number = number; id = id_at signing wish b; root = root_at signing wish b })) (number_is signing wish b);
-      whole = ap (first_failure 0) results_after
-          ∙ first_failure-append (results_to rules (accepted_after b) (previous b)) (results_at signing wish b) 0 0 is.whole none_fails;
-      left = ap (left_after no_entries) results_after
-          ∙ left_after-append (results_to rules (accepted_after b) (previous b)) (results_at signing wish b) no_entries
-          ∙ ap (λ (m : StateMap). left_after m (results_at signing wish b)) is.left;
+      left = ap (λ (blocks : List BlockRecord). map_behind (accepted_after b ++ kept_at b ∷ []) (head_of blocks)) records_more
+          ∙ ap (map_behind (accepted_after b ++ kept_at b ∷ [])) (head_is blocks new new_head) ∙ left_last (accepted_after b) (kept_at b) fresh;
       ids = ap (λ (blocks : List BlockRecord). ids_in (branch_of (λ block. block) blocks (kept_at b).block.id)) records_more ∙ ids_now;
       blocks = ap (map (λ (block : BlockRecord). block.id)) records_more ∙ map_push (λ (block : BlockRecord). block.id) blocks new
           ∙ ap (λ (ids : List (List ℕ)). ids ++ id_at signing wish b ∷ []) is.blocks ∙ sym (ids_more (id_at signing wish) b);

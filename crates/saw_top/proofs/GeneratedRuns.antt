@@ -12,21 +12,22 @@ use Rattle.saw_generate.proofs.WholeBlocks.{content_small}
 use Rattle.saw_generate.specs.Streams.{content_at, stream}
 use Rattle.saw_generate.specs.declared.wish.GenerateWish.{GenerateWish}
 use Rattle.saw_io.specs.Frame.{frame}
-use Rattle.saw_journal.specs.Judgement.{Kept, Rules}
+use Rattle.saw_journal.specs.Judgement.{Kept, Rules, rules_with}
+use Rattle.saw_node.specs.Hashes.{first_half}
 use Rattle.saw_publish.specs.Candidates.{Signing}
 use Rattle.saw_receipts.specs.Heads.{as_parent, head_of}
 use Rattle.saw_receipts.specs.declared.verdict.Verdict.TheVariants.{Committed, Stored}
 use Rattle.saw_report.specs.declared.run_fault.RunFault.{RunFault}
 use Rattle.saw_station.specs.Serving.{alone}
-use Rattle.saw_top.specs.GeneratedLaws.{GeneratedStreamIsCommitted, IsCommitted, IsVouchedFor, places}
+use Rattle.saw_top.specs.GeneratedLaws.{GeneratedStreamIsCommitted, IsCommitted, IsVouchedFor, alone_by, places}
 use Rattle.saw_top.specs.History.{History, Said, accepted_as, before, ended, goes_on, history, judged_behind, map_behind, records_of, some_refused}
 use Rattle.saw_top.specs.Limits.{max_blocks, max_length}
 use Rattle.saw_top.specs.Run.{end_by, fault_in, head_map, history_of, status_by}
 use Rattle.saw_top.specs.Stream.{Stream, stream_of}
-use Rattle.saw_top.specs.World.{Accepts, rules_by}
+use Rattle.saw_top.specs.World.{Accepts, Judging, serially}
 use Rattle.saw_top.specs.declared.task.Ending.TheVariants.{Head}
 use Rattle.saw_top.proofs.Frames.{frames_are_read}
-use Rattle.saw_top.proofs.GeneratedBlocks.{IsBehind, accepted_after, all_behind, head_leaves, judged_at, kept_at, new_head}
+use Rattle.saw_top.proofs.GeneratedBlocks.{IsBehind, accepted_after, all_behind, judged_at, kept_at, new_head}
 use Rattle.saw_top.proofs.GeneratedSigned.{block_signed}
 
 -- what is said of a block is that it is committed
@@ -40,8 +41,11 @@ none_refused (said ∷ saids) all = rw all.0 (none_refused saids all.1)
 
 module _ (accepts : Accepts) (signing : Signing) (wish : GenerateWish) (few : wish.blocks ≤ 1000) (narrow : wish.batches ≤ 5000)
     (vouched : IsVouchedFor signing wish accepts) where
+  abbrev judging : Judging
+  judging = alone_by accepts
+
   abbrev rules : Rules
-  rules = rules_by accepts (alone [])
+  rules = rules_with first_half accepts (serially (alone [])).candidate
 
   -- the accepted blocks behind so many, and what is kept of the next one
   abbrev accepted : ℕ → List Kept
@@ -81,26 +85,26 @@ module _ (accepts : Accepts) (signing : Signing) (wish : GenerateWish) (few : wi
 
     -- and so its judgement goes on
     goes_on_committed : (others : List Kept → History) → Commits (suc b) count (others (accepted (suc b)))
-        → Commits b (suc count) (goes_on rules others (accepted b) (judged_behind rules (accepted b) (content_at signing wish b)))
+        → Commits b (suc count) (goes_on others (accepted b) (judged_behind judging b (accepted b) (content_at signing wish b)))
     unfolding accepted_after
     goes_on_committed others rest =
         let one = before (accepted_as (accepted b) (next b)) (others (accepted b ++ next b ∷ [])) in
         let judged = judged_at accepts signing wish few narrow vouched b low (behind b (omega (arith, low))) in
         subst (Commits b (suc count))
-        (sym (ap (goes_on rules others (accepted b)) judged ∙ cond-false (length (accepted b) == max_blocks) (ended (accepted b) true) one has_room))
+        (sym (ap (goes_on others (accepted b)) judged ∙ cond-false (length (accepted b) == max_blocks) (ended (accepted b) true) one has_room))
         (one_commits (others (accepted b ++ next b ∷ [])) rest)
 
   -- so many blocks, from one on
   all_commit : (count b : ℕ) → b + count ≤ wish.blocks
-      → Commits b count (history rules (map (content_at signing wish) (range_with_len b count)) (accepted b))
+      → Commits b count (history judging b (map (content_at signing wish) (range_with_len b count)) (accepted b))
   unfolding history
   all_commit zero b low =
       let same : b ≡ b + 0 = omega arith in
       record { said = tt; judged = refl; accepted_is = ap accepted same; room = refl }
   all_commit (suc count) b low =
       let more : b + 1 ≡ suc b = omega arith in
-      goes_on_committed b count (omega (arith, low)) (history rules (map (content_at signing wish) (range_with_len (b + 1) count)))
-      (subst (λ n. Commits (suc b) count (history rules (map (content_at signing wish) (range_with_len n count)) (accepted (suc b)))) (sym more)
+      goes_on_committed b count (omega (arith, low)) (history judging (b + 1) (map (content_at signing wish) (range_with_len (b + 1) count)))
+      (subst (λ n. Commits (suc b) count (history judging n (map (content_at signing wish) (range_with_len n count)) (accepted (suc b)))) (sym more)
       (all_commit count (suc b) (omega (arith, low))))
 
   -- ---- the stream
@@ -120,7 +124,7 @@ module _ (accepts : Accepts) (signing : Signing) (wish : GenerateWish) (few : wi
 
   -- what they come to
   abbrev run : History
-  run = history_of (rules_by accepts (alone [])) (map (content_at signing wish) (places signing wish))
+  run = history_of (alone_by accepts) (map (content_at signing wish) (places signing wish))
 
   commits : Commits 0 wish.blocks run
   unfolding accepted_after
@@ -138,16 +142,16 @@ module _ (accepts : Accepts) (signing : Signing) (wish : GenerateWish) (few : wi
       let last = behind wish.blocks (omega arith) in
       record {
         frames = ap (λ (s : Stream). s.frames) read;
-        fault = ap (λ (s : Stream). fault_in (history_of rules s.frames) s.fault) read ∙ no_fault;
-        said = subst (λ (s : Stream). AllByRecursion IsCommittedOne (history_of rules s.frames).said) (sym read) commits.said;
-        judged = ap (λ (s : Stream). length (history_of rules s.frames).said) read ∙ commits.judged;
-        head = ap (λ (s : Stream). option_map as_parent (head_of (records_of (history_of rules s.frames).accepted))) read
+        fault = ap (λ (s : Stream). fault_in (history_of judging s.frames) s.fault) read ∙ no_fault;
+        said = subst (λ (s : Stream). AllByRecursion IsCommittedOne (history_of judging s.frames).said) (sym read) commits.said;
+        judged = ap (λ (s : Stream). length (history_of judging s.frames).said) read ∙ commits.judged;
+        head = ap (λ (s : Stream). option_map as_parent (head_of (records_of (history_of judging s.frames).accepted))) read
             ∙ ap (λ (accepted : List Kept). option_map as_parent (head_of (records_of accepted))) all_accepted ∙ last.parent;
-        left = ap (λ (s : Stream). head_map rules (history_of rules s.frames)) read
-            ∙ ap (λ (accepted : List Kept). map_behind rules accepted (head_of (records_of accepted))) all_accepted
-            ∙ head_leaves accepts signing wish wish.blocks last;
+        left = ap (λ (s : Stream). head_map (history_of judging s.frames)) read
+            ∙ ap (λ (accepted : List Kept). map_behind accepted (head_of (records_of accepted))) all_accepted
+            ∙ last.left;
         status = λ waiting.
-            ap (λ (s : Stream). (end_by rules waiting Head (history_of rules s.frames) (fault_in (history_of rules s.frames) s.fault)).status) read
+            ap (λ (s : Stream). (end_by rules waiting Head (history_of judging s.frames) (fault_in (history_of judging s.frames) s.fault)).status) read
             ∙ ap (λ (fault : Option RunFault). (end_by rules waiting Head run fault).status) no_fault
             ∙ ap status_by (none_refused run.said commits.said);
       }

@@ -4,6 +4,9 @@ pub mod Judgements
 pub mod BehindHead
 pub mod Steps
 pub mod Told
+pub mod OwnReasons
+pub mod OneAnswer
+pub mod SerialBranches
 pub mod Streams
 pub mod Standings
 pub mod Desks

@@ -3,30 +3,32 @@ use Rattle.std.proofs.Common.{◌≡◌, ◌⊎◌, inl, inr, ℕ, ◌+◌, ◌-
 use Rattle.std.proofs.Common.{Some, None, Result, Ok, Err, refl, sym, ap, subst, ◌∙◌, append_assoc, arith}
 use Rattle.std.specs.Prelude.{IfSome, ◌||◌, slice_get}
 use Rattle.std.specs.FinMap as finite
-use Rattle.std.specs.List.{list_all}
 use Rattle.std.specs.Global.{Vec}
 use Rattle.std.specs.Io.KnownBytes.{Appends, Consumes, IsAtEnd}
 use Rattle.std.proofs.KnownBytes.{Appends-trans, Appends-nil, Consumes-nil}
-use Rattle.std.proofs.lemmas.List.{append-nil, length-append, take-append-drop}
+use Rattle.std.proofs.lemmas.List.{append-nil, length-append, take-append-drop, take-append-le, take_all}
 use Rattle.std.proofs.lemmas.List.Folds.{list_any-append}
 use Rattle.saw_address.specs.Maps.{StateMap, no_entries}
 use Rattle.saw_io.specs.Frame.{FrameGives, IsPart, Takes, frame_at}
 use Rattle.saw_io.specs.declared.fault.FrameFault.{FrameFault}
 use Rattle.saw_io.specs.declared.fault.FrameFault.TheVariants as frames
 use Rattle.saw_journal.specs.Clashing.{Clashes}
-use Rattle.saw_journal.specs.Judgement.{Kept, Rules, would_leave}
+use Rattle.saw_journal.specs.Judgement.{Kept, Rules, rules_with, would_leave}
 use Rattle.saw_journal.specs.Ledger.{IsFull, Ledger, Says, map_under}
 use Rattle.saw_merkle.specs.Clashes.{IsClashFor, IsNodeOfBoth}
 use Rattle.saw_merkle.specs.States.{Stays}
+use Rattle.saw_node.specs.Hashes.{first_half}
 use Rattle.saw_node.specs.Nodes.{Shape, shape_of}
 use Rattle.saw_node.specs.Trees.{IsNodeOf}
 use Rattle.saw_node.specs.declared.node.Node.{Node}
+use Rattle.saw_context.specs.Outcome.{Processors}
+use Rattle.saw_receipts.specs.Running.{Runs, RunsBy}
 use Rattle.saw_receipts.specs.declared.verdict.Verdict.{Verdict}
 use Rattle.saw_report.specs.RunFaults.{fault_of_frame}
 use Rattle.saw_store.specs.declared.fault.StoreFault.TheVariants as stores
 use Rattle.saw_top.specs.History.{History, IsAmong, Said, ended, history, is_refused, maps_of, some_refused, tried}
 use Rattle.saw_top.specs.History as histories
-use Rattle.saw_top.specs.StreamJudging.{IsPrompt, IsUpToDate, Judges, JudgesBy, JudgesTo, StopsAtClash, TakesNext, report_in, report_of}
+use Rattle.saw_top.specs.StreamJudging.{IsPrompt, IsUpToDate, Judges, JudgesBy, JudgesSomehow, JudgesTo, StopsAtClash, TakesNext, report_in, report_to}
 use Rattle.saw_top.specs.Clashing.{AreAlike, ClashIn, ClashesBy, LeavesUnjudged}
 use Rattle.saw_top.specs.Limits.{max_frames, max_length}
 use Rattle.saw_top.specs.Outside.{WritesFront}
@@ -37,10 +39,9 @@ use Rattle.saw_top.specs.Stream.{Reads, Stream, before, no_frames, stream_from, 
 use Rattle.saw_report.specs.declared.run_fault.RunFault.{RunFault}
 use Rattle.saw_report.specs.declared.run_fault.RunFault.TheVariants.{Truncated, TooLong, Frames, Blocks, Read, Write, Peer, Collision, Memory}
 use Rattle.saw_top.specs.declared.task.Lines.{Lines}
-use Rattle.saw_journal.proofs.OneByOne.{RunsOneByOne}
-use Rattle.saw_top.proofs.Histories.{after, history_behind, length-said, report-behind, tried_at}
+use Rattle.saw_top.specs.World.{Accepts, Judging, rules_at}
+use Rattle.saw_top.proofs.Histories.{after, before_put, behind_first, by_ways, length-said, put, put_may, put_there, report-behind, tried_first}
 use Rattle.saw_top.proofs.Judgements.{left_same}
-use Rattle.saw_top.proofs.Told.{among}
 use Rattle.saw_top.proofs.Steps.{Steps, no_room, steps}
 use Rattle.saw_top.proofs.Streams.{Reads-push, all_before, at_end, nothing_at, stream_ended, stream_faulty, stream_full, stream_goes_on, stream_some, stream_too_many}
 
@@ -58,7 +59,7 @@ front_cut text old mid new written piece more n whole first second =
 
 -- ---- nodes that clash
 
-module _ (hash : List ℕ → List ℕ) (rules : Rules) (accepted : List Kept) (ledger : Ledger) (after : IsAfter rules accepted ledger) (m : StateMap) where
+module _ (hash : List ℕ → List ℕ) (accepted : List Kept) (ledger : Ledger) (after : IsAfter accepted ledger) (m : StateMap) where
   -- a node of a known map is one of the empty map or of an accepted block's
   kept_in : (node : Shape) → IsNodeOfBoth hash ledger.states m node
       → (of : StateMap) × ((of ≡ m) ⊎ ((of ≡ no_entries) ⊎ IsAmong of (maps_of accepted))) × IsNodeOf hash (finite.entries of) node
@@ -79,9 +80,12 @@ or_false true c = refl
 or_false false true = refl
 or_false false false = refl
 
-module _ (rules : Rules) (lines : Lines) where
+module _ (judging : Judging) (lines : Lines) where
   abbrev so_far : List (List ℕ) → History
-  so_far frames = history rules frames []
+  so_far frames = history judging 0 frames []
+
+  abbrev report_on : List (List ℕ) → List ℕ
+  report_on frames = report lines 0 (so_far frames).said
 
   -- before the frame at this place is read
   pub record IsAt (place : ℕ) (bytes : List ℕ) (now old new : Option (List ℕ)) (refused : Bool) (ledger : Ledger) : Type 0 where
@@ -90,81 +94,10 @@ module _ (rules : Rules) (lines : Lines) where
     pub left : now ≡ Some rest
     pub count : length frames ≡ place
     pub reads : Reads frames bytes rest
-    pub room : (history rules frames []).is_full ≡ false
-    pub written : Appends old new (report_of rules lines frames)
-    pub some : refused ≡ some_refused (history rules frames []).said
-    pub stands : IsAfter rules (history rules frames []).accepted ledger
-
-  -- the same of an input that may not tell its bytes, where this holds of them
-  pub record SoFar (holds : List ℕ → Type 0) (place : ℕ) (first now old new : Option (List ℕ)) (refused : Bool) (ledger : Ledger) : Type 0 where
-    pub so : IfSome first (λ bytes. holds bytes → IsAt place bytes now old new refused ledger)
-
-  pub start : (holds : List ℕ → Type 0) (first old : Option (List ℕ)) (ledger : Ledger) → IsAfter rules [] ledger
-      → SoFar holds 0 first first old old false ledger
-  unfolding history
-  start holds first old ledger stands = record { so = begin first }
-    where
-      begin : (first : Option (List ℕ)) → IfSome first (λ bytes. holds bytes → IsAt 0 bytes first old old false ledger)
-      begin None = tt
-      begin (Some bytes) = λ so. record {
-        frames = [];
-        rest = bytes;
-        left = refl;
-        count = refl;
-        reads = refl;
-        room = refl;
-        written =
-            Appends-nil old;
-        some = refl;
-        stands = stands;
-      }
-
-  -- what comes of it, where the input tells its bytes
-  so_by : (first : Option (List ℕ)) (P Q : List ℕ → Type 0) → ((bytes : List ℕ) → P bytes → Q bytes) → IfSome first P → IfSome first Q
-  so_by None P Q step so = tt
-  so_by (Some bytes) P Q step so = step bytes so
-
-  module _ {holds : List ℕ → Type 0} {place : ℕ} {first now old mid : Option (List ℕ)} {refused : Bool} {ledger : Ledger}
-      (at : SoFar holds place first now old mid refused ledger) (next new : Option (List ℕ)) where
-    -- the judging ended
-    pub so_ends : (after_it : Ledger) (result : Result Bool RunFault)
-        → ((bytes : List ℕ) → holds bytes → IsAt place bytes now old mid refused ledger → Judges rules lines bytes next old new after_it result)
-        → IfSome first (λ bytes. holds bytes → Judges rules lines bytes next old new after_it result)
-    so_ends after_it result step =
-        so_by first (λ bytes. holds bytes → IsAt place bytes now old mid refused ledger)
-        (λ bytes. holds bytes → Judges rules lines bytes next old new after_it result) (λ bytes was so. step bytes so (was so)) at.so
-
-    -- or it goes on
-    pub so_more : (more : Bool) (after_it : Ledger)
-        → ((bytes : List ℕ) → holds bytes → IsAt place bytes now old mid refused ledger → IsAt (place + 1) bytes next old new more after_it)
-        → SoFar holds (place + 1) first next old new more after_it
-    so_more more after_it step = record {
-      so = so_by first (λ bytes. holds bytes → IsAt place bytes now old mid refused ledger)
-          (λ bytes. holds bytes → IsAt (place + 1) bytes next old new more after_it) (λ bytes was so. step bytes so (was so)) at.so;
-    }
-
-  -- nothing was taken or written
-  pub nothing_judged : (holds : List ℕ → Type 0) (first old : Option (List ℕ)) (ledger : Ledger)
-      → IfSome first (λ bytes. holds bytes → Judges rules lines bytes first old old ledger (Err Memory))
-  unfolding history
-  nothing_judged holds None old ledger = tt
-  nothing_judged holds (Some bytes) old ledger = λ so. record {
-    front = ([], report_in rules lines bytes, refl, Appends-nil old);
-    prompt = record {
-      frames = [];
-      rest = bytes;
-      reads = refl;
-      told = omega arith;
-      next =
-          inl (omega arith, inl ([], Consumes-nil (Some bytes), inl (omega arith)));
-      part = [];
-      written = begin;
-    };
-    ends = tt;
-  }
-    where
-      begin : Appends old old (report_of rules lines [] ++ [])
-      begin = Appends-nil old
+    pub room : (history judging 0 frames []).is_full ≡ false
+    pub written : Appends old new (report lines 0 (history judging 0 frames []).said)
+    pub some : refused ≡ some_refused (history judging 0 frames []).said
+    pub stands : IsAfter (history judging 0 frames []).accepted ledger
 
   -- ---- what is shown of a stream, by where its judging stands
 
@@ -175,52 +108,62 @@ module _ (rules : Rules) (lines : Lines) where
 
     -- the judging ended so, and nothing more was written
     abbrev Ends : Option (List ℕ) → Ledger → Result Bool RunFault → Type 0
-    Ends next after_it result = Judges rules lines bytes next old mid after_it result
+    Ends next after_it result = Judges judging lines bytes next old mid after_it result
 
     abbrev reported : List ℕ
-    reported = report_of rules lines at.frames
+    reported = report_on at.frames
 
     -- the stream goes on so behind the frames that were read
     abbrev GoesOn : Stream → Type 0
     GoesOn others = stream_of bytes ≡ all_before at.frames others
 
     abbrev behind : Stream → History
-    behind others = history rules others.frames seen.accepted
+    behind others = history judging (length at.frames) others.frames seen.accepted
 
-    run_at : (others : Stream) → GoesOn others → run_of rules bytes ≡ after seen (behind others)
-    run_at others is = ap (λ (s : Stream). history rules s.frames []) is ∙ history_behind rules at.frames others.frames [] at.room
+    run_at : (others : Stream) → GoesOn others → run_of judging bytes ≡ after seen (behind others)
+    run_at others is = ap (λ (s : Stream). so_far s.frames) is ∙ behind_first judging at.frames others.frames at.room
 
-    report_at : (others : Stream) → GoesOn others → report_in rules lines bytes ≡ reported ++ report lines (length at.frames) (behind others).said
-    report_at others is = ap (λ (s : Stream). report_of rules lines s.frames) is ∙ report-behind lines rules at.frames others.frames at.room
+    report_at : (others : Stream) → GoesOn others → report_in judging lines bytes ≡ reported ++ report lines (length at.frames) (behind others).said
+    report_at others is = ap (λ (s : Stream). report_on s.frames) is ∙ report-behind lines judging at.frames others.frames at.room
 
-    fault_at : (others : Stream) → GoesOn others → fault_of rules bytes ≡ fault_in (behind others) others.fault
+    fault_at : (others : Stream) → GoesOn others → fault_of judging bytes ≡ fault_in (behind others) others.fault
     fault_at others is =
         ap (λ (run : History). fault_in run (stream_of bytes).fault) (run_at others is) ∙ ap (λ (s : Stream). fault_in (behind others) s.fault) is
 
     -- nothing stands behind them
     module _ (fault : Option RunFault) (is : GoesOn (no_frames fault)) where
-      run_last : run_of rules bytes ≡ seen
-      run_last = ap (λ (s : Stream). history rules s.frames []) is ∙ ap (λ (l : List (List ℕ)). history rules l []) (append-nil at.frames)
+      run_last : run_of judging bytes ≡ seen
+      run_last = ap (λ (s : Stream). so_far s.frames) is ∙ ap so_far (append-nil at.frames)
 
-      fault_last : fault_of rules bytes ≡ fault
+      fault_last : fault_of judging bytes ≡ fault
       unfolding history
       fault_last = fault_at (no_frames fault) is
 
-      written_last : Appends old mid (report_in rules lines bytes)
+      written_last : Appends old mid (report_in judging lines bytes)
       written_last = subst (Appends old mid) (sym (ap (λ (run : History). report lines 0 run.said) run_last)) at.written
 
     -- a front was written, and each frame that was read has a verdict
-    front_here : place ≤ max_frames → WritesFront (report_in rules lines bytes) old mid × (length at.frames ≤ length (run_of rules bytes).said)
+    front_here : place ≤ max_frames → WritesFront (report_in judging lines bytes) old mid × (length at.frames ≤ length (run_of judging bytes).said)
     front_here fits =
         let some = stream_some max_frames at.frames bytes at.rest at.reads (omega (arith, at.count)) in
         let others : Stream = record { frames = some.0; fault = some.1 } in
         let more = (behind others).said in
-        let count : length (run_of rules bytes).said ≡ length seen.said + length more = ap (λ (h : History). length h.said) (run_at others some.2)
+        let count : length (run_of judging bytes).said ≡ length seen.said + length more = ap (λ (h : History). length h.said) (run_at others some.2)
         ∙ length-append seen.said more in
-        ((reported, _, report_at others some.2, at.written), omega (arith, count, length-said rules at.frames [] at.room))
+        ((reported, _, report_at others some.2, at.written), omega (arith, count, length-said judging at.frames 0 [] at.room))
+
+    -- these frames are the first of the stream
+    front_is : place ≤ max_frames → take (length at.frames) (stream_of bytes).frames ≡ at.frames
+    front_is fits =
+        let some = stream_some max_frames at.frames bytes at.rest at.reads (omega (arith, at.count)) in
+        ap (λ (s : Stream). take (length at.frames) s.frames) some.2 ∙ take-append-le (length at.frames) at.frames some.0 (omega arith)
+        ∙ take_all (length at.frames) at.frames (omega arith)
+
+    report_there : place ≤ max_frames → reported ≡ report_to judging lines bytes (length at.frames)
+    report_there fits = sym (ap report_on (front_is fits))
 
     prompt_here : (next new : Option (List ℕ)) (part : List ℕ) → place ≤ max_frames → TakesNext place at.rest next → Appends old new (reported ++ part)
-        → IsPrompt rules lines bytes next old new
+        → IsPrompt judging lines bytes next old new
     prompt_here next new part fits taken written = record {
       frames = at.frames;
       rest = at.rest;
@@ -228,12 +171,12 @@ module _ (rules : Rules) (lines : Lines) where
       told = (front_here fits).1;
       next = subst (λ (n : ℕ). TakesNext n at.rest next) (sym at.count) taken;
       part = part;
-      written = written;
+      written = subst (λ (l : List ℕ). Appends old new (l ++ part)) (report_there fits) written;
     }
 
     -- nothing more was written
     ends_here : (next : Option (List ℕ)) (after_it : Ledger) (result : Result Bool RunFault) → place ≤ max_frames → TakesNext place at.rest next
-        → JudgesBy rules lines bytes next old mid after_it result → Ends next after_it result
+        → JudgesBy judging lines bytes next old mid after_it result → Ends next after_it result
     ends_here next after_it result fits taken ends = record {
       front = (front_here fits).0;
       prompt = prompt_here next mid [] fits taken (subst (Appends old mid) (sym (append-nil reported)) at.written);
@@ -244,7 +187,7 @@ module _ (rules : Rules) (lines : Lines) where
     rest_taken next taken consumed = subst (λ o. Consumes o next taken) at.left consumed
 
     up_to_date : (next : Option (List ℕ)) → place ≤ max_frames → (taken : List ℕ) → Consumes (Some at.rest) next taken → IsPart taken
-        → IsUpToDate rules lines bytes next old mid
+        → IsUpToDate judging lines bytes next old mid
     up_to_date next fits taken consumed part = record {
       frames = at.frames;
       rest = at.rest;
@@ -254,11 +197,11 @@ module _ (rules : Rules) (lines : Lines) where
       taken = taken;
       consumed = consumed;
       part = part;
-      written = at.written;
+      written = subst (Appends old mid) (report_there fits) at.written;
     }
 
     -- a fault of the bytes themselves
-    shown_fault : (fault : RunFault) → GoesOn (no_frames (Some fault)) → JudgesTo rules lines bytes old mid fault
+    shown_fault : (fault : RunFault) → GoesOn (no_frames (Some fault)) → JudgesTo judging lines bytes old mid fault
     shown_fault fault is = (fault_last (Some fault) is, written_last (Some fault) is)
 
     -- ---- a read that gave no frame
@@ -314,7 +257,7 @@ module _ (rules : Rules) (lines : Lines) where
           ended = ended;
           written = written_last None is;
           some = at.some ∙ sym (ap (λ (h : History). some_refused h.said) run);
-          after = subst (λ (h : History). IsAfter rules h.accepted ledger) (sym run) at.stands;
+          after = subst (λ (h : History). IsAfter h.accepted ledger) (sym run) at.stands;
         })
 
     pub no_more : (next : Option (List ℕ)) → place < max_frames → FrameGives max_length now next (Ok None) → Ends next ledger (Ok refused)
@@ -348,117 +291,268 @@ module _ (rules : Rules) (lines : Lines) where
       taken : TakesNext place at.rest next
       taken = let read = rw at.left at told in inl (below, inr (Some content.items, read.0, read.2, read.1))
 
-      -- what is so of all frames of the stream is so of it
-      pub is_among : (test : List ℕ → Bool) → list_all test (stream_of bytes).frames ≡ true → test content.items ≡ true
-      is_among test all =
-          among test at.frames content.items others.frames (subst (λ (s : Stream). list_all test s.frames ≡ true) goes_on all)
+      -- its batches are run so
+      module _ (runs : Runs) (same : judging.ways (length at.frames) ≡ runs) where
+        abbrev by_runs : Rules
+        by_runs = rules_with first_half judging.accepts runs
 
-      -- it found no room
-      full_here : (one_by_one : RunsOneByOne rules.runs) (after_it : Ledger) → IsFull rules ledger content.items → Ends next after_it (Err Blocks)
-      full_here one_by_one after_it full =
-          let none = no_room rules one_by_one seen.accepted content.items ledger at.stands full others.frames in
-          let text : report_in rules lines bytes ≡ reported =
-          report_at (before content.items others) goes_on ∙ ap (λ (h : History). reported ++ report lines (length at.frames) h.said) none
-          ∙ append-nil reported in
-          ends_here next after_it (Err Blocks) (omega arith) taken
-          (fault_at (before content.items others) goes_on ∙ ap (λ (h : History). fault_in h others.fault) none, subst (Appends old mid) (sym text) at.written)
+        here : by_runs ≡ rules_at judging (length at.frames)
+        here = ap (λ (runs : Runs). rules_with first_half judging.accepts runs) (sym same)
 
-      -- two different nodes of one hash were met
-      clash_here : (kept given : Node) → AreAlike kept given → Clashes rules ledger.states ledger.blocks content.items kept given
-          → StopsAtClash rules lines bytes next old mid kept given
-      clash_here kept given alike met =
-          let read = rw at.left at told in
-          record {
-            frames = at.frames;
-            content = content.items;
-            rest = read.0;
-            reads = Reads-push at.frames bytes at.rest read.0 content.items at.reads read.2;
-            left_is = read.1;
-            m = met.left;
-            would = would_be met.left met.left_is;
-            written = at.written;
-            clash = clash_in rules.hash rules seen.accepted ledger at.stands met.left kept given met.clash alike;
-          }
-        where
-          would_be : (m : StateMap) → would_leave rules (map_under ledger.states) ledger.blocks content.items ≡ Some m
-              → slice_get (tried rules (stream_of bytes).frames []) (length at.frames) ≡ Some (Some m)
-          would_be m is =
-              ap (λ (s : Stream). slice_get (tried rules s.frames []) (length at.frames)) goes_on
-              ∙ tried_at rules at.frames content.items others.frames [] at.room
-              ∙ ap Some (sym (left_same rules seen.accepted ledger at.stands content.items) ∙ is)
+        -- it found no room
+        full_here : (after_it : Ledger) → IsFull by_runs ledger content.items → Ends next after_it (Err Blocks)
+        full_here after_it full =
+            let none = no_room judging (length at.frames) seen.accepted content.items ledger at.stands
+            (subst (λ (rules : Rules). IsFull rules ledger content.items) here full) others.frames in
+            let text : report_in judging lines bytes ≡ reported =
+            report_at (before content.items others) goes_on ∙ ap (λ (h : History). reported ++ report lines (length at.frames) h.said) none
+            ∙ append-nil reported in
+            ends_here next after_it (Err Blocks) (omega arith) taken
+            (fault_at (before content.items others) goes_on ∙ ap (λ (h : History). fault_in h others.fault) none, subst (Appends old mid) (sym text) at.written)
 
-      -- it has no verdict, since it found no room, two nodes clashed, a processor failed or memory was refused
-      pub not_judged : RunsOneByOne rules.runs → (e : RunFault) (after_it : Ledger) → LeavesUnjudged e
-          → (e ≡ Blocks → IsFull rules ledger content.items) → ClashesBy rules ledger content.items e
-          → Ends next after_it (Err e)
-      not_judged one_by_one Blocks after_it why full clash = full_here one_by_one after_it (full refl)
-      not_judged one_by_one (Collision kept given) after_it why full clash =
-          ends_here next after_it (Err (Collision kept given)) (omega arith) taken (clash_here kept given why clash)
-      not_judged one_by_one Peer after_it why full clash = ends_here next after_it (Err Peer) (omega arith) taken tt
-      not_judged one_by_one Memory after_it why full clash = ends_here next after_it (Err Memory) (omega arith) taken tt
-      not_judged one_by_one e after_it why full clash = absurd why
-
-      -- it was judged
-      module _ (one_by_one : RunsOneByOne rules.runs) (verdict : Verdict) (after_it : Ledger) (says : Says rules ledger content.items verdict after_it)
-          (stays : Stays ledger.states after_it.states) where
-        abbrev said : Said
-        said = said_of verdict after_it.blocks
-
-        step : Steps rules one_by_one seen.accepted content.items said after_it
-        step = steps rules one_by_one seen.accepted content.items ledger at.stands after_it stays verdict says
-
-        abbrev line : List ℕ
-        line = line_of lines (length at.frames) said
-
-        abbrev others_lines : List ℕ
-        others_lines = report lines (length at.frames + 1) (history rules others.frames step.next).said
-
-        whole : report_in rules lines bytes ≡ reported ++ (line ++ others_lines)
-        whole = report_at (before content.items others) goes_on
-            ∙ ap (λ (h : History). reported ++ report lines (length at.frames) h.said) (step.goes others.frames)
-
-        pub line_cut : (new : Option (List ℕ)) (e : RunFault) (n : ℕ) → (e ≡ Write) ⊎ (e ≡ Memory) → Appends mid new (take n (line_of lines place said))
-            → Judges rules lines bytes next old new after_it (Err e)
-        line_cut new e n which cut =
-            let part : Appends mid new (take n line) = subst (λ (p : ℕ). Appends mid new (take n (line_of lines p said))) (sym at.count) cut in
-            let front = front_cut (report_in rules lines bytes) old mid new reported line others_lines n whole at.written part in
-            let prompt = prompt_here next new (take n line) (omega arith) taken (Appends-trans old mid new reported (take n line) at.written part) in
-            elim which [
-              | inl h ↦ rw h (record { front = front; prompt = prompt; ends = tt })
-              | inr h ↦ rw h
-                  (record { front = front; prompt = prompt; ends = tt })
-            ]
-
-        -- its line was written
-        behind_it : so_far (at.frames ++ content.items ∷ []) ≡ after seen (histories.before said (ended step.next false))
-        unfolding history
-        behind_it = history_behind rules at.frames (content.items ∷ []) [] at.room ∙ ap (after seen) (step.goes [])
-
-        report_is : report_of rules lines (at.frames ++ content.items ∷ []) ≡ reported ++ line
-        unfolding history
-        report_is =
-            report-behind lines rules at.frames (content.items ∷ []) at.room
-            ∙ ap (λ (h : History). reported ++ report lines (length at.frames) h.said) (step.goes [])
-            ∙ ap (λ (l : List ℕ). reported ++ l) (append-nil line)
-
-        some_is : some_refused (so_far (at.frames ++ content.items ∷ [])).said ≡ (some_refused seen.said || is_refused said)
-        some_is =
-            ap (λ (h : History). some_refused h.said) behind_it ∙ list_any-append is_refused seen.said (said ∷ [])
-            ∙ or_false (some_refused seen.said) (is_refused said)
-
-        pub line_written : (new : Option (List ℕ)) (more : Bool) → Appends mid new (line_of lines place said) → more ≡ (refused || is_refused said)
-            → IsAt (place + 1) bytes next old new more after_it
-        line_written new more wrote is =
+        -- two different nodes of one hash were met
+        clash_here : (kept given : Node) → AreAlike kept given → Clashes by_runs ledger.states ledger.blocks content.items kept given
+            → StopsAtClash judging lines bytes next old mid kept given
+        clash_here kept given alike met =
             let read = rw at.left at told in
-            let shown : Appends mid new line = subst (λ (p : ℕ). Appends mid new (line_of lines p said)) (sym at.count) wrote in
             record {
-              frames = at.frames ++ content.items ∷ [];
+              frames = at.frames;
+              content = content.items;
               rest = read.0;
-              left = read.1;
-              count = omega (arith, at.count, length-push at.frames content.items);
               reads = Reads-push at.frames bytes at.rest read.0 content.items at.reads read.2;
-              room = ap (λ (h : History). h.is_full) behind_it;
-              written = subst (Appends old new) (sym report_is) (Appends-trans old mid new reported line at.written shown);
-              some = is ∙ ap (λ (b : Bool). b || is_refused said) at.some ∙ sym some_is;
-              stands = subst (λ (h : History). IsAfter rules h.accepted after_it) (sym behind_it) step.stands;
+              left_is = read.1;
+              m = met.left;
+              would = would_be met.left met.left_is;
+              written = subst (Appends old mid) (report_there (omega arith)) at.written;
+              clash = subst (λ (frames : List (List ℕ)). ClashIn first_half met.left (maps_of (so_far frames).accepted) kept given)
+                  (sym (front_is (omega arith)))
+                  (clash_in first_half seen.accepted ledger at.stands met.left kept given met.clash alike);
             }
+          where
+            would_be : (m : StateMap) → would_leave by_runs (map_under ledger.states) ledger.blocks content.items ≡ Some m
+                → slice_get (tried judging 0 (stream_of bytes).frames []) (length at.frames) ≡ Some (Some m)
+            would_be m is =
+                ap (λ (s : Stream). slice_get (tried judging 0 s.frames []) (length at.frames)) goes_on
+                ∙ tried_first judging at.frames content.items others.frames at.room
+                ∙ ap Some (sym (left_same (rules_at judging (length at.frames)) seen.accepted ledger at.stands content.items)
+                ∙ subst (λ (rules : Rules). would_leave rules (map_under ledger.states) ledger.blocks content.items ≡ Some m) here is)
+
+        -- it was judged
+        module _ (verdict : Verdict) (after_it : Ledger) (says : Says by_runs ledger content.items verdict after_it)
+            (stays : Stays ledger.states after_it.states) where
+          abbrev said : Said
+          said = said_of verdict after_it.blocks
+
+          step : Steps judging (length at.frames) seen.accepted content.items said after_it
+          step = steps judging (length at.frames) seen.accepted content.items ledger at.stands after_it stays verdict
+              (subst (λ (rules : Rules). Says rules ledger content.items verdict after_it) here says)
+
+          abbrev line : List ℕ
+          line = line_of lines (length at.frames) said
+
+          abbrev others_lines : List ℕ
+          others_lines = report lines (length at.frames + 1) (history judging (length at.frames + 1) others.frames step.next).said
+
+          whole : report_in judging lines bytes ≡ reported ++ (line ++ others_lines)
+          whole = report_at (before content.items others) goes_on
+              ∙ ap (λ (h : History). reported ++ report lines (length at.frames) h.said) (step.goes others.frames)
+
+          pub line_cut : (new : Option (List ℕ)) (e : RunFault) (n : ℕ) → (e ≡ Write) ⊎ (e ≡ Memory) → Appends mid new (take n (line_of lines place said))
+              → Judges judging lines bytes next old new after_it (Err e)
+          line_cut new e n which cut =
+              let part : Appends mid new (take n line) = subst (λ (p : ℕ). Appends mid new (take n (line_of lines p said))) (sym at.count) cut in
+              let front = front_cut (report_in judging lines bytes) old mid new reported line others_lines n whole at.written part in
+              let prompt = prompt_here next new (take n line) (omega arith) taken (Appends-trans old mid new reported (take n line) at.written part) in
+              elim which [
+                | inl h ↦ rw h (record { front = front; prompt = prompt; ends = tt })
+                | inr h ↦ rw h
+                    (record { front = front; prompt = prompt; ends = tt })
+              ]
+
+          -- its line was written
+          behind_it : so_far (at.frames ++ content.items ∷ []) ≡ after seen (histories.before said (ended step.next false))
+          unfolding history
+          behind_it = behind_first judging at.frames (content.items ∷ []) at.room ∙ ap (after seen) (step.goes [])
+
+          report_is : report_on (at.frames ++ content.items ∷ []) ≡ reported ++ line
+          unfolding history
+          report_is =
+              report-behind lines judging at.frames (content.items ∷ []) at.room
+              ∙ ap (λ (h : History). reported ++ report lines (length at.frames) h.said) (step.goes [])
+              ∙ ap (λ (l : List ℕ). reported ++ l) (append-nil line)
+
+          some_is : some_refused (so_far (at.frames ++ content.items ∷ [])).said ≡ (some_refused seen.said || is_refused said)
+          some_is =
+              ap (λ (h : History). some_refused h.said) behind_it ∙ list_any-append is_refused seen.said (said ∷ [])
+              ∙ or_false (some_refused seen.said) (is_refused said)
+
+          pub line_written : (new : Option (List ℕ)) (more : Bool) → Appends mid new (line_of lines place said) → more ≡ (refused || is_refused said)
+              → IsAt (place + 1) bytes next old new more after_it
+          line_written new more wrote is =
+              let read = rw at.left at told in
+              let shown : Appends mid new line = subst (λ (p : ℕ). Appends mid new (line_of lines p said)) (sym at.count) wrote in
+              record {
+                frames = at.frames ++ content.items ∷ [];
+                rest = read.0;
+                left = read.1;
+                count = omega (arith, at.count, length-push at.frames content.items);
+                reads = Reads-push at.frames bytes at.rest read.0 content.items at.reads read.2;
+                room = ap (λ (h : History). h.is_full) behind_it;
+                written = subst (Appends old new) (sym report_is) (Appends-trans old mid new reported line at.written shown);
+                some = is ∙ ap (λ (b : Bool). b || is_refused said) at.some ∙ sym some_is;
+                stands = subst (λ (h : History). IsAfter h.accepted after_it) (sym behind_it) step.stands;
+              }
+
+-- ---- by some way to run the batches of each block
+
+-- what comes of it, where the input tells its bytes
+so_by : (first : Option (List ℕ)) (P Q : List ℕ → Type 0) → ((bytes : List ℕ) → P bytes → Q bytes) → IfSome first P → IfSome first Q
+so_by None P Q goes so = tt
+so_by (Some bytes) P Q goes so = goes bytes so
+
+-- where the batches of the next block are run so, the judging stands as before
+module _ (accepts : Accepts) (lines : Lines) (ways : ℕ → Runs) (runs : Runs) {place : ℕ} {bytes : List ℕ} {now old new : Option (List ℕ)}
+    {refused : Bool} {ledger : Ledger} (at : IsAt (by_ways accepts ways) lines place bytes now old new refused ledger) where
+  same_so_far : history (by_ways accepts ways) 0 at.frames [] ≡ history (by_ways accepts (put ways place runs)) 0 at.frames []
+  same_so_far = before_put accepts ways place runs at.frames (omega (arith, at.count))
+
+  at_put : IsAt (by_ways accepts (put ways place runs)) lines place bytes now old new refused ledger
+  at_put = record {
+    frames = at.frames;
+    rest = at.rest;
+    left = at.left;
+    count = at.count;
+    reads = at.reads;
+    room = ap (λ (h : History). h.is_full) (sym same_so_far) ∙ at.room;
+    written = subst (λ (h : History). Appends old new (report lines 0 h.said)) same_so_far at.written;
+    some = at.some ∙ ap (λ (h : History). some_refused h.said) same_so_far;
+    stands = subst (λ (h : History). IsAfter h.accepted ledger) same_so_far at.stands;
+  }
+
+module _ (processors : Processors) (accepts : Accepts) (lines : Lines) where
+  -- where it stands, of an input that may not tell its bytes
+  pub record SoFar (place : ℕ) (first now old new : Option (List ℕ)) (refused : Bool) (ledger : Ledger) : Type 0 where
+    pub ways : ℕ → Runs
+    pub may : (place : ℕ) → RunsBy processors (ways place)
+    pub so : IfSome first (λ bytes. IsAt (by_ways accepts ways) lines place bytes now old new refused ledger)
+
+  pub start : (ways : ℕ → Runs) → ((place : ℕ) → RunsBy processors (ways place)) → (first old : Option (List ℕ)) (ledger : Ledger)
+      → IsAfter [] ledger → SoFar 0 first first old old false ledger
+  unfolding history
+  start ways may first old ledger stands = record { ways = ways; may = may; so = begin first }
+    where
+      begin : (first : Option (List ℕ)) → IfSome first (λ bytes. IsAt (by_ways accepts ways) lines 0 bytes first old old false ledger)
+      begin None = tt
+      begin (Some bytes) = record {
+        frames = [];
+        rest = bytes;
+        left = refl;
+        count = refl;
+        reads = refl;
+        room = refl;
+        written = Appends-nil old;
+        some = refl;
+        stands = stands;
+      }
+
+  module _ {place : ℕ} {first now old mid : Option (List ℕ)} {refused : Bool} {ledger : Ledger}
+      (at : SoFar place first now old mid refused ledger) (next new : Option (List ℕ)) where
+    abbrev Was : (ℕ → Runs) → List ℕ → Type 0
+    Was ways bytes = IsAt (by_ways accepts ways) lines place bytes now old mid refused ledger
+
+    -- the judging ended
+    pub so_ends : (after_it : Ledger) (result : Result Bool RunFault)
+        → ((ways : ℕ → Runs) (bytes : List ℕ) → Was ways bytes → Judges (by_ways accepts ways) lines bytes next old new after_it result)
+        → JudgesSomehow processors accepts lines first next old new after_it result
+    so_ends after_it result step = record {
+      ways = at.ways;
+      may = at.may;
+      so = so_by first (Was at.ways) (λ bytes. Judges (by_ways accepts at.ways) lines bytes next old new after_it result) (step at.ways) at.so;
+    }
+
+    -- the batches of a block were run so
+    module _ (runs : Runs) (by : RunsBy processors runs) where
+      abbrev ways_on : ℕ → Runs
+      ways_on = put at.ways place runs
+
+      may_on : (n : ℕ) → RunsBy processors (put at.ways place runs n)
+      may_on = put_may processors at.ways place runs at.may by
+
+      there : {bytes : List ℕ} → (is : Was ways_on bytes) → ways_on (length is.frames) ≡ runs
+      there is = ap ways_on is.count ∙ put_there at.ways place runs
+
+      -- and the judging ended
+      pub so_ends_by : (after_it : Ledger) (result : Result Bool RunFault)
+          → ((ways : ℕ → Runs) (bytes : List ℕ) (is : Was ways bytes) → ways (length is.frames) ≡ runs
+          → Judges (by_ways accepts ways) lines bytes next old new after_it result)
+          → JudgesSomehow processors accepts lines first next old new after_it result
+      so_ends_by after_it result step = record {
+        ways = ways_on;
+        may = may_on;
+        so = so_by first (Was at.ways) (λ bytes. Judges (by_ways accepts ways_on) lines bytes next old new after_it result)
+            (λ bytes was. let is = at_put accepts lines at.ways runs was in step ways_on bytes is (there is)) at.so;
+      }
+
+      -- or it goes on
+      pub so_more : (more : Bool) (after_it : Ledger)
+          → ((ways : ℕ → Runs) (bytes : List ℕ) (is : Was ways bytes) → ways (length is.frames) ≡ runs
+          → IsAt (by_ways accepts ways) lines (place + 1) bytes next old new more after_it)
+          → SoFar (place + 1) first next old new more after_it
+      so_more more after_it step = record {
+        ways = ways_on;
+        may = may_on;
+        so = so_by first (Was at.ways) (λ bytes. IsAt (by_ways accepts ways_on) lines (place + 1) bytes next old new more after_it)
+            (λ bytes was. let is = at_put accepts lines at.ways runs was in step ways_on bytes is (there is)) at.so;
+      }
+
+  -- a frame was read whose block has no verdict, since it found no room, two nodes clashed, a processor failed or memory was
+  -- refused
+  module _ {place : ℕ} {first now old mid : Option (List ℕ)} {refused : Bool} {ledger : Ledger}
+      (at : SoFar place first now old mid refused ledger) (next : Option (List ℕ)) (content : Vec ℕ) (below : place < max_frames)
+      (told : FrameGives max_length now next (Ok (Some content))) (after_it : Ledger) where
+    ends_unsaid : (e : RunFault) → ((ways : ℕ → Runs) (bytes : List ℕ) (is : IsAt (by_ways accepts ways) lines place bytes now old mid refused ledger)
+        → JudgesBy (by_ways accepts ways) lines bytes next old mid after_it (Err e))
+        → JudgesSomehow processors accepts lines first next old mid after_it (Err e)
+    ends_unsaid e ends = so_ends at next mid after_it (Err e) (λ ways bytes is.
+        ends_here (by_ways accepts ways) lines is next after_it (Err e) (omega (arith, below))
+        (taken (by_ways accepts ways) lines is next content below told) (ends ways bytes is))
+
+    pub not_judged : (e : RunFault) → LeavesUnjudged e
+        → (e ≡ Blocks → (runs : Runs) × RunsBy processors runs × IsFull (rules_with first_half accepts runs) ledger content.items)
+        → ClashesBy processors accepts ledger content.items e
+        → JudgesSomehow processors accepts lines first next old mid after_it (Err e)
+    not_judged Blocks why full clash =
+        let by = full refl in
+        so_ends_by at next mid by.0 by.1 after_it (Err Blocks) (λ ways bytes is same.
+        full_here (by_ways accepts ways) lines is next content below told by.0 same after_it by.2)
+    not_judged (Collision kept given) why full clash =
+        so_ends_by at next mid clash.0 clash.1 after_it (Err (Collision kept given)) (λ ways bytes is same.
+        ends_here (by_ways accepts ways) lines is next after_it (Err (Collision kept given)) (omega (arith, below))
+        (taken (by_ways accepts ways) lines is next content below told)
+        (clash_here (by_ways accepts ways) lines is next content below told clash.0 same kept given why clash.2))
+    not_judged Peer why full clash = ends_unsaid Peer (λ ways bytes is. tt)
+    not_judged Memory why full clash = ends_unsaid Memory (λ ways bytes is. tt)
+    not_judged e why full clash = absurd why
+
+  -- nothing was taken or written
+  pub nothing_judged : (ways : ℕ → Runs) → ((place : ℕ) → RunsBy processors (ways place)) → (first old : Option (List ℕ)) (ledger : Ledger)
+      → JudgesSomehow processors accepts lines first first old old ledger (Err Memory)
+  unfolding history
+  nothing_judged ways may first old ledger = record { ways = ways; may = may; so = begin first }
+    where
+      begin : (first : Option (List ℕ)) → IfSome first (λ bytes. Judges (by_ways accepts ways) lines bytes first old old ledger (Err Memory))
+      begin None = tt
+      begin (Some bytes) = record {
+        front = ([], report_in (by_ways accepts ways) lines bytes, refl, Appends-nil old);
+        prompt = record {
+          frames = [];
+          rest = bytes;
+          reads = refl;
+          told = omega arith;
+          next =
+              inl (omega arith, inl ([], Consumes-nil (Some bytes), inl (omega arith)));
+          part = [];
+          written = Appends-nil old;
+        };
+        ends = tt;
+      }

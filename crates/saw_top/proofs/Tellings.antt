@@ -9,15 +9,13 @@ use Rattle.std.proofs.lemmas.List.{append-nil, take-append-drop}
 use Rattle.saw_context.specs.Outcome.{Processors}
 use Rattle.saw_faults.specs.Counts.{Rose}
 use Rattle.saw_io.specs.Frame.{frame}
-use Rattle.saw_journal.specs.Judgement.{rules_with}
+use Rattle.saw_journal.specs.Judgement.{Rules, rules_with}
 use Rattle.saw_journal.specs.Ledger.{Ledger, map_under}
 use Rattle.saw_messages.specs.declared.batch.Batch.{Batch as BatchMessage}
 use Rattle.saw_node.specs.Hashes.{first_half}
-use Rattle.saw_publish.specs.Building.{map_before}
 use Rattle.saw_publish.specs.Candidates.{Signing, content_of}
 use Rattle.saw_publish.specs.Drafts.{Draft}
 use Rattle.saw_queries.specs.Queries.{block_with, branch_receipts}
-use Rattle.saw_receipts.specs.Branches.{ids_in}
 use Rattle.saw_receipts.specs.Heads.{head_branch, head_of}
 use Rattle.saw_receipts.specs.Running.{Runs, RunsBy}
 use Rattle.saw_receipts.specs.declared.block.BlockRecord.{BlockRecord}
@@ -27,16 +25,15 @@ use Rattle.saw_report.specs.declared.run_fault.RunFault.{RunFault}
 use Rattle.saw_top.specs.Ends.{Finishes, IsOfEnd, Tells, WritesBy, WritesEnd, draft_in, end_at, plain_end}
 use Rattle.saw_top.specs.Headline.{IsDone}
 use Rattle.saw_top.specs.Listing.{entries_under, found_status}
-use Rattle.saw_top.specs.Making.{Makes, MakesAs, block_in, code_with, text_with}
+use Rattle.saw_top.specs.Making.{Makes, block_in, code_with, text_with}
 use Rattle.saw_top.specs.Outside.{End, SomeRose, WritesFront}
 use Rattle.saw_top.specs.Publishing.{Waiting, is_nothing, parent_at}
 use Rattle.saw_top.specs.Run.{AtEnd, status_by}
-use Rattle.saw_top.specs.Telling.{tell_batches}
-use Rattle.saw_top.specs.World.{Accepts, rules_by}
+use Rattle.saw_top.specs.World.{Accepts, serially}
 use Rattle.saw_top.specs.declared.publishing.Made.{Made}
 use Rattle.saw_top.specs.declared.task.Ending.{Ending}
 use Rattle.saw_top.specs.declared.task.Ending.TheVariants.{Batch, Candidate, Head, Entries, Receipts}
-use Rattle.saw_top.proofs.Told.{draft_told}
+use Rattle.saw_top.proofs.OwnReasons.{HasOwnReasons, serial_may}
 
 -- ---- the statuses
 
@@ -170,14 +167,19 @@ if_done : (ending : Ending) (code : ℕ) → ((status : ℕ) → status ≡ code
 if_done ending code done (Ok status) same = done status same
 if_done ending code done (Err e) same = tt
 
-module _ (processors : Processors) (accepts : Accepts) (waiting : Waiting) (ledger : Ledger) (refused : Bool) (old new told : End (List ℕ))
-    (counts : List ℕ) (result : Result ℕ RunFault) where
+module _ (processors : Processors) (own : HasOwnReasons processors) (accepts : Accepts) (waiting : Waiting) (ledger : Ledger) (refused : Bool)
+    (old new told : End (List ℕ)) (counts : List ℕ) (result : Result ℕ RunFault) where
+  abbrev serial_rules : Rules
+  serial_rules = rules_with first_half accepts (serially processors).candidate
+
   -- an end that tells nothing on the notes
-  plain : (ending : Ending) (text : List ℕ) (code : ℕ) → end_at (rules_by accepts processors) waiting ending ledger refused ≡ plain_end text code
+  plain : (ending : Ending) (text : List ℕ) (code : ℕ) → end_at serial_rules waiting ending ledger refused ≡ plain_end text code
       → ((status : ℕ) → status ≡ code → IsDone ending status) → Tells text [] code old new told told result
       → Finishes processors accepts waiting ending ledger refused old new told told counts counts result
   plain ending text code is done tells = record {
-    writes = λ all. subst (λ (end : AtEnd). WritesEnd end ledger old new told told result) (sym is)
+    way = (serially processors).candidate;
+    may = (serial_may processors own).candidate;
+    writes = subst (λ (end : AtEnd). WritesEnd end ledger old new told told result) (sym is)
         (writes_end (plain_end text code) ledger old new told told result tells);
     lines = [];
     aside = λ other. refl;
@@ -190,7 +192,7 @@ module _ (processors : Processors) (accepts : Accepts) (waiting : Waiting) (ledg
   }
 
   abbrev end_of : Ending → AtEnd
-  end_of ending = end_at (rules_by accepts processors) waiting ending ledger refused
+  end_of ending = end_at serial_rules waiting ending ledger refused
 
   -- a status of an end that tells nothing on the notes
   is_done : (ending : Ending) → (ending ≡ Candidate → ⊥) → (status : ℕ) → status ≡ (end_of ending).status → IsDone ending status
@@ -225,33 +227,19 @@ code_same true false content = refl
 code_same false true content = refl
 code_same false false content = refl
 
-module _ (processors : Processors) (accepts : Accepts) (signing : Signing) (batches : List BatchMessage) (ledger : Ledger) where
-  -- where the processors tell their actions, batches are run one after another
-  pub made_by : tell_batches processors batches ≡ true → (result : Result Made RunFault)
-      → (runs : Runs) × RunsBy processors runs × MakesAs signing ledger (draft_in (rules_with first_half accepts runs) ledger batches) result
-      → MakesAs signing ledger (draft_in (rules_by accepts processors) ledger batches) result
-  made_by told result makes =
-      subst (λ (draft : Draft). MakesAs signing ledger draft result)
-      (draft_told processors makes.0 makes.1 accepts (map_before ledger.states (parent_at ledger.blocks)) (ids_in (head_branch ledger.blocks)) batches told)
-      makes.2
-
 module _ (processors : Processors) (accepts : Accepts) (signing : Signing) (batches : List BatchMessage) (ledger : Ledger) (refused : Bool)
     (old new told told_new : End (List ℕ)) (counts news : List ℕ) where
   abbrev waiting : Waiting
   waiting = record { signing = signing; batches = batches }
-
-  abbrev draft : Draft
-  draft = draft_in (rules_by accepts processors) ledger batches
-
-  abbrev end : AtEnd
-  end = end_at (rules_by accepts processors) waiting Candidate ledger refused
 
   -- what was made was told, or a front of it
   pub finishes_made : (made : Made) → Makes processors accepts signing ledger batches (Ok made) → (result : Result ℕ RunFault)
       → Tells (text_with (block_in made)) (flat_map loss_line made.dropped) (code_with refused (block_in made)) old new told told_new result
       → Finishes processors accepts waiting Candidate ledger refused old new told told_new counts news result
   finishes_made made makes result tells = record {
-    writes = λ all. writes_end end ledger old new told told_new result (as_end all);
+    way = makes.0;
+    may = makes.1;
+    writes = writes_end end ledger old new told told_new result as_end;
     lines = tells.notes.0;
     aside = λ other. absurd (other refl);
     noted = tells.notes.3;
@@ -262,9 +250,18 @@ module _ (processors : Processors) (accepts : Accepts) (signing : Signing) (batc
     peer = λ is. absurd (never_peer result tells.which is);
   }
     where
-      as_end : tell_batches processors batches ≡ true → Tells end.output end.noted end.status old new told told_new result
-      as_end all =
-          let at = made_by processors accepts signing batches ledger all (Ok made) makes in
+      rules : Rules
+      rules = rules_with first_half accepts makes.0
+
+      draft : Draft
+      draft = draft_in (rules_with first_half accepts makes.0) ledger batches
+
+      end : AtEnd
+      end = end_at (rules_with first_half accepts makes.0) waiting Candidate ledger refused
+
+      as_end : Tells end.output end.noted end.status old new told told_new result
+      as_end =
+          let at = makes.2 in
           let content = content_of first_half signing (parent_at ledger.blocks) draft in
           let text : text_with (block_in made) ≡ end.output = ap text_with at.0 ∙ text_same (is_nothing draft) content in
           let lines : flat_map loss_line made.dropped ≡ end.noted = ap (flat_map loss_line) at.1 in
@@ -273,8 +270,8 @@ module _ (processors : Processors) (accepts : Accepts) (signing : Signing) (batc
           (subst (λ (l : List ℕ). Tells (text_with (block_in made)) l end.status old new told told_new result) lines
           (subst (λ (n : ℕ). Tells (text_with (block_in made)) (flat_map loss_line made.dropped) n old new told told_new result) code tells))
 
-module _ (processors : Processors) (accepts : Accepts) (signing : Signing) (batches : List BatchMessage) (ledger : Ledger) (refused : Bool)
-    (old told : End (List ℕ)) (counts news : List ℕ) where
+module _ (processors : Processors) (own : HasOwnReasons processors) (accepts : Accepts) (signing : Signing) (batches : List BatchMessage) (ledger : Ledger)
+    (refused : Bool) (old told : End (List ℕ)) (counts news : List ℕ) where
   abbrev Unmade : RunFault → Type 0
   Unmade e = Makes processors accepts signing ledger batches (Err e)
 
@@ -290,29 +287,44 @@ module _ (processors : Processors) (accepts : Accepts) (signing : Signing) (batc
   kind_of runs.Memory makes = tt
   kind_of e makes = absurd makes.2
 
-  by_unmade : tell_batches processors batches ≡ true → (e : RunFault) → Unmade e
-      → WritesBy (end_at (rules_by accepts processors) (record { signing = signing; batches = batches }) Candidate ledger refused) ledger old old told told (Err e)
-  by_unmade all (runs.Collision kept given) makes = record {
-    m = (draft_in (rules_by accepts processors) ledger batches).left;
-    made = ap (λ (none : Bool). if none then None else Some (draft_in (rules_by accepts processors) ledger batches).left)
-        (made_by processors accepts signing batches ledger all (Err (runs.Collision kept given)) makes).0;
-    clash = (made_by processors accepts signing batches ledger all (Err (runs.Collision kept given)) makes).1;
-    still = refl;
-    quiet = refl;
-  }
-  by_unmade all e makes = tt
+  -- by some way to run the batches
+  abbrev Finished : RunFault → Type 0
+  Finished e = (by : Runs) × RunsBy processors by
+      × WritesBy (end_at (rules_with first_half accepts by) (record { signing = signing; batches = batches }) Candidate ledger refused) ledger old old told
+      told (Err e)
+
+  by_unmade : (e : RunFault) → Unmade e → Finished e
+  by_unmade (runs.Collision kept given) makes =
+      let draft = draft_in (rules_with first_half accepts makes.0) ledger batches in (
+        makes.0,
+        makes.1,
+        record {
+          m = draft.left;
+          made = ap (λ (none : Bool). if none then None else Some draft.left) makes.2.0;
+          clash = makes.2.1;
+          still = refl;
+          quiet = refl;
+        },
+      )
+  by_unmade runs.Peer makes = ((serially processors).candidate, (serial_may processors own).candidate, tt)
+  by_unmade runs.Memory makes = ((serially processors).candidate, (serial_may processors own).candidate, tt)
+  by_unmade e makes = absurd makes.2
 
   -- nothing was made, and nothing told
   pub finishes_unmade : (e : RunFault) → Unmade e → (as_status e ≡ Err runs.Peer → SomeRose counts news)
       → Finishes processors accepts (record { signing = signing; batches = batches }) Candidate ledger refused old old told told counts news (Err e)
-  finishes_unmade e makes peer = record {
-    writes = λ all. record { output = nothing_yet _ old.tells; notes = nothing_yet _ told.tells; order = inl refl; by = by_unmade all e makes };
-    lines = [];
-    aside = λ other. refl;
-    noted = Appends-nil told.tells;
-    later = omega arith;
-    done = tt;
-    kind = kind_of e makes;
-    rose = λ is. absurd (never_write e makes is);
-    peer = peer;
-  }
+  finishes_unmade e makes peer =
+      let by = by_unmade e makes in
+      record {
+        way = by.0;
+        may = by.1;
+        writes = record { output = nothing_yet _ old.tells; notes = nothing_yet _ told.tells; order = inl refl; by = by.2 };
+        lines = [];
+        aside = λ other. refl;
+        noted = Appends-nil told.tells;
+        later = omega arith;
+        done = tt;
+        kind = kind_of e makes;
+        rose = λ is. absurd (never_write e makes is);
+        peer = peer;
+      }

@@ -1,5 +1,6 @@
 -- Where transactions go to processors that tell their actions there is one way to run them.
-use Rattle.std.proofs.Common.{◌≡◌, ℕ, Bool, true, List, [], ◌∷◌, ◌++◌, map, Option, Some, None, Result, Ok, Err, refl, sym, ap, ◌∙◌}
+use Rattle.std.proofs.Common.{◌≡◌, ℕ, zero, suc, Bool, true, List, [], ◌∷◌, map, take, Option, Some, None, Result, Ok, Err, refl, ap, subst, arith}
+use Rattle.std.specs.Prelude.{slice_get}
 use Rattle.std.proofs.lemmas.Bool.{and_from, and_parts}
 use Rattle.std.specs.List.{list_all}
 use Rattle.saw_address.specs.Maps.{StateMap}
@@ -12,10 +13,8 @@ use Rattle.saw_context.specs.Possible.{are_told}
 use Rattle.saw_context.specs.Serial.{serial}
 use Rattle.saw_journal.specs.BlockFaults.{parent_of}
 use Rattle.saw_journal.specs.BlockShapes.{Parts, parts_of}
-use Rattle.saw_journal.specs.Clashing.{Clashes}
 use Rattle.saw_journal.specs.Judgement.{judged, judged_block, judged_header, judged_parts, judged_unless, judged_with, left_block, left_header, left_parts, left_unless, rules_with, some_unless, would_leave}
 use Rattle.saw_journal.specs.BlockFaults.{early_fault, failure_fault}
-use Rattle.saw_journal.specs.Ledger.{IsFull, Ledger, Says, judged_in, map_under}
 use Rattle.saw_context.specs.Serial.{left_after}
 use Rattle.saw_context.specs.declared.batch_result.BatchResult.{BatchResult}
 use Rattle.saw_messages.specs.Blocks.{block, block_header}
@@ -24,7 +23,6 @@ use Rattle.saw_messages.specs.declared.batch.Batch.{Batch}
 use Rattle.saw_messages.specs.declared.block.Block.{Block}
 use Rattle.saw_messages.specs.declared.block.BlockHeader.{BlockHeader}
 use Rattle.saw_node.specs.Hashes.{first_half}
-use Rattle.saw_node.specs.declared.node.Node.{Node}
 use Rattle.saw_plan.specs.BatchShapes.{txs_of}
 use Rattle.saw_plan.specs.StaticRules.{Ids}
 use Rattle.saw_publish.specs.Drafts.{check_fates, draft_of, draft_of_results, of_all, static_fates}
@@ -33,10 +31,8 @@ use Rattle.saw_publish.specs.Room.{room_fates}
 use Rattle.saw_receipts.specs.Running.{Runs, RunsBy}
 use Rattle.saw_receipts.specs.Shapes.{batch_in}
 use Rattle.saw_receipts.specs.declared.block.BlockRecord.{BlockRecord}
-use Rattle.saw_receipts.specs.declared.verdict.Verdict.{Verdict}
-use Rattle.saw_receipts.specs.declared.verdict.Verdict.TheVariants.{Committed, Stored, Refused}
 use Rattle.saw_top.specs.Telling.{tell_batches, tell_block, tell_read}
-use Rattle.saw_top.specs.World.{Accepts, rules_by}
+use Rattle.saw_top.specs.World.{Accepts}
 use Rattle.saw_wire.specs.declared.fault.MessageFault.{MessageFault}
 
 -- ---- some of the batches, and one of the blocks
@@ -50,10 +46,19 @@ still_told processors (None ∷ fates) (batch ∷ batches) told =
 still_told processors (Some cause ∷ fates) (batch ∷ batches) told =
     let parts = and_parts _ (tell_batches processors batches) told in still_told processors fates batches parts.1
 
--- what is so of all is so of one among them
-pub among : {X : Type 0} (test : X → Bool) (front : List X) (x : X) (back : List X) → list_all test (front ++ x ∷ back) ≡ true → test x ≡ true
-among test [] x back all = (and_parts (test x) (list_all test back) all).0
-among test (first ∷ front) x back all = among test front x back (and_parts (test first) (list_all test (front ++ x ∷ back)) all).1
+-- what is so of all is so of the one at a place
+pub all_at : {X : Type 0} (test : X → Bool) (xs : List X) (n : ℕ) (x : X) → list_all test xs ≡ true → slice_get xs n ≡ Some x → test x ≡ true
+all_at test [] n x all is = absurd (grind (arith, is))
+all_at test (first ∷ xs) zero x all is =
+    let same : first ≡ x = grind (arith, is) in subst (λ (y : _). test y ≡ true) same (and_parts (test first) (list_all test xs) all).0
+all_at test (first ∷ xs) (suc n) x all is = all_at test xs n x (and_parts (test first) (list_all test xs) all).1 is
+
+-- and of the first so many
+pub all_first : {X : Type 0} (test : X → Bool) (n : ℕ) (xs : List X) → list_all test xs ≡ true → list_all test (take n xs) ≡ true
+all_first test zero xs all = refl
+all_first test (suc n) [] all = refl
+all_first test (suc n) (x ∷ xs) all =
+    let parts = and_parts (test x) (list_all test xs) all in and_from _ _ parts.0 (all_first test n xs parts.1)
 
 -- ---- one way to run them
 
@@ -125,32 +130,10 @@ module _ (processors : Processors) (runs : Runs) (by : RunsBy processors runs) w
   -- what comes of the bytes of a block, and the map that it would leave
   module _ (accepts : Accepts) (map_behind : Option BlockRecord → StateMap) (blocks : List BlockRecord) (content : List ℕ)
       (told : tell_block processors content ≡ true) where
-    judged_told : judged (rules_with first_half accepts runs) map_behind blocks content ≡ judged (rules_by accepts processors) map_behind blocks content
+    pub judged_told : judged (rules_with first_half accepts runs) map_behind blocks content ≡ judged (rules_with first_half accepts serially) map_behind blocks content
     unfolding judged
     judged_told = judged_unless_told map_behind blocks first_half content (structure_fault accepts content) told
 
-    left_told : would_leave (rules_with first_half accepts runs) map_behind blocks content ≡ would_leave (rules_by accepts processors) map_behind blocks content
+    pub left_told : would_leave (rules_with first_half accepts runs) map_behind blocks content ≡ would_leave (rules_with first_half accepts serially) map_behind blocks content
     unfolding would_leave
     left_told = left_unless_told map_behind blocks content (structure_fault accepts content) told
-
-  -- ---- what is said of it
-
-  module _ (accepts : Accepts) (old : Ledger) (content : List ℕ) (told : tell_block processors content ≡ true) where
-    here : judged_in (rules_with first_half accepts runs) old content ≡ judged_in (rules_by accepts processors) old content
-    here = judged_told accepts (map_under old.states) old.blocks content told
-
-    pub says_told : (verdict : Verdict) (new : Ledger) → Says (rules_with first_half accepts runs) old content verdict new
-        → Says (rules_by accepts processors) old content verdict new
-    says_told Committed new says =
-        record { kept = says.kept; fine = sym here ∙ says.fine; room = says.room; head = says.head; grown_by = says.grown_by }
-    says_told Stored new says =
-        record { kept = says.kept; fine = sym here ∙ says.fine; room = says.room; head = says.head; grown_by = says.grown_by }
-    says_told (Refused fault) new says = (sym here ∙ says.0, says.1)
-
-    pub full_told : IsFull (rules_with first_half accepts runs) old content → IsFull (rules_by accepts processors) old content
-    full_told is = record { kept = is.kept; fine = sym here ∙ is.fine; full = is.full }
-
-    pub clash_told : (kept given : Node) → Clashes (rules_with first_half accepts runs) old.states old.blocks content kept given
-        → Clashes (rules_by accepts processors) old.states old.blocks content kept given
-    clash_told kept given met =
-        record { left = met.left; left_is = sym (left_told accepts (map_under old.states) old.blocks content told) ∙ met.left_is; clash = met.clash }

@@ -1,10 +1,11 @@
 -- What a run answers to words, files and a stream.
 use Rattle.std.specs.Prelude.{ℕ, List, [], length, Option, Some, None, Result, Ok, Err, nat_lt, if◌then◌else◌}
-use Rattle.saw_context.specs.Outcome.{Processors}
 use Rattle.saw_io.specs.Shelf.{Files}
 use Rattle.saw_messages.specs.Batches.{batch_list}
 use Rattle.saw_messages.specs.declared.batch.Batch.{Batch}
 use Rattle.saw_messages.specs.declared.batch.BatchList.{BatchList}
+use Rattle.saw_journal.specs.Judgement.{rules_with}
+use Rattle.saw_node.specs.Hashes.{first_half}
 use Rattle.saw_publish.specs.Candidates.{Signing}
 use Rattle.saw_report.specs.declared.run_fault.RunFault.{RunFault}
 use Rattle.saw_report.specs.declared.run_fault.RunFault.TheVariants.{Words, FileMissing, FileTooLong, BadLine, BadList}
@@ -15,7 +16,7 @@ use Rattle.saw_top.specs.Command.{Asked, Generate, Judge, Wish, asked_of}
 use Rattle.saw_top.specs.Limits.{max_batches, max_list}
 use Rattle.saw_top.specs.Publishing.{Waiting}
 use Rattle.saw_top.specs.Run.{Answer, faulty, task_answer, whole}
-use Rattle.saw_top.specs.World.{Accepts, World, rules_by}
+use Rattle.saw_top.specs.World.{Accepts, Ways, World, judging_by}
 use Rattle.saw_top.specs.declared.task.Ending.TheVariants.{Head}
 use Rattle.saw_top.specs.declared.task.Lines.TheVariants.{All}
 use Rattle.saw_top.specs.declared.task.Task.{Task}
@@ -79,21 +80,23 @@ abbrev pub task_by : Option Wish → Task
 task_by None = record { lines = All; ending = Head }
 task_by (Some wish) = wish.task
 
--- the answer to a stream, by what is prepared
-abbrev pub answer_for : Processors → Task → Result Prepared RunFault → List ℕ → Answer
-answer_for processors task (Err fault) bytes = faulty fault
-answer_for processors task (Ok ready) bytes = task_answer (rules_by ready.accepts processors) ready.waiting task bytes
+module _ (ways : Ways) where
+  -- the answer to a stream, by what is prepared
+  abbrev pub answer_for : Task → Result Prepared RunFault → List ℕ → Answer
+  answer_for task (Err fault) bytes = faulty fault
+  answer_for task (Ok ready) bytes =
+      task_answer (judging_by ready.accepts ways) (rules_with first_half ready.accepts ways.candidate) ready.waiting task bytes
 
--- the answer to files and a stream, by what is done with its blocks
-abbrev pub answer_to : World → Option Wish → List ℕ → Answer
-answer_to world wish bytes = answer_for world.processors (task_by wish) (prepared world wish) bytes
+  -- the answer to files and a stream, by what is done with its blocks
+  abbrev pub answer_to : World → Option Wish → List ℕ → Answer
+  answer_to world wish bytes = answer_for (task_by wish) (prepared world wish) bytes
 
--- a new stream is written whatever files and stream are
-abbrev pub answer_by : World → Option Asked → List ℕ → Answer
-answer_by world None bytes = answer_to world None bytes
-answer_by world (Some (Judge wish)) bytes = answer_to world (Some wish) bytes
-answer_by world (Some (Generate wish)) bytes = whole (stream world.signing wish)
+  -- a new stream is written whatever files and stream are
+  abbrev pub answer_by : World → Option Asked → List ℕ → Answer
+  answer_by world None bytes = answer_to world None bytes
+  answer_by world (Some (Judge wish)) bytes = answer_to world (Some wish) bytes
+  answer_by world (Some (Generate wish)) bytes = whole (stream world.signing wish)
 
--- the answer to words, files and a stream
-abbrev pub answer_of : World → List (List ℕ) → List ℕ → Answer
-answer_of world words bytes = answer_by world (asked_of words) bytes
+  -- the answer to words, files and a stream
+  abbrev pub answer_of : World → List (List ℕ) → List ℕ → Answer
+  answer_of world words bytes = answer_by world (asked_of words) bytes

@@ -1,10 +1,10 @@
 -- What a journal with all blocks has at the end, and what was written of it.
-use Rattle.std.specs.Prelude.{◌≡◌, ◌≢◌, ◌⊎◌, ◌≤◌, ℕ, Bool, true, List, [], Some, None, Result, Ok, Err, IfErr, IfOk, IsErrOf}
+use Rattle.std.specs.Prelude.{◌≡◌, ◌≢◌, ◌⊎◌, ◌≤◌, ℕ, Bool, List, [], Some, None, Result, Ok, Err, IfErr, IfOk, IsErrOf}
 use Rattle.std.specs.Io.KnownBytes.{Appends}
 use Rattle.saw_address.specs.Maps.{StateMap}
 use Rattle.saw_context.specs.Outcome.{Processors}
 use Rattle.saw_faults.specs.Counts.{Rose}
-use Rattle.saw_journal.specs.Judgement.{Rules}
+use Rattle.saw_journal.specs.Judgement.{Rules, rules_with}
 use Rattle.saw_journal.specs.Ledger.{Ledger, map_under}
 use Rattle.saw_merkle.specs.Clashes.{IsClashFor}
 use Rattle.saw_messages.specs.declared.batch.Batch.{Batch as BatchMessage}
@@ -14,6 +14,7 @@ use Rattle.saw_publish.specs.Building.{map_before}
 use Rattle.saw_publish.specs.Drafts.{Draft, draft_of}
 use Rattle.saw_receipts.specs.Branches.{ids_in}
 use Rattle.saw_receipts.specs.Heads.{head_branch, head_of}
+use Rattle.saw_receipts.specs.Running.{Runs, RunsBy}
 use Rattle.saw_report.specs.Lines.{head_line}
 use Rattle.saw_report.specs.declared.run_fault.RunFault.{RunFault}
 use Rattle.saw_report.specs.declared.run_fault.RunFault.TheVariants as runs
@@ -24,8 +25,7 @@ use Rattle.saw_top.specs.Listing.{batch_status, batch_text, listing, listing_sta
 use Rattle.saw_top.specs.Outside.{End, SomeRose, WritesFront}
 use Rattle.saw_top.specs.Publishing.{Waiting, candidate_status, candidate_text, losses_text, map_left, parent_at}
 use Rattle.saw_top.specs.Run.{AtEnd, status_by}
-use Rattle.saw_top.specs.Telling.{tell_batches}
-use Rattle.saw_top.specs.World.{Accepts, rules_by}
+use Rattle.saw_top.specs.World.{Accepts}
 use Rattle.saw_top.specs.declared.task.Ending.{Ending}
 use Rattle.saw_top.specs.declared.task.Ending.TheVariants.{Batch, Candidate, Head, Entries, Receipts}
 
@@ -104,12 +104,14 @@ module _ (end : AtEnd) (ledger : Ledger) (old new told_old told_new : End (List 
     pub order : (new.tells ≡ old.tells) ⊎ Appends told_old.tells told_new.tells end.noted
     pub by : WritesBy result
 
--- What was done behind all blocks: the end was written where the processors tell their actions, or a front of it.
+-- What was done behind all blocks: the end was written, by some way to run batches, or a front of it.
 module _ (processors : Processors) (accepts : Accepts) (waiting : Waiting) (ending : Ending) (ledger : Ledger) (refused : Bool)
     (old new told_old told_new : End (List ℕ)) (counts new_counts : List ℕ) where
   pub record Finishes (result : Result ℕ RunFault) : Type 0 where
-    pub writes : tell_batches processors waiting.batches ≡ true
-        → WritesEnd (end_at (rules_by accepts processors) waiting ending ledger refused) ledger old new told_old told_new result
+    pub way : Runs
+    pub may : RunsBy processors way
+    pub writes : WritesEnd (end_at (rules_with first_half accepts way) waiting ending ledger refused) ledger old new told_old told_new
+        result
     pub lines : List ℕ
     pub aside : ending ≢ Candidate → lines ≡ []
     pub noted : Appends told_old.tells told_new.tells lines

@@ -1,5 +1,5 @@
 -- What is true of generated streams.
-use Rattle.std.specs.Prelude.{◌≡◌, ◌≤◌, ℕ, true, List, [], ◌∷◌, ◌++◌, length, map, None, option_map}
+use Rattle.std.specs.Prelude.{◌≡◌, ◌≤◌, ℕ, true, List, [], ◌∷◌, ◌++◌, length, map, None, option_map, Ok}
 use Rattle.std.specs.List.{AllByRecursion, flat_map, range_with_len}
 use Rattle.saw_address.specs.Texts.{is_hex_text}
 use Rattle.saw_checks.specs.BatchFaults.{ids_of}
@@ -12,12 +12,17 @@ use Rattle.saw_receipts.specs.Heads.{as_parent, head_of}
 use Rattle.saw_receipts.specs.declared.verdict.Verdict.TheVariants.{Committed}
 use Rattle.saw_station.specs.Serving.{alone}
 use Rattle.saw_top.specs.History.{records_of}
+use Rattle.saw_top.specs.Answers.{answer_for}
 use Rattle.saw_top.specs.Publishing.{Waiting}
-use Rattle.saw_top.specs.Run.{fault_of, head_map, run_of, task_answer}
+use Rattle.saw_top.specs.Run.{fault_of, head_map, run_of}
 use Rattle.saw_top.specs.Stream.{stream_of}
-use Rattle.saw_top.specs.World.{Accepts, rules_by}
+use Rattle.saw_top.specs.World.{Accepts, Judging, judging_by, serially}
 use Rattle.saw_top.specs.declared.task.Ending.TheVariants.{Head}
 use Rattle.saw_top.specs.declared.task.Lines.TheVariants.{All}
+
+-- blocks are judged by the built-in processors alone, their batches one after another
+abbrev pub alone_by : Accepts → Judging
+alone_by accepts = judging_by accepts (serially (alone []))
 
 module _ (signing : Signing) (wish : GenerateWish) where
   -- the places of the blocks
@@ -53,15 +58,16 @@ module _ (signing : Signing) (wish : GenerateWish) where
   -- block, over the map that all of them leave; and `apply` ends with status 0.
   pub record IsCommitted (accepts : Accepts) : Type 0 where
     pub frames : (stream_of (stream signing wish)).frames ≡ map (content_at signing wish) places
-    pub fault : fault_of (rules_by accepts (alone [])) (stream signing wish) ≡ None
-    pub said : AllByRecursion (λ said. said.verdict ≡ Committed) (run_of (rules_by accepts (alone [])) (stream signing wish)).said
-    pub judged : length (run_of (rules_by accepts (alone [])) (stream signing wish)).said ≡ wish.blocks
-    pub head : option_map as_parent (head_of (records_of (run_of (rules_by accepts (alone [])) (stream signing wish)).accepted))
+    pub fault : fault_of (alone_by accepts) (stream signing wish) ≡ None
+    pub said : AllByRecursion (λ said. said.verdict ≡ Committed) (run_of (alone_by accepts) (stream signing wish)).said
+    pub judged : length (run_of (alone_by accepts) (stream signing wish)).said ≡ wish.blocks
+    pub head : option_map as_parent (head_of (records_of (run_of (alone_by accepts) (stream signing wish)).accepted))
         ≡ parent_after signing wish wish.blocks
-    pub left : head_map (rules_by accepts (alone [])) (run_of (rules_by accepts (alone [])) (stream signing wish))
+    pub left : head_map (run_of (alone_by accepts) (stream signing wish))
         ≡ map_after_blocks signing wish wish.blocks
     pub status : (waiting : Waiting)
-        → (task_answer (rules_by accepts (alone [])) waiting (record { lines = All; ending = Head }) (stream signing wish)).status ≡ 0
+        → (answer_for (serially (alone [])) (record { lines = All; ending = Head })
+        (Ok (record { accepts = accepts; waiting = waiting })) (stream signing wish)).status ≡ 0
 
 -- a generated stream is committed by whoever accepts its signatures
 abbrev pub GeneratedStreamIsCommitted : Type 0

@@ -24,7 +24,7 @@ use Rattle.saw_top.specs.Outside.{AreLater, End, Outside, Sides, SomeFailed, Som
 use Rattle.saw_top.specs.Run.{Answer, notes_of}
 use Rattle.saw_top.specs.Stream.{Reads}
 use Rattle.saw_top.specs.Telling.{IsTold}
-use Rattle.saw_top.specs.World.{World}
+use Rattle.saw_top.specs.World.{AreWays, Ways, World, serially}
 use Rattle.saw_top.specs.declared.task.Ending.{Ending}
 use Rattle.saw_top.specs.declared.task.Ending.TheVariants.{Batch, Candidate, Head, Entries, Receipts}
 use Rattle.saw_top.specs.declared.task.Lines.{Lines}
@@ -55,9 +55,9 @@ module _ (answer : Answer) (bytes : List ℕ) (left : Option (List ℕ)) (writte
     pub told : length frames ≤ answer.judged
     pub next : TakesNext (length frames) rest left
     pub more : List ℕ
-    pub output : Appends written.old written.new (answer.output_for frames ++ more)
+    pub output : Appends written.old written.new (answer.output_for (length frames) ++ more)
     pub noted : List ℕ
-    pub notes : Appends written.told_old written.told_new (answer.noted_for frames ++ noted)
+    pub notes : Appends written.told_old written.told_new (answer.noted_for (length frames) ++ noted)
 
   -- What was read is whole frames, with their lines written and no more, and less than a frame.
   pub record KeepsUp : Type 0 where
@@ -69,8 +69,8 @@ module _ (answer : Answer) (bytes : List ℕ) (left : Option (List ℕ)) (writte
     pub taken : List ℕ
     pub consumed : Consumes (Some rest) left taken
     pub part : IsPart taken
-    pub output : Appends written.old written.new (answer.output_for frames)
-    pub notes : Appends written.told_old written.told_new (answer.noted_for frames)
+    pub output : Appends written.old written.new (answer.output_for (length frames))
+    pub notes : Appends written.told_old written.told_new (answer.noted_for (length frames))
 
   -- Two different nodes of one hash were met: one of the map that the next block would leave, and one of that map, of the
   -- empty one, or of one that an earlier accepted block leaves. What was read is the frames that have their lines, and that
@@ -83,9 +83,9 @@ module _ (answer : Answer) (bytes : List ℕ) (left : Option (List ℕ)) (writte
     pub left_is : left ≡ Some rest
     pub m : StateMap
     pub tried : slice_get answer.tried (length frames) ≡ Some (Some m)
-    pub output : Appends written.old written.new (answer.output_for frames)
-    pub notes : Appends written.told_old written.told_new (answer.noted_for frames)
-    pub clash : ClashIn first_half m (answer.maps_for frames) kept given
+    pub output : Appends written.old written.new (answer.output_for (length frames))
+    pub notes : Appends written.told_old written.told_new (answer.noted_for (length frames))
+    pub clash : ClashIn first_half m (answer.maps_for (length frames)) kept given
 
   -- The same of a candidate: one of the map that it would leave, and one of that map, of the empty one, or of one that an
   -- accepted block leaves. All blocks have their lines, and nothing else was written or told.
@@ -95,9 +95,9 @@ module _ (answer : Answer) (bytes : List ℕ) (left : Option (List ℕ)) (writte
     pub ended : IsAtEnd left
     pub m : StateMap
     pub made : answer.made ≡ Some m
-    pub output : Appends written.old written.new (answer.output_for frames)
-    pub notes : Appends written.told_old written.told_new (answer.noted_for frames)
-    pub clash : ClashIn first_half m (answer.maps_for frames) kept given
+    pub output : Appends written.old written.new (answer.output_for (length frames))
+    pub notes : Appends written.told_old written.told_new (answer.noted_for (length frames))
+    pub clash : ClashIn first_half m (answer.maps_for (length frames)) kept given
 
   -- all of it, and its one fault
   abbrev pub HasFault : RunFault → Type 0
@@ -173,16 +173,25 @@ module _ (processors : Processors) (task : Task) (ready : Result Prepared RunFau
   HasCause (Err (Collision kept given)) = IsReady × AreAlike kept given
   HasCause (Err fault) = IsReady
 
-  -- what was done with words and files that prepare this
+  -- what is shown of the bytes of the stream, where batches are run so
+  abbrev pub ShowsBy : Result ℕ RunFault → Ways → List ℕ → Type 0
+  ShowsBy came ways bytes = let answer = answer_for ways task ready bytes in
+      Shows answer bytes after.input.tells (sides_of before after) came
+      × TellsFirst task.lines answer.noted (sides_of before after)
+
+  -- What was done with words and files that prepare this. Each block's batches were run in a way that may come of its
+  -- processors; where all is told, there is one.
   pub record Does (came : Result ℕ RunFault) : Type 0 where
     pub cause : HasCause came
     pub lines : List ℕ
     pub aside : (task.lines ≡ All) × (task.ending ≢ Candidate) → lines ≡ []
     pub noted : Appends before.notes.tells after.notes.tells lines
     pub later : before.notes.faults ≤ after.notes.faults
-    pub shows : IfSome before.input.tells (λ bytes. let answer = answer_for processors task ready bytes in
-        IsTold processors ready bytes → Shows answer bytes after.input.tells (sides_of before after) came
-        × TellsFirst task.lines answer.noted (sides_of before after))
+    pub ways : Ways
+    pub may : AreWays processors ways
+    pub shows : IfSome before.input.tells (ShowsBy came ways)
+    pub told : IfSome before.input.tells
+        (λ bytes. IsTold processors ready bytes → ShowsBy came (serially processors) bytes)
 
 -- whether a file is named
 abbrev pub names_file : Option Wish → Bool
@@ -263,17 +272,23 @@ TellsEnd (Err fault) before after status =
 -- ---- the two promises of a run
 
 module _ (given : Files → World) (words : List (List ℕ)) (before after : Outside) (status : ℕ) where
-  -- output, notes and status are the answer, where all is told, memory was not refused, no two different nodes of one hash
-  -- were met and no call failed
-  abbrev pub Answers : World → List ℕ → Type 0
-  Answers world bytes =
-      IsToldFor world (asked_of words) bytes → (status ≡ 7) ⊎ ((status ≡ 9) ⊎ (SomeFailed before after ⊎ Gives (answer_of world words bytes) (sides_of before after) status))
+  -- output, notes and status are the answer, where memory was not refused, no two different nodes of one hash were met and
+  -- no call failed
+  abbrev pub Answers : World → Ways → List ℕ → Type 0
+  Answers world ways bytes = (status ≡ 7) ⊎ ((status ≡ 9)
+      ⊎ (SomeFailed before after ⊎ Gives (answer_of ways world words bytes) (sides_of before after) status))
 
-  -- It is so for some files, which are those that are told.
+  -- Where all is told, it is the answer of batches that are run one after another. Else it is that of some ways to run the
+  -- batches of each block, and those that are published, of which each may come of their processors. It is so for some files,
+  -- which are those that are told.
   pub record IsAnswered : Type 0 where
     pub files : Files
     pub held : IfSome before.shelf.tells (λ told. files ≡ told)
-    pub gives : WhereRead (asked_of words) before.input.tells (Answers (given files))
+    pub gives : WhereRead (asked_of words) before.input.tells (λ bytes. let world = given files in
+        IsToldFor world (asked_of words) bytes → Answers world (serially world.processors) bytes)
+    pub ways : Ways
+    pub may : AreWays (given files).processors ways
+    pub comes : WhereRead (asked_of words) before.input.tells (Answers (given files) ways)
 
   -- How it ended: what it came to, what was done up to there, and what the notes tell then.
   pub record HasEnded : Type 0 where

@@ -29,4 +29,5 @@ pub mod BuiltInLaws
 pub mod TellingLaws
 pub mod CandidateLaws
 pub mod GeneratedLaws
+pub mod BranchLaws
 pub mod Processing

@@ -27,7 +27,7 @@ parent_at blocks = option_map as_parent (head_of blocks)
 -- the draft of the batches behind the head
 abbrev pub draft_at : Rules → List Kept → List Batch → Draft
 draft_at rules accepted batches =
-    draft_of rules.accepts rules.runs (map_behind rules accepted (head_of (records_of accepted))) (ids_in (head_branch (records_of accepted))) batches
+    draft_of rules.accepts rules.runs (map_behind accepted (head_of (records_of accepted))) (ids_in (head_branch (records_of accepted))) batches
 
 -- whether no batch is applied
 abbrev pub is_nothing : Draft → Bool

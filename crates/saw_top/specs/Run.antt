@@ -1,5 +1,5 @@
 -- What a run answers to a stream.
-use Rattle.std.specs.Prelude.{ℕ, Bool, List, [], ◌++◌, length, Option, Some, None, if◌then◌else◌}
+use Rattle.std.specs.Prelude.{ℕ, Bool, List, [], ◌++◌, length, take, Option, Some, None, if◌then◌else◌}
 use Rattle.saw_address.specs.Maps.{StateMap}
 use Rattle.saw_receipts.specs.Heads.{head_of}
 use Rattle.saw_journal.specs.Judgement.{Rules}
@@ -12,6 +12,7 @@ use Rattle.saw_top.specs.Listing.{batch_status, batch_text, listing, listing_sta
 use Rattle.saw_top.specs.Publishing.{Waiting, candidate_status, candidate_text, draft_at, losses_text, map_left, parent_at}
 use Rattle.saw_top.specs.Reports.{report}
 use Rattle.saw_top.specs.Stream.{stream_of}
+use Rattle.saw_top.specs.World.{Judging}
 use Rattle.saw_top.specs.declared.task.Ending.{Ending}
 use Rattle.saw_top.specs.declared.task.Ending.TheVariants.{Batch, Candidate, Head, Entries, Receipts}
 use Rattle.saw_top.specs.declared.task.Lines.{Lines}
@@ -20,7 +21,7 @@ use Rattle.saw_top.specs.declared.task.Task.{Task}
 
 -- What a run writes, what it tells on the notes, the fault whose line follows there, and its status. Besides, the maps
 -- that all its blocks would leave, and the one that a candidate would; of how many blocks it tells a verdict, and of the
--- first frames what of output and notes their lines are alone, and the maps that the accepted ones of them leave.
+-- first so many frames what of output and notes their lines are alone, and the maps that the accepted ones of them leave.
 pub record Answer : Type 0 where
   pub output : List ℕ
   pub noted : List ℕ
@@ -29,9 +30,9 @@ pub record Answer : Type 0 where
   pub tried : List (Option StateMap)
   pub made : Option StateMap
   pub judged : ℕ
-  pub output_for : List (List ℕ) → List ℕ
-  pub noted_for : List (List ℕ) → List ℕ
-  pub maps_for : List (List ℕ) → List StateMap
+  pub output_for : ℕ → List ℕ
+  pub noted_for : ℕ → List ℕ
+  pub maps_for : ℕ → List StateMap
 
 -- nothing but a fault
 abbrev pub faulty : RunFault → Answer
@@ -43,9 +44,9 @@ faulty fault = record {
   tried = [];
   made = None;
   judged = 0;
-  output_for = λ frames. [];
-  noted_for = λ frames. [];
-  maps_for = λ frames. [];
+  output_for = λ count. [];
+  noted_for = λ count. [];
+  maps_for = λ count. [];
 }
 
 -- nothing but what is written, and status 0
@@ -58,9 +59,9 @@ whole text = record {
   tried = [];
   made = None;
   judged = 0;
-  output_for = λ frames. [];
-  noted_for = λ frames. [];
-  maps_for = λ frames. [];
+  output_for = λ count. [];
+  noted_for = λ count. [];
+  maps_for = λ count. [];
 }
 
 abbrev pub line_by : Option RunFault → List ℕ
@@ -102,14 +103,14 @@ status_by refused = if refused then 1 else 0
 abbrev pub nothing_more : RunFault → AtEnd
 nothing_more fault = record { output = []; noted = []; status = status_of fault; made = None }
 
-module _ (rules : Rules) where
-  -- the map behind the head
-  abbrev pub head_map : History → StateMap
-  head_map run = map_behind rules run.accepted (head_of (records_of run.accepted))
+-- the map behind the head
+abbrev pub head_map : History → StateMap
+head_map run = map_behind run.accepted (head_of (records_of run.accepted))
 
+module _ (judging : Judging) where
   -- what frames come to
   abbrev pub history_of : List (List ℕ) → History
-  history_of frames = history rules frames []
+  history_of frames = history judging 0 frames []
 
   -- what a stream comes to
   abbrev pub run_of : List ℕ → History
@@ -118,58 +119,65 @@ module _ (rules : Rules) where
   abbrev pub fault_of : List ℕ → Option RunFault
   fault_of bytes = fault_in (run_of bytes) (stream_of bytes).fault
 
-  -- ---- both
+  -- what the first so many of its frames come to
+  abbrev pub run_to : List ℕ → ℕ → History
+  run_to bytes count = history_of (take count (stream_of bytes).frames)
 
-  module _ (waiting : Waiting) where
-    -- the head's line, the entries of its state, the receipts of its branch, where a batch is, or a candidate behind it
-    abbrev pub ending_of : Ending → History → AtEnd
-    ending_of Head run = record {
-      output = head_line (head_of (records_of run.accepted));
-      noted = [];
-      status = status_by (some_refused run.said);
-      made = None;
-    }
-    ending_of (Entries prefix) run = record {
-      output = listing prefix (head_map run);
-      noted = [];
-      status = listing_status prefix (head_map run);
-      made = None;
-    }
-    ending_of Receipts run = record {
-      output = receipts_text (records_of run.accepted);
-      noted = [];
-      status = receipts_status (records_of run.accepted);
-      made = None;
-    }
-    ending_of (Batch id) run = record {
-      output = batch_text id (records_of run.accepted);
-      noted = [];
-      status = batch_status id (records_of run.accepted);
-      made = None;
-    }
-    ending_of Candidate run = let draft = draft_at rules run.accepted waiting.batches in record {
-      output = candidate_text rules.hash waiting.signing (parent_at (records_of run.accepted)) draft;
-      noted = losses_text draft;
-      status = candidate_status (some_refused run.said) draft;
-      made = map_left draft;
-    }
+-- ---- both
 
-    -- unless there is a fault
-    abbrev pub end_by : Ending → History → Option RunFault → AtEnd
-    end_by ending run None = ending_of ending run
-    end_by ending run (Some fault) = nothing_more fault
+module _ (rules : Rules) (waiting : Waiting) where
+  -- the head's line, the entries of its state, the receipts of its branch, where a batch is, or a candidate behind it
+  abbrev pub ending_of : Ending → History → AtEnd
+  ending_of Head run = record {
+    output = head_line (head_of (records_of run.accepted));
+    noted = [];
+    status = status_by (some_refused run.said);
+    made = None;
+  }
+  ending_of (Entries prefix) run = record {
+    output = listing prefix (head_map run);
+    noted = [];
+    status = listing_status prefix (head_map run);
+    made = None;
+  }
+  ending_of Receipts run = record {
+    output = receipts_text (records_of run.accepted);
+    noted = [];
+    status = receipts_status (records_of run.accepted);
+    made = None;
+  }
+  ending_of (Batch id) run = record {
+    output = batch_text id (records_of run.accepted);
+    noted = [];
+    status = batch_status id (records_of run.accepted);
+    made = None;
+  }
+  ending_of Candidate run = let draft = draft_at rules run.accepted waiting.batches in record {
+    output = candidate_text rules.hash waiting.signing (parent_at (records_of run.accepted)) draft;
+    noted = losses_text draft;
+    status = candidate_status (some_refused run.said) draft;
+    made = map_left draft;
+  }
 
-    -- the answer to a stream, by what is done with it
-    abbrev pub task_answer : Task → List ℕ → Answer
-    task_answer task bytes = let end = end_by task.ending (run_of bytes) (fault_of bytes) in record {
-      output = written_by task.lines (run_of bytes) ++ end.output;
-      noted = noted_by task.lines (run_of bytes) ++ end.noted;
-      fault = fault_of bytes;
+  -- unless there is a fault
+  abbrev pub end_by : Ending → History → Option RunFault → AtEnd
+  end_by ending run None = ending_of ending run
+  end_by ending run (Some fault) = nothing_more fault
+
+-- the answer to a stream, by what is done with it; a candidate is made by rules of its own
+abbrev pub task_answer : Judging → Rules → Waiting → Task → List ℕ → Answer
+task_answer judging rules waiting task bytes =
+    let run = run_of judging bytes in
+    let fault = fault_of judging bytes in
+    let end = end_by rules waiting task.ending run fault in record {
+      output = written_by task.lines run ++ end.output;
+      noted = noted_by task.lines run ++ end.noted;
+      fault = fault;
       status = end.status;
-      tried = tried rules (stream_of bytes).frames [];
+      tried = tried judging 0 (stream_of bytes).frames [];
       made = end.made;
-      judged = length (run_of bytes).said;
-      output_for = λ frames. written_by task.lines (history_of frames);
-      noted_for = λ frames. noted_by task.lines (history_of frames);
-      maps_for = λ frames. maps_of (history_of frames).accepted;
+      judged = length run.said;
+      output_for = λ count. written_by task.lines (run_to judging bytes count);
+      noted_for = λ count. noted_by task.lines (run_to judging bytes count);
+      maps_for = λ count. maps_of (run_to judging bytes count).accepted;
     }

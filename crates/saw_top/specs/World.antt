@@ -1,4 +1,4 @@
--- What a run is given besides its words and its stream.
+-- What a run is given besides its words and its stream, and how batches are run.
 use Rattle.std.specs.Prelude.{◌≡◌, ℕ, Bool, true, List}
 use Rattle.saw_context.specs.Outcome.{Processors}
 use Rattle.saw_context.specs.Serial.{serial}
@@ -6,6 +6,7 @@ use Rattle.saw_io.specs.Shelf.{Files}
 use Rattle.saw_journal.specs.Judgement.{Rules, rules_with}
 use Rattle.saw_node.specs.Hashes.{first_half}
 use Rattle.saw_publish.specs.Candidates.{Signing}
+use Rattle.saw_receipts.specs.Running.{Runs, RunsBy}
 
 -- who vouches for signatures
 abbrev pub Accepts : Type 0
@@ -23,9 +24,35 @@ abbrev pub world_with : Accepts → Signing → Processors → Files → World
 world_with accepts signing processors files =
     record { accepts = accepts; signing = signing; processors = processors; files = files }
 
--- by what blocks are judged: batches run one after another
-abbrev pub rules_by : Accepts → Processors → Rules
-rules_by accepts processors = rules_with first_half accepts (λ m batches. serial processors m batches)
+-- How batches are run: those of the block at each place of a stream, and those of a candidate behind it. Where a processor
+-- elsewhere does not tell its actions, each time they are run is a way of its own.
+pub record Ways : Type 0 where
+  pub blocks : ℕ → Runs
+  pub candidate : Runs
+
+-- what each gives is what may come of batches, run one after another
+pub record AreWays (processors : Processors) (ways : Ways) : Type 0 where
+  pub blocks : (place : ℕ) → RunsBy processors (ways.blocks place)
+  pub candidate : RunsBy processors ways.candidate
+
+-- one after another, by the actions that the processors tell
+abbrev pub serially : Processors → Ways
+serially processors = record {
+  blocks = λ place m batches. serial processors m batches;
+  candidate = λ m batches. serial processors m batches;
+}
+
+-- by what the blocks of a stream are judged: who vouches for signatures, and how the batches of each are run
+pub record Judging : Type 0 where
+  pub accepts : Accepts
+  pub ways : ℕ → Runs
+
+abbrev pub judging_by : Accepts → Ways → Judging
+judging_by accepts ways = record { accepts = accepts; ways = ways.blocks }
+
+-- the rules for the block at a place
+abbrev pub rules_at : Judging → ℕ → Rules
+rules_at judging place = rules_with first_half judging.accepts (judging.ways place)
 
 -- processors of which each tells its actions
 abbrev pub TellsAll : Processors → Type 0

@@ -4,14 +4,15 @@ ghost use Rattle.std.specs.Prelude.{◌≡◌, ◌≤◌, ◌<◌, ◌^◌, ◌-
 ghost use Rattle.std.specs.Io.KnownBytes.{Appends};
 ghost use Rattle.saw_crew.specs.Desks.{Failed, HaveSameOffers, KeepsDesks, offers_at};
 ghost use Rattle.saw_faults.specs.Counts.{Rose};
+ghost use Rattle.saw_journal.specs.Judgement.{rules_with};
 ghost use Rattle.saw_journal.specs.Ledger.{IsFull, Says};
 ghost use Rattle.saw_merkle.specs.States.{Stays};
+ghost use Rattle.saw_node.specs.Hashes.{first_half};
+ghost use Rattle.saw_receipts.specs.Running.{Runs, RunsBy};
 ghost use Rattle.saw_receipts.specs.Verdicts.{is_accepted};
 ghost use Rattle.saw_station.specs.Serving.{processors_at};
 ghost use Rattle.saw_top.specs.Clashing.{ClashesBy, LeavesUnjudged};
 ghost use Rattle.saw_top.specs.Reports.{line_of, said_of};
-ghost use Rattle.saw_top.specs.Telling.{tell_block};
-ghost use Rattle.saw_top.specs.World.{rules_by};
 
 use crate::task::Lines;
 use saw_io::{Sink, write_all};
@@ -36,15 +37,14 @@ pub(crate) fn judge<T: Threads + Wait + Sync, R: Station, V: Verifier>(
     requires small { length content.now < 2 ^ 32 }
     requires some { 0 < length desks.old }
     requires alike { HaveSameOffers desks.old }
-    ensures says { let processors = processors_at R.next R.tells (offers_at desks.old) in
-        tell_block processors content.now ≡ true → IfOk result (λ verdict.
-        Says (rules_by (V.accepts verifier.now) processors) journal.old content.now verdict journal.new) }
-    ensures full { let processors = processors_at R.next R.tells (offers_at desks.old) in
-        tell_block processors content.now ≡ true → IsErrOf result RunFault.Blocks
-        → IsFull (rules_by (V.accepts verifier.now) processors) journal.old content.now }
-    ensures clash { let processors = processors_at R.next R.tells (offers_at desks.old) in
-        tell_block processors content.now ≡ true → IfErr result
-        (ClashesBy (rules_by (V.accepts verifier.now) processors) journal.old content.now) }
+    ensures says { IfOk result (λ verdict. (runs : Runs)
+        × RunsBy (processors_at R.next R.tells (offers_at desks.old)) runs
+        × Says (rules_with first_half (V.accepts verifier.now) runs) journal.old content.now verdict journal.new) }
+    ensures full { IsErrOf result RunFault.Blocks → (runs : Runs)
+        × RunsBy (processors_at R.next R.tells (offers_at desks.old)) runs
+        × IsFull (rules_with first_half (V.accepts verifier.now) runs) journal.old content.now }
+    ensures clash { IfErr result (ClashesBy (processors_at R.next R.tells (offers_at desks.old))
+        (V.accepts verifier.now) journal.old content.now) }
     ensures blocks { IfOk result (λ verdict.
         is_accepted verdict ≡ true → 0 < length journal.new.blocks) }
     ensures stays { OnOk result (Stays journal.old.states journal.new.states) }

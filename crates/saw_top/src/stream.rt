@@ -11,11 +11,9 @@ ghost use Rattle.saw_node.specs.Hashes.{first_half};
 ghost use Rattle.saw_station.specs.Serving.{processors_at};
 ghost use Rattle.saw_top.specs.Clashing.{TellsAlike};
 ghost use Rattle.saw_top.specs.EndingFaults.{IsOfStream};
-ghost use Rattle.saw_top.specs.StreamJudging.{Judges};
+ghost use Rattle.saw_top.specs.StreamJudging.{JudgesSomehow};
 ghost use Rattle.saw_top.specs.Limits.{max_blocks};
 ghost use Rattle.saw_top.specs.Outside.{SomeRose, counts_of};
-ghost use Rattle.saw_top.specs.Telling.{tell_stream};
-ghost use Rattle.saw_top.specs.World.{rules_by};
 
 use crate::judging::{judge, tell_block};
 use crate::task::Lines;
@@ -74,11 +72,8 @@ pub(crate) fn judge_stream<T: Threads + Wait + Sync, S: Source, O: Sink, V: Veri
     requires limit { journal.old.limit ≡ max_blocks }
     requires some { 0 < length desks.old }
     requires alike { HaveSameOffers desks.old }
-    ensures judges { let processors = processors_at R.next R.tells (offers_at desks.old) in
-        let rules = rules_by (V.accepts verifier.now) processors in
-        IfSome (S.unread input.old) (λ bytes. tell_stream processors bytes ≡ true →
-        Judges rules lines bytes (S.unread input.new) (O.written output.old) (O.written output.new)
-        journal.new result) }
+    ensures judges { JudgesSomehow (processors_at R.next R.tells (offers_at desks.old)) (V.accepts verifier.now) lines
+        (S.unread input.old) (S.unread input.new) (O.written output.old) (O.written output.new) journal.new result }
     ensures wrote { (written : List ℕ) × Appends (O.written output.old) (O.written output.new) written }
     ensures kind { IfErr result IsOfStream }
     ensures nodes { IfErr result TellsAlike }

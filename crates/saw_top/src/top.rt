@@ -224,9 +224,11 @@ pub fn run<
 ) -> Status
     requires unbegun { All (λ remote. R.begun remote ≡ false) remotes.old.items }
     // Unless memory was refused (7), two different nodes of one hash were met (9) or a call failed, output,
-    // notes and status are the answer, where input and output tell their bytes, verifier and signer are functions, as
-    // their traits say, and each transaction goes to a processor that tells its actions. It rests on nothing more. Files
-    // that are not told are some files. A new stream is the answer whatever the input tells.
+    // notes and status are the answer, where input and output tell their bytes and verifier and signer are functions, as
+    // their traits say. It is the answer of batches that are run one after another where each transaction goes to a
+    // processor that tells its actions, and else that of some ways to run them, of which each may come of their
+    // processors. It rests on nothing more. Files that are not told are some files. A new stream is the answer whatever
+    // the input tells.
     ensures answered { let signing : Signing = record { key = G.key_text signer.now; signature = G.signature signer.now } in
         let world = outside S.Source O.Sink N.Sink F.Shelf R.faults in
         let processors = processors_at R.next R.tells (common (map R.offered remotes.new.items)) in

@@ -6,52 +6,54 @@ use Rattle.saw_crew.proofs.Leaving.{failed_since, keep_all, keeps_all_trans, kep
 use Rattle.saw_crew.specs.Desks.{offers_at}
 use Rattle.saw_io.specs.declared.fault.FrameFault.{FrameFault}
 use Rattle.saw_io.specs.declared.fault.FrameFault.TheVariants as frames
-use Rattle.saw_journal.proofs.OneByOne.{serial_one_by_one}
 use Rattle.saw_node.specs.Hashes.{first_half}
 use Rattle.saw_report.specs.RunFaults.{fault_of_frame}
 use Rattle.saw_report.specs.declared.run_fault.RunFault.{RunFault}
 use Rattle.saw_report.specs.declared.run_fault.RunFault.TheVariants.{Blocks, Collision, Memory, Peer, Read}
+use Rattle.saw_receipts.proofs.Ways.{is_by_serial}
+use Rattle.saw_station.proofs.Finished.{processors_own}
 use Rattle.saw_station.specs.Serving.{processors_at}
 use Rattle.saw_top.specs.Clashing.{LeavesUnjudged, TellsAlike}
 use Rattle.saw_top.specs.EndingFaults.{IsOfStream}
-use Rattle.saw_top.specs.Telling.{tell_block, tell_stream}
-use Rattle.saw_top.specs.World.{rules_by}
+use Rattle.saw_top.specs.World.{serially}
 use Rattle.saw_top.proofs.Branching.{known_first}
 use Rattle.saw_top.proofs.Desks.{failed_rose}
-use Rattle.saw_top.proofs.Standings.{all_there, is_among, line_cut, line_written, no_more, not_judged, probe_fault, read_fault, so_ends, so_more, start, too_many}
+use Rattle.saw_top.proofs.Standings.{all_there, line_cut, line_written, no_more, not_judged, probe_fault, read_fault, so_ends, so_ends_by, so_more, start, too_many}
 use Rattle.saw_top.proofs.stream.judge_stream.Goals as goal
 
 pub loop-place-init : goal.loop-place-init
-loop-place-init g c = record {
-  so_far = start (rules_by (g.V.Verifier.accepts c.args.verifier.now)
-      (processors_at g.R.Station.next g.R.Station.tells (offers_at c.args.desks.now))) c.args.lines
-      (λ bytes. tell_stream (processors_at g.R.Station.next g.R.Station.tells (offers_at c.args.desks.now)) bytes ≡ true)
-      (g.S.Source.unread c.args.input.now)
-      (g.O.Sink.written c.args.output.now) c.args.journal.now
-      (record {
-        blocks = c.requires.fresh;
-        limit = c.requires.limit;
-        kept = tt;
-        known = λ root m is. inl (known_first first_half c.args.journal.now.states c.requires.states root m is);
-      });
-  wrote = ([], Appends-nil (g.O.Sink.written c.args.output.now));
-  desks = keep_all g.R.Station.faults g.R.Station.offered c.args.desks.now;
-  input_later = omega arith;
-  output_later = omega arith;
-}
+loop-place-init g c =
+    let laws = g.met.R.Station g.world.𝓛 g.world.𝓜 g.world.𝓡 ((λ s x. x), (λ x. x), (λ x. x), λ x. x) in
+    let processors = processors_at g.R.Station.next g.R.Station.tells (offers_at c.args.desks.now) in
+    record {
+      so_far = start processors (g.V.Verifier.accepts c.args.verifier.now) c.args.lines (serially processors).blocks
+          (λ place. is_by_serial processors (processors_own g.R.Station.next laws.own_reasons g.R.Station.tells (offers_at c.args.desks.now)))
+          (g.S.Source.unread c.args.input.now)
+          (g.O.Sink.written c.args.output.now) c.args.journal.now
+          (record {
+            blocks = c.requires.fresh;
+            limit = c.requires.limit;
+            kept = tt;
+            known = λ root m is. inl (known_first first_half c.args.journal.now.states c.requires.states root m is);
+          });
+      wrote = ([], Appends-nil (g.O.Sink.written c.args.output.now));
+      desks = keep_all g.R.Station.faults g.R.Station.offered c.args.desks.now;
+      input_later = omega arith;
+      output_later = omega arith;
+    }
 
 pub returns-in_err-read_frame-clause-judges : goal.returns-in_err-read_frame-clause-judges
 returns-in_err-read_frame-clause-judges g c =
     let failed = c.from_residual in
     let p = err_from_is_err_and failed.result failed.ensures.1 in
     let e = c.in_err-read_frame.ensures in
-    rw (p.1, p.2) (so_ends _ _ c.loop-place.invariant.so_far _ _ _ _
-    (λ bytes told at. read_fault _ c.args.lines at _ _ c.loop-place-test.true e.told e.err.0 e.err.1 e.err.2))
+    rw (p.1, p.2) (so_ends _ _ c.args.lines c.loop-place.invariant.so_far _ _ _ _
+    (λ ways bytes at. read_fault _ c.args.lines at _ _ c.loop-place-test.true e.told e.err.0 e.err.1 e.err.2))
 
 pub returns-in-None-clause-judges : goal.returns-in-None-clause-judges
 returns-in-None-clause-judges g c =
     let none = rw c.in-None.is at c.in_ok-read_frame.ensures.told in
-    so_ends _ _ c.loop-place.invariant.so_far _ _ _ _ (λ bytes told at. no_more _ c.args.lines at _ c.loop-place-test.true none)
+    so_ends _ _ c.args.lines c.loop-place.invariant.so_far _ _ _ _ (λ ways bytes at. no_more _ c.args.lines at _ c.loop-place-test.true none)
 
 pub returns-in_err-verdict-in-Some-clause-judges : goal.returns-in_err-verdict-in-Some-clause-judges
 returns-in_err-verdict-in-Some-clause-judges g c =
@@ -62,13 +64,8 @@ returns-in_err-verdict-in-Some-clause-judges g c =
     let same = kept_offers _ _ c.args.desks.now c.loop-place.desks c.loop-place.invariant.desks in
     let full = rw (same, c.deref.ensures.value) at e.full in
     let clash = rw (same, c.deref.ensures.value) at e.clash in
-    rw (p.1, p.2) (so_ends _ _ c.loop-place.invariant.so_far _ _ _ _ (λ bytes told at.
-    not_judged _ c.args.lines at _ c.in-Some.content c.loop-place-test.true some
-    (serial_one_by_one (processors_at g.R.Station.next g.R.Station.tells (offers_at c.args.desks.now))) _ c.judge.new.journal e.fault
-    (λ is. full (is_among _ c.args.lines at _ c.in-Some.content c.loop-place-test.true some
-    (tell_block (processors_at g.R.Station.next g.R.Station.tells (offers_at c.args.desks.now))) told) (ap Err is))
-    (clash (is_among _ c.args.lines at _ c.in-Some.content c.loop-place-test.true some
-    (tell_block (processors_at g.R.Station.next g.R.Station.tells (offers_at c.args.desks.now))) told))))
+    rw (p.1, p.2) (not_judged _ _ c.args.lines c.loop-place.invariant.so_far _ c.in-Some.content c.loop-place-test.true some c.judge.new.journal _
+    e.fault (λ is. full (ap Err is)) clash)
 
 pub returns-in_err-tell_block-in-Some-clause-judges : goal.returns-in_err-tell_block-in-Some-clause-judges
 returns-in_err-tell_block-in-Some-clause-judges g c =
@@ -78,11 +75,9 @@ returns-in_err-tell_block-in-Some-clause-judges g c =
     let same = kept_offers _ _ c.args.desks.now c.loop-place.desks c.loop-place.invariant.desks in
     let says = rw (same, c.deref.ensures.value) at c.in_ok-verdict-in-Some.ensures.says in
     let e = c.in_err-tell_block-in-Some.ensures in
-    rw (p.1, p.2) (so_ends _ _ c.loop-place.invariant.so_far _ _ _ _ (λ bytes told at.
-    line_cut _ c.args.lines at _ c.in-Some.content c.loop-place-test.true some
-    (serial_one_by_one (processors_at g.R.Station.next g.R.Station.tells (offers_at c.args.desks.now))) c.in_ok-verdict-in-Some.verdict
-    c.judge.new.journal (says (is_among _ c.args.lines at _ c.in-Some.content c.loop-place-test.true some
-    (tell_block (processors_at g.R.Station.next g.R.Station.tells (offers_at c.args.desks.now))) told)) c.in_ok-verdict-in-Some.ensures.stays _ _ e.err.0 e.fault e.err.1))
+    rw (p.1, p.2) (so_ends_by _ _ c.args.lines c.loop-place.invariant.so_far _ _ says.0 says.1 _ _ (λ ways bytes at run_so.
+    line_cut _ c.args.lines at _ c.in-Some.content c.loop-place-test.true some says.0 run_so c.in_ok-verdict-in-Some.verdict
+    c.judge.new.journal says.2 c.in_ok-verdict-in-Some.ensures.stays _ _ e.err.0 e.fault e.err.1))
 
 pub loop-place-preserved : goal.loop-place-preserved
 loop-place-preserved g c =
@@ -90,11 +85,9 @@ loop-place-preserved g c =
     let same = kept_offers _ _ c.args.desks.now c.loop-place.desks c.loop-place.invariant.desks in
     let says = rw (same, c.deref.ensures.value) at c.in_ok-verdict-in-Some.ensures.says in
     record {
-      so_far = so_more _ _ c.loop-place.invariant.so_far _ _ _ _ (λ bytes told at.
-          line_written _ c.args.lines at _ c.in-Some.content c.loop-place-test.true some
-          (serial_one_by_one (processors_at g.R.Station.next g.R.Station.tells (offers_at c.args.desks.now))) c.in_ok-verdict-in-Some.verdict
-          c.judge.new.journal (says (is_among _ c.args.lines at _ c.in-Some.content c.loop-place-test.true some
-          (tell_block (processors_at g.R.Station.next g.R.Station.tells (offers_at c.args.desks.now))) told)) c.in_ok-verdict-in-Some.ensures.stays _ _
+      so_far = so_more _ _ c.args.lines c.loop-place.invariant.so_far _ _ says.0 says.1 _ _ (λ ways bytes at run_so.
+          line_written _ c.args.lines at _ c.in-Some.content c.loop-place-test.true some says.0 run_so c.in_ok-verdict-in-Some.verdict
+          c.judge.new.journal says.2 c.in_ok-verdict-in-Some.ensures.stays _ _
           c.in_ok-tell_block-in-Some.ensures.ok (ap (λ b. c.loop-place.refused || not b) c.is_accepted.ensures));
       wrote = (
         c.loop-place.invariant.wrote.0 ++ _,
@@ -112,22 +105,22 @@ returns-in_err-has_ended-clause-judges g c =
     let p = err_from_is_err_and failed.result failed.ensures.1 in
     let e = c.in_err-has_ended.ensures in
     let is : c.in_err-has_ended.field-0.0 ≡ Read = cc e.only in
-    rw (p.1, p.2, is) (so_ends _ _ c.loop-place.invariant.so_far _ _ _ _
-    (λ bytes told at. probe_fault _ c.args.lines at _ (omega arith) (omega arith) e.err.0 e.err.1 e.err.2))
+    rw (p.1, p.2, is) (so_ends _ _ c.args.lines c.loop-place.invariant.so_far _ _ _ _
+    (λ ways bytes at. probe_fault _ c.args.lines at _ (omega arith) (omega arith) e.err.0 e.err.1 e.err.2))
 
 pub returns-then-branch-clause-judges : goal.returns-then-branch-clause-judges
 returns-then-branch-clause-judges g c =
     let e = c.in_ok-has_ended.ensures in
     let ended = rw c.if-branch.true at e.ended in
-    so_ends _ _ c.loop-place.invariant.so_far _ _ _ _
-    (λ bytes told at. all_there _ c.args.lines at _ (omega arith) (omega arith) ended e.taken.0 e.taken.1 e.taken.2)
+    so_ends _ _ c.args.lines c.loop-place.invariant.so_far _ _ _ _
+    (λ ways bytes at. all_there _ c.args.lines at _ (omega arith) (omega arith) ended e.taken.0 e.taken.1 e.taken.2)
 
 pub returns-clause-judges : goal.returns-clause-judges
 returns-clause-judges g c =
     let e = c.in_ok-has_ended.ensures in
     let some = rw c.if-branch.false at e.ended in
-    so_ends _ _ c.loop-place.invariant.so_far _ _ _ _
-    (λ bytes told at. too_many _ c.args.lines at _ (omega arith) (omega arith) some e.taken.0 e.taken.1 e.taken.2)
+    so_ends _ _ c.args.lines c.loop-place.invariant.so_far _ _ _ _
+    (λ ways bytes at. too_many _ c.args.lines at _ (omega arith) (omega arith) some e.taken.0 e.taken.1 e.taken.2)
 
 pub returns-in_err-tell_block-in-Some-clause-wrote : goal.returns-in_err-tell_block-in-Some-clause-wrote
 returns-in_err-tell_block-in-Some-clause-wrote g c =

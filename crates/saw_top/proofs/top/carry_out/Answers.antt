@@ -1,6 +1,7 @@
 use Rattle.std.proofs.Common.{◌≡◌, true, false, map, refl, sym, ap, ◌∙◌}
 use Rattle.std.proofs.lemmas.Result.{err_from_is_err_and}
 use Rattle.saw_station.specs.CommonOffers.{common}
+use Rattle.saw_station.proofs.Finished.{processors_own}
 use Rattle.saw_station.specs.Serving.{processors_at}
 use Rattle.saw_top.specs.Headline.{asks_elsewhere}
 use Rattle.saw_top.specs.Outside.{outside}
@@ -10,11 +11,13 @@ use Rattle.saw_top.proofs.top.carry_out.Goals as goal
 
 pub returns-in_err-command : goal.returns-in_err-command
 returns-in_err-command g c =
+    let laws = g.met.R.Station g.world.𝓛 g.world.𝓜 g.world.𝓡 ((λ s x. x), (λ x. x), (λ x. x), λ x. x) in
     let signing = signs (g.G.Signer.key_text c.args.signer.now) (g.G.Signer.signature c.args.signer.now) in
     let p = err_from_is_err_and c.from_residual.result c.from_residual.ensures.1 in
     record {
       carries = rw (p.1, p.2)
-          (unread (g.V.Verifier.accepts c.args.verifier.now) signing (processors_at g.R.Station.next g.R.Station.tells (common (map g.R.Station.offered c.args.remotes.now.items))) _
+          (unread (g.V.Verifier.accepts c.args.verifier.now) signing (processors_at g.R.Station.next g.R.Station.tells (common (map g.R.Station.offered c.args.remotes.now.items)))
+          (processors_own g.R.Station.next laws.own_reasons g.R.Station.tells (common (map g.R.Station.offered c.args.remotes.now.items))) _
           (outside g.S.Source g.O.Sink g.N.Sink g.F.Shelf g.R.Station.faults c.args.input.now c.args.output.now c.args.notes.now c.args.shelf.now
           c.args.remotes.now.items)
           c.in_err-command.ensures.memory);
@@ -23,10 +26,12 @@ returns-in_err-command g c =
 
 pub returns-in-None : goal.returns-in-None
 returns-in-None g c =
+    let laws = g.met.R.Station g.world.𝓛 g.world.𝓜 g.world.𝓡 ((λ s x. x), (λ x. x), (λ x. x), λ x. x) in
     let signing = signs (g.G.Signer.key_text c.args.signer.now) (g.G.Signer.signature c.args.signer.now) in
     let none = rw c.in-None.is at c.in_ok-command.ensures.ok in
     record {
-      carries = unasked (g.V.Verifier.accepts c.args.verifier.now) signing (processors_at g.R.Station.next g.R.Station.tells (common (map g.R.Station.offered c.args.remotes.now.items))) _
+      carries = unasked (g.V.Verifier.accepts c.args.verifier.now) signing (processors_at g.R.Station.next g.R.Station.tells (common (map g.R.Station.offered c.args.remotes.now.items)))
+          (processors_own g.R.Station.next laws.own_reasons g.R.Station.tells (common (map g.R.Station.offered c.args.remotes.now.items))) _
           (outside g.S.Source g.O.Sink g.N.Sink g.F.Shelf g.R.Station.faults c.args.input.now c.args.output.now c.args.notes.now c.args.shelf.now
           c.args.remotes.now.items) (sym none);
       unasked = λ is. refl;

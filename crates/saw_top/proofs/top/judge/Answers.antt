@@ -2,6 +2,7 @@ use Rattle.std.proofs.Common.{List, Err, drop, inr, length, map, refl, subst, ap
 use Rattle.std.proofs.lemmas.Result.{err_from_is_err_and}
 use Rattle.saw_report.specs.declared.run_fault.RunFault.TheVariants as runs
 use Rattle.saw_station.specs.CommonOffers.{common}
+use Rattle.saw_station.proofs.Finished.{processors_own}
 use Rattle.saw_station.specs.Serving.{processors_at}
 use Rattle.saw_top.specs.Outside.{AreLater, SomeRose, outside}
 use Rattle.saw_top.specs.Wishes.{wish_in}
@@ -13,6 +14,7 @@ use Rattle.saw_top.proofs.top.judge.Goals as goal
 
 pub returns-in_err-begin_each : goal.returns-in_err-begin_each
 returns-in_err-begin_each g c =
+    let laws = g.met.R.Station g.world.𝓛 g.world.𝓜 g.world.𝓡 ((λ s x. x), (λ x. x), (λ x. x), λ x. x) in
     let faults = g.R.Station.faults in
     let offered = g.R.Station.offered in
     let signing = signs (g.G.Signer.key_text c.args.signer.now) (g.G.Signer.signature c.args.signer.now) in
@@ -28,7 +30,8 @@ returns-in_err-begin_each g c =
           (unbegun (world_with (g.V.Verifier.accepts c.args.verifier.now) signing
           (processors_at g.R.Station.next g.R.Station.tells (common (map offered mids)))) (wish_in c.args.job)
           (outside g.S.Source g.O.Sink g.N.Sink g.F.Shelf faults c.args.input.now c.args.output.now c.args.notes.now c.args.shelf.now
-          c.args.remotes.now.items) (map faults mids) later c.in_err-begin_each.field-0.0 failed.fault
+          c.args.remotes.now.items) (map faults mids) later
+          (λ files. processors_own g.R.Station.next laws.own_reasons g.R.Station.tells (common (map offered mids))) c.in_err-begin_each.field-0.0 failed.fault
           (λ is. let at = failed.cause (ap Err is) in
           subst (λ (l : List _). SomeRose (map faults l) (map faults mids)) c.deref_mut.ensures.value
           (rose_at faults c.deref_mut.result.now mids at.0 e.count at.1 at.2)));
@@ -36,6 +39,7 @@ returns-in_err-begin_each g c =
 
 pub returns-in_err-offers : goal.returns-in_err-offers
 returns-in_err-offers g c =
+    let laws = g.met.R.Station g.world.𝓛 g.world.𝓜 g.world.𝓡 ((λ s x. x), (λ x. x), (λ x. x), λ x. x) in
     let faults = g.R.Station.faults in
     let offered = g.R.Station.offered in
     let signing = signs (g.G.Signer.key_text c.args.signer.now) (g.G.Signer.signature c.args.signer.now) in
@@ -50,7 +54,8 @@ returns-in_err-offers g c =
           (unbegun (world_with (g.V.Verifier.accepts c.args.verifier.now) signing
           (processors_at g.R.Station.next g.R.Station.tells (common (map offered mids)))) (wish_in c.args.job)
           (outside g.S.Source g.O.Sink g.N.Sink g.F.Shelf faults c.args.input.now c.args.output.now c.args.notes.now c.args.shelf.now
-          c.args.remotes.now.items) (map faults mids) later runs.Memory (inr refl) (λ is. absurd cc));
+          c.args.remotes.now.items) (map faults mids) later
+          (λ files. processors_own g.R.Station.next laws.own_reasons g.R.Station.tells (common (map offered mids))) runs.Memory (inr refl) (λ is. absurd cc));
     }
 
 pub returns : goal.returns

@@ -4,6 +4,7 @@ use Rattle.std.specs.Prelude.{option_map}
 use Rattle.saw_crew.specs.Desks.{offers_at}
 use Rattle.saw_station.specs.CommonOffers.{common}
 use Rattle.saw_station.specs.DeskPlaces.{Place}
+use Rattle.saw_station.proofs.Finished.{processors_own}
 use Rattle.saw_station.specs.Serving.{processors_at}
 use Rattle.saw_station.specs.declared.offer.Offer.{Offer}
 use Rattle.saw_top.specs.Headline.{CarriesOut}
@@ -17,13 +18,15 @@ use Rattle.saw_top.proofs.top.judge_begun.Goals as goal
 
 pub returns-in_err-ready : goal.returns-in_err-ready
 returns-in_err-ready g c =
+    let laws = g.met.R.Station g.world.𝓛 g.world.𝓜 g.world.𝓡 ((λ s x. x), (λ x. x), (λ x. x), λ x. x) in
     let signing = signs (g.G.Signer.key_text c.args.signer.now) (g.G.Signer.signature c.args.signer.now) in
     let p = err_from_is_err_and c.from_residual.result c.from_residual.ensures.1 in
     let job = c.args.job in
     record {
       carries = rw (p.1, p.2)
           (unprepared (g.V.Verifier.accepts c.args.verifier.now) signing
-          (processors_at g.R.Station.next g.R.Station.tells (common (map g.R.Station.offered c.args.remotes.now.items))) job.workers job.task
+          (processors_at g.R.Station.next g.R.Station.tells (common (map g.R.Station.offered c.args.remotes.now.items)))
+          (processors_own g.R.Station.next laws.own_reasons g.R.Station.tells (common (map g.R.Station.offered c.args.remotes.now.items))) job.workers job.task
           (option_map (λ name. name.now) job.attest) (option_map (λ name. name.now) job.batches)
           (outside g.S.Source g.O.Sink g.N.Sink g.F.Shelf g.R.Station.faults c.args.input.now c.args.output.now c.args.notes.now c.args.shelf.now
           c.args.remotes.now.items)
@@ -32,6 +35,7 @@ returns-in_err-ready g c =
 
 pub returns-in_err-desks : goal.returns-in_err-desks
 returns-in_err-desks g c =
+    let laws = g.met.R.Station g.world.𝓛 g.world.𝓜 g.world.𝓡 ((λ s x. x), (λ x. x), (λ x. x), λ x. x) in
     let signing = signs (g.G.Signer.key_text c.args.signer.now) (g.G.Signer.signature c.args.signer.now) in
     let p = err_from_is_err_and c.from_residual-in_err-desks.result c.from_residual-in_err-desks.ensures.1 in
     let job = c.args.job in
@@ -39,7 +43,8 @@ returns-in_err-desks g c =
     record {
       carries = rw (p.1, p.2, same)
           (deskless (g.V.Verifier.accepts c.args.verifier.now) signing
-          (processors_at g.R.Station.next g.R.Station.tells (common (map g.R.Station.offered c.args.remotes.now.items))) job.workers job.task
+          (processors_at g.R.Station.next g.R.Station.tells (common (map g.R.Station.offered c.args.remotes.now.items)))
+          (processors_own g.R.Station.next laws.own_reasons g.R.Station.tells (common (map g.R.Station.offered c.args.remotes.now.items))) job.workers job.task
           (option_map (λ name. name.now) job.attest) (option_map (λ name. name.now) job.batches)
           (outside g.S.Source g.O.Sink g.N.Sink g.F.Shelf g.R.Station.faults c.args.input.now c.args.output.now c.args.notes.now c.args.shelf.now
           c.args.remotes.now.items)
@@ -63,6 +68,7 @@ unseat-requires-after_bounds g c =
 
 pub returns : goal.returns
 returns g c =
+    let laws = g.met.R.Station g.world.𝓛 g.world.𝓜 g.world.𝓡 ((λ s x. x), (λ x. x), (λ x. x), λ x. x) in
     let faults = g.R.Station.faults in
     let offered = g.R.Station.offered in
     let signing = signs (g.G.Signer.key_text c.args.signer.now) (g.G.Signer.signature c.args.signer.now) in
@@ -97,7 +103,7 @@ returns g c =
           (outside g.S.Source g.O.Sink g.N.Sink g.F.Shelf faults c.do_task-came.new.input c.do_task-came.new.output c.do_task-came.new.notes
           c.prepare.new.shelf last) c.do_task-came.result) offers
           (with_ready (g.V.Verifier.accepts c.args.verifier.now) signing (processors_at g.R.Station.next g.R.Station.tells (offers_at olds))
-          job.workers job.task (option_map (λ name. name.now) job.attest) (option_map (λ name. name.now) job.batches)
+          (processors_own g.R.Station.next laws.own_reasons g.R.Station.tells (offers_at olds)) job.workers job.task (option_map (λ name. name.now) job.attest) (option_map (λ name. name.now) job.batches)
           (outside g.S.Source g.O.Sink g.N.Sink g.F.Shelf faults c.args.input.now c.args.output.now c.args.notes.now c.args.shelf.now first)
           (shelf_end g.F.Shelf c.prepare.new.shelf) _ (c.in_ok-ready.ensures.prepares signing)
           (outside g.S.Source g.O.Sink g.N.Sink g.F.Shelf faults c.do_task-came.new.input c.do_task-came.new.output c.do_task-came.new.notes

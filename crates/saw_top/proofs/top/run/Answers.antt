@@ -1,4 +1,6 @@
-use Rattle.std.proofs.Common.{Err, Ok, refl}
+use Rattle.std.proofs.Common.{Err, Ok, map, refl}
+use Rattle.saw_station.proofs.Finished.{processors_own}
+use Rattle.saw_station.specs.CommonOffers.{common}
 use Rattle.saw_top.specs.Outside.{sink_end}
 use Rattle.saw_top.proofs.Endings.{answered}
 use Rattle.saw_top.proofs.top.run.Goals as goal
@@ -12,7 +14,11 @@ returns-in-Ok-clause-ended g c = record {
 }
 
 pub returns-in-Ok-clause-answered : goal.returns-in-Ok-clause-answered
-returns-in-Ok-clause-answered g c = answered _ _ _ _ _ (returns-in-Ok-clause-ended g c)
+returns-in-Ok-clause-answered g c =
+    let laws = g.met.R.Station g.world.𝓛 g.world.𝓜 g.world.𝓡 ((λ s x. x), (λ x. x), (λ x. x), λ x. x) in
+    answered _
+    (λ files. processors_own g.R.Station.next laws.own_reasons g.R.Station.tells (common (map g.R.Station.offered c.carry_out.new.remotes.items))) _ _ _ _
+    (returns-in-Ok-clause-ended g c)
 
 pub returns-in-Err-clause-ended : goal.returns-in-Err-clause-ended
 returns-in-Err-clause-ended g c = record {
@@ -23,4 +29,8 @@ returns-in-Err-clause-ended g c = record {
 }
 
 pub returns-in-Err-clause-answered : goal.returns-in-Err-clause-answered
-returns-in-Err-clause-answered g c = answered _ _ _ _ _ (returns-in-Err-clause-ended g c)
+returns-in-Err-clause-answered g c =
+    let laws = g.met.R.Station g.world.𝓛 g.world.𝓜 g.world.𝓡 ((λ s x. x), (λ x. x), (λ x. x), λ x. x) in
+    answered _
+    (λ files. processors_own g.R.Station.next laws.own_reasons g.R.Station.tells (common (map g.R.Station.offered c.carry_out.new.remotes.items))) _ _ _ _
+    (returns-in-Err-clause-ended g c)

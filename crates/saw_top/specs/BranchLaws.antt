@@ -1,0 +1,33 @@
+-- The map behind a block is what the batches of its branch leave.
+use Rattle.std.specs.Prelude.{◌≡◌, ℕ, List, [], None, Some}
+use Rattle.std.specs.List.{AllByRecursion, flat_map}
+use Rattle.saw_address.specs.Maps.{no_entries}
+use Rattle.saw_context.specs.Outcome.{Processors}
+use Rattle.saw_context.specs.Serial.{left_after, serial}
+use Rattle.saw_context.specs.declared.batch_result.BatchResult.{BatchResult}
+use Rattle.saw_journal.specs.Judgement.{Kept}
+use Rattle.saw_messages.specs.TxShapes.{TxShape}
+use Rattle.saw_receipts.specs.Branches.{branch_of}
+use Rattle.saw_schedule.specs.BatchResults.{first_failure}
+use Rattle.saw_top.specs.History.{history, map_behind, record_of}
+use Rattle.saw_top.specs.World.{Accepts, judging_by, serially}
+
+-- the batches of the branch that ends with this id
+abbrev pub batches_to : List Kept → List ℕ → List (List TxShape)
+batches_to accepted id = flat_map (λ kept. kept.batches) (branch_of record_of accepted id)
+
+-- what comes of them, one after another over nothing
+abbrev pub results_to : Processors → List Kept → List ℕ → List BatchResult
+results_to processors accepted id = serial processors no_entries (batches_to accepted id)
+
+-- the map behind a block is what the batches of its branch leave, and none of them fails
+pub record LeavesBranch (processors : Processors) (accepted : List Kept) (kept : Kept) : Type 0 where
+  pub whole : first_failure 0 (results_to processors accepted kept.block.id) ≡ None
+  pub left : left_after no_entries (results_to processors accepted kept.block.id)
+      ≡ map_behind accepted (Some kept.block)
+
+-- so it is for each accepted block of a stream whose batches are run one after another
+abbrev pub MapBehindIsBranch : Type 0
+MapBehindIsBranch = (accepts : Accepts) (processors : Processors) (frames : List (List ℕ))
+    → (let accepted = (history (judging_by accepts (serially processors)) 0 frames []).accepted in
+    AllByRecursion (LeavesBranch processors accepted) accepted)
