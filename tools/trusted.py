@@ -482,8 +482,8 @@ FAMILIES = {
     "XO": ["saw_xo/Actions:next"],
     "Settings": ["saw_settings/Actions:next"],
 }
-LAWS = [("BuiltInLaws", "BuiltInTell"), ("TellingLaws", "AllIsTold"), ("CandidateLaws", "CandidateIsAccepted"),
-        ("GeneratedLaws", "GeneratedStreamIsCommitted"), ("Laws", "FramesAreRead"),
+LAWS = [("BranchLaws", "MapBehindIsBranch"), ("BuiltInLaws", "BuiltInTell"), ("TellingLaws", "AllIsTold"),
+        ("CandidateLaws", "CandidateIsAccepted"), ("GeneratedLaws", "GeneratedStreamIsCommitted"), ("Laws", "FramesAreRead"),
         ("OptionLaws", "OrderOfOptionsDoesNotShow")]
 CALLS = [("processor", "run_processor"), ("opening", "listen_wish")]
 
