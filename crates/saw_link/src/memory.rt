@@ -1,8 +1,9 @@
 //! A peer in memory, whose frames are listed before.
 
-ghost use Rattle.std.specs.Prelude.{◌≡◌, ◌≤◌, ◌+◌, ◌∷◌, ◌++◌, ◌↔◌, [], true, false, Some, min, map, length, Contains, IfOk, IfSome, IfNone, OnOk, OnErr, IsErrOf};
+ghost use Rattle.std.specs.Prelude.{◌≡◌, ◌≤◌, ◌+◌, ◌∷◌, ◌++◌, ◌↔◌, [], true, false, Some, min, map, length, Contains, if◌then◌else◌, IfOk, IfSome, IfNone, OnOk, OnErr, IsErrOf};
 ghost use Rattle.saw_faults.specs.Counts.{Rose, last_count};
 ghost use Rattle.saw_link.specs.declared.passed.Passed.TheVariants.{Sent, Received, Ended};
+ghost use Rattle.saw_link.specs.LinkStreams.{Counts};
 ghost use Rattle.saw_link.specs.Tells.{Adds};
 
 use crate::fault::LinkFault;
@@ -59,6 +60,7 @@ impl MemoryPeer {
         ensures fails { (result ≡ true) ↔ Contains (failing_calls self.old) (calls self.old) }
         ensures calls { calls self.new ≡ min (calls self.old + 1) last_count }
         ensures failing { failing_calls self.new ≡ failing_calls self.old }
+        ensures counted { self.new.faults ≡ (if result then min (self.old.faults + 1) last_count else self.old.faults) }
         ensures later { self.old.faults ≤ self.new.faults }
         ensures cause { result ≡ true → Rose self.old.faults self.new.faults }
     {
@@ -123,6 +125,7 @@ impl Link for MemoryPeer {
         ensures fails { IsErrOf result LinkFault.Failed ↔ Contains (failing_calls self.old) (calls self.old) }
         ensures calls { calls self.new ≡ min (calls self.old + 1) last_count }
         ensures failing { failing_calls self.new ≡ failing_calls self.old }
+        ensures counted { Counts result self.old.faults self.new.faults }
         ensures later { self.old.faults ≤ self.new.faults }
         ensures cause { IsErrOf result LinkFault.Failed → Rose self.old.faults self.new.faults }
     {
@@ -147,6 +150,7 @@ impl Link for MemoryPeer {
         ensures fails { IsErrOf result LinkFault.Failed ↔ Contains (failing_calls self.old) (calls self.old) }
         ensures calls { calls self.new ≡ min (calls self.old + 1) last_count }
         ensures failing { failing_calls self.new ≡ failing_calls self.old }
+        ensures counted { Counts result self.old.faults self.new.faults }
         ensures later { self.old.faults ≤ self.new.faults }
         ensures cause { IsErrOf result LinkFault.Failed → Rose self.old.faults self.new.faults }
     {

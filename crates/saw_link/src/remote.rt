@@ -1,6 +1,6 @@
 //! A processor elsewhere, as a station.
 
-ghost use Rattle.std.specs.Prelude.{◌≡◌, ◌≤◌, ◌+◌, ◌∷◌, ◌++◌, [], ℕ, List, Option, true, false, Some, None, is_some, min, IfOk, IfErr, IfSome, IfNone, OnOk, IsErrOf, IsSome};
+ghost use Rattle.std.specs.Prelude.{◌≡◌, ◌↔◌, ◌≤◌, ◌+◌, ◌∷◌, ◌++◌, [], ℕ, List, Option, true, false, Some, None, is_some, min, IfOk, IfErr, IfSome, IfNone, OnOk, OnErr, IsErrOf, IsSome};
 ghost use Rattle.saw_context.specs.Outcome.{is_request};
 ghost use Rattle.saw_faults.specs.Counts.{Rose, last_count};
 ghost use Rattle.saw_messages.specs.Reasons.{has_own_reason};
@@ -191,7 +191,7 @@ impl<L: Link> RemoteStation<L> {
 
     /// Whether it may still be used: what its link tells spells how it stands then.
     pub fn is_sound(&self) -> bool
-        ensures sound { result ≡ true → self.now.health ≡ healths.Sound }
+        ensures sound { (result ≡ true) ↔ (self.now.health ≡ healths.Sound) }
         ensures spelled { result ≡ true → IsSpelled (L.told self.now.link) self.now.standing }
     {
         match self.health {
@@ -255,11 +255,14 @@ impl<L: Link + Send> Station for RemoteStation<L> {
     fn begin(&mut self, alloc: Global) -> Result<(), StationFault>
         requires { self.old.begun ≡ false }
         ensures ok { OnOk result (self.new.begun ≡ true) }
+        ensures unbegun { OnErr result (self.new.begun ≡ false) }
         ensures closed { OnOk result (is_some self.new.standing.asked ≡ false) }
         ensures registered { OnOk result (Registered (L.told self.old.link) self.old.standing (L.told self.new.link) self.new.standing) }
         ensures why { self.old.health ≡ healths.Sound → IfErr result (λ fault. Why L.told L.faults self.old self.new fault) }
         ensures sound { OnOk result ((self.old.health ≡ healths.Sound) × (self.new.health ≡ healths.Sound)) }
         ensures goes_on { IfErr result (λ fault. GoesOn self.old.health self.new.health fault self.old.faults self.new.faults) }
+        ensures quiet { OnOk result ((self.new.faults ≡ self.old.faults) × (self.new.breach ≡ self.old.breach)) }
+        ensures left { (self.old.health ≡ healths.Sound → ⊥) → (self.new.link ≡ self.old.link) × (self.new.breach ≡ self.old.breach) }
         ensures later { self.old.faults ≤ self.new.faults }
         ensures cause { IsErrOf result StationFault.PeerFailed → Rose self.old.faults self.new.faults }
     {
@@ -301,6 +304,8 @@ impl<L: Link + Send> Station for RemoteStation<L> {
         ensures talking { IfOk result (λ action. is_some self.new.standing.asked ≡ true → is_request action ≡ true) }
         ensures begun { self.new.begun ≡ true }
         ensures offers { self.new.standing.offers ≡ self.old.standing.offers }
+        ensures quiet { OnOk result ((self.new.faults ≡ self.old.faults) × (self.new.breach ≡ self.old.breach)) }
+        ensures left { (self.old.health ≡ healths.Sound → ⊥) → (self.new.link ≡ self.old.link) × (self.new.breach ≡ self.old.breach) }
         ensures later { self.old.faults ≤ self.new.faults }
         ensures cause { IsErrOf result StationFault.PeerFailed → Rose self.old.faults self.new.faults }
     {
@@ -330,6 +335,8 @@ impl<L: Link + Send> Station for RemoteStation<L> {
         ensures goes_on { IfErr result (λ fault. GoesOn self.old.health self.new.health fault self.old.faults self.new.faults) }
         ensures begun { self.new.begun ≡ true }
         ensures offers { self.new.standing.offers ≡ self.old.standing.offers }
+        ensures quiet { OnOk result ((self.new.faults ≡ self.old.faults) × (self.new.breach ≡ self.old.breach)) }
+        ensures left { (self.old.health ≡ healths.Sound → ⊥) → (self.new.link ≡ self.old.link) × (self.new.breach ≡ self.old.breach) }
         ensures later { self.old.faults ≤ self.new.faults }
         ensures cause { IsErrOf result StationFault.PeerFailed → Rose self.old.faults self.new.faults }
     {
