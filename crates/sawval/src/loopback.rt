@@ -1,10 +1,12 @@
 //! Settings over a connection on this machine: a station at one end, a processor of this program at the other.
 
-ghost use Rattle.std.specs.Prelude.{◌≡◌, true};
+ghost use Rattle.std.specs.Prelude.{◌≡◌, true, length, IfOk, IfSome};
+ghost use Rattle.saw_link.specs.Remotes.{IsStep};
+ghost use Rattle.saw_station.specs.TalkSteps.{fits};
 
 use crate::links::{Connection, accept_links, connect_link};
 use saw_link::RemoteStation;
-use saw_messages::{Action, Entry, Place, Transcript, Tx, encode_event};
+use saw_messages::{Action, Entry, Place, Reply, Transcript, Turn, Tx, encode_event};
 use saw_station::Station;
 use saw_top::run_processor;
 use saw_wire::{Bytes, Items, Text};
@@ -91,28 +93,222 @@ fn tx(alloc: Global, header: &[u8], payload: &[u8]) -> Result<Tx, Fail> {
     Ok(Tx::read(alloc, id, header, Bytes::from_slice(alloc, payload)?)?)
 }
 
-// The first action of the family in process.
-fn here(alloc: Global, tx: &Tx, talk: &Transcript) -> Result<Vec<u8>, AllocError> {
-    let action = saw_settings::step(alloc, tx, talk)?;
-    shown(alloc, &action)
+fn is_place(place: &Place, other: &Place) -> bool {
+    match (place, other) {
+        (Place::At(address), Place::At(at)) => address == at,
+        _ => false,
+    }
 }
 
-// The first action over the connection.
-fn there(alloc: Global, station: &mut RemoteStation<Connection>, tx: &Tx) -> Result<Vec<u8>, Fail>
+// What was set last at a place; no bytes where nothing was.
+fn body_at(alloc: Global, kept: &[Entry], place: &Place) -> Result<Bytes, AllocError> {
+    let mut body: &[u8] = &[];
+    for entry in kept {
+        if is_place(&entry.place, place) {
+            body = entry.body.as_slice();
+        }
+    }
+    Bytes::from_slice(alloc, body)
+}
+
+fn bodies_at(alloc: Global, kept: &[Entry], places: &[Place]) -> Result<Items<Bytes>, AllocError>
+    ensures { IfOk result (λ bodies. length bodies ≡ length places.now) }
+{
+    let mut bodies = Items::new(alloc);
+    for place in places {
+        bodies.push(body_at(alloc, kept, place)?)?;
+    }
+    Ok(bodies)
+}
+
+fn keep(
+    alloc: Global,
+    kept: &mut Items<Entry>,
+    place: &Place,
+    body: &[u8],
+) -> Result<(), AllocError> {
+    let body = Bytes::from_slice(alloc, body)?;
+    kept.push(Entry {
+        place: *place,
+        body,
+    })
+}
+
+fn keep_all(alloc: Global, kept: &mut Items<Entry>, entries: &[Entry]) -> Result<(), AllocError> {
+    for entry in entries {
+        keep(alloc, kept, &entry.place, entry.body.as_slice())?;
+    }
+    Ok(())
+}
+
+fn drop_all(alloc: Global, kept: &mut Items<Entry>, places: &[Place]) -> Result<(), AllocError> {
+    for place in places {
+        keep(alloc, kept, place, &[])?;
+    }
+    Ok(())
+}
+
+// The reply to a request, over what was set so far; none to the end of a conversation.
+fn reply_to(
+    alloc: Global,
+    kept: &mut Items<Entry>,
+    action: &Action,
+) -> Result<Option<Reply>, AllocError>
+    ensures { IfOk result (λ reply. IfSome reply (λ reply. fits action.now reply ≡ true)) }
+{
+    match action {
+        Action::Get(places) => {
+            let bodies = bodies_at(alloc, kept.as_slice(), places.as_slice())?;
+            Ok(Some(Reply::Entries(bodies)))
+        }
+        Action::Set(entries) => {
+            keep_all(alloc, kept, entries.as_slice())?;
+            Ok(Some(Reply::Done))
+        }
+        Action::Delete(places) => {
+            drop_all(alloc, kept, places.as_slice())?;
+            Ok(Some(Reply::Done))
+        }
+        Action::AddEvent(_) => Ok(Some(Reply::Done)),
+        Action::Ok | Action::Invalid { reason: _ } => Ok(None),
+    }
+}
+
+// A conversation, what the other end says behind it, and whether the family has said the same here all along.
+struct Talk {
+    talk: Transcript,
+    action: Action,
+    same: bool,
+}
+
+// A call of its own, so that each place where one is dropped is one step of a proof.
+impl Drop for Talk {
+    fn drop(self) {
+        let Talk {
+            talk: _talk,
+            action: _action,
+            same: _,
+        } = self;
+    }
+}
+
+impl Talk {
+    fn parts(self) -> (Transcript, Action, bool)
+        ensures { result ≡ (self.talk, self.action, self.same) }
+    {
+        let Talk { talk, action, same } = self;
+        (talk, action, same)
+    }
+}
+
+// Whether the family says this here.
+fn is_said_here(
+    alloc: Global,
+    tx: &Tx,
+    talk: &Transcript,
+    action: &Action,
+) -> Result<bool, AllocError> {
+    let here = saw_settings::step(alloc, tx, talk)?;
+    Ok(shown(alloc, action)? == shown(alloc, &here)?)
+}
+
+// A conversation begins.
+fn begin(alloc: Global, station: &mut RemoteStation<Connection>, tx: &Tx) -> Result<Talk, Fail>
     requires { station.old.begun ≡ true }
-    ensures { station.new.begun ≡ true }
+    ensures begun { station.new.begun ≡ true }
+    ensures step { IfOk result (λ next. IsStep station.new.standing.last tx.now next.talk.turns next.action) }
 {
     let talk = Transcript {
         turns: Items::new(alloc),
     };
     let action = station.step(alloc, tx, &talk)?;
-    Ok(shown(alloc, &action)?)
+    let same = is_said_here(alloc, tx, &talk, &action)?;
+    Ok(Talk { talk, action, same })
 }
 
-// Whether the first action of a transaction is the same at both ends.
+// A request is answered so.
+fn answer(
+    alloc: Global,
+    station: &mut RemoteStation<Connection>,
+    tx: &Tx,
+    before: Talk,
+    reply: Reply,
+) -> Result<Talk, Fail>
+    requires begun { station.old.begun ≡ true }
+    requires step { IsStep station.old.standing.last tx.now before.talk.turns before.action }
+    requires fits { fits before.action reply ≡ true }
+    ensures begun { station.new.begun ≡ true }
+    ensures step { IfOk result (λ next. IsStep station.new.standing.last tx.now next.talk.turns next.action) }
+{
+    let (talk, action, same) = before.parts();
+    let Transcript { mut turns } = talk;
+    turns.push(Turn { action, reply })?;
+    let talk = Transcript { turns };
+    let action = station.step(alloc, tx, &talk)?;
+    let said = is_said_here(alloc, tx, &talk, &action)?;
+    Ok(Talk {
+        talk,
+        action,
+        same: same && said,
+    })
+}
+
+// One action more, unless it has ended.
+fn one_more(
+    alloc: Global,
+    station: &mut RemoteStation<Connection>,
+    kept: &mut Items<Entry>,
+    tx: &Tx,
+    before: Talk,
+) -> Result<Talk, Fail>
+    requires begun { station.old.begun ≡ true }
+    requires step { IsStep station.old.standing.last tx.now before.talk.turns before.action }
+    ensures begun { station.new.begun ≡ true }
+    ensures step { IfOk result (λ next. IsStep station.new.standing.last tx.now next.talk.turns next.action) }
+{
+    match reply_to(alloc, kept, &before.action)? {
+        Some(reply) => answer(alloc, station, tx, before, reply),
+        None => Ok(before),
+    }
+}
+
+fn two_more(
+    alloc: Global,
+    station: &mut RemoteStation<Connection>,
+    kept: &mut Items<Entry>,
+    tx: &Tx,
+    before: Talk,
+) -> Result<Talk, Fail>
+    requires begun { station.old.begun ≡ true }
+    requires step { IsStep station.old.standing.last tx.now before.talk.turns before.action }
+    ensures begun { station.new.begun ≡ true }
+    ensures step { IfOk result (λ next. IsStep station.new.standing.last tx.now next.talk.turns next.action) }
+{
+    let next = one_more(alloc, station, kept, tx, before)?;
+    one_more(alloc, station, kept, tx, next)
+}
+
+fn four_more(
+    alloc: Global,
+    station: &mut RemoteStation<Connection>,
+    kept: &mut Items<Entry>,
+    tx: &Tx,
+    before: Talk,
+) -> Result<Talk, Fail>
+    requires begun { station.old.begun ≡ true }
+    requires step { IsStep station.old.standing.last tx.now before.talk.turns before.action }
+    ensures begun { station.new.begun ≡ true }
+    ensures step { IfOk result (λ next. IsStep station.new.standing.last tx.now next.talk.turns next.action) }
+{
+    let next = two_more(alloc, station, kept, tx, before)?;
+    two_more(alloc, station, kept, tx, next)
+}
+
+// Whether a transaction is accepted, and both ends say the same all along. No such conversation has more than nine actions.
 fn agrees(
     alloc: Global,
     station: &mut RemoteStation<Connection>,
+    kept: &mut Items<Entry>,
     header: &[u8],
     payload: &[u8],
 ) -> Result<bool, Fail>
@@ -120,21 +316,21 @@ fn agrees(
     ensures { station.new.begun ≡ true }
 {
     let tx = tx(alloc, header, payload)?;
-    let talk = Transcript {
-        turns: Items::new(alloc),
-    };
-    let here = here(alloc, &tx, &talk)?;
-    Ok(there(alloc, station, &tx)? == here)
+    let first = begin(alloc, station, &tx)?;
+    let next = four_more(alloc, station, kept, &tx, first)?;
+    let last = four_more(alloc, station, kept, &tx, next)?;
+    Ok(last.same && matches!(last.action, Action::Ok))
 }
 
-// Whether each of the four transactions agrees.
+// Whether each of the four transactions agrees, each over what those before it left.
 fn all_agree(alloc: Global, station: &mut RemoteStation<Connection>) -> Result<bool, Fail>
     requires { station.old.begun ≡ true }
 {
-    let first = agrees(alloc, station, FIRST_KEY, KEYS)?;
-    let second = agrees(alloc, station, FIRST_KEY, THRESHOLD)?;
-    let third = agrees(alloc, station, FIRST_KEY, PROPOSAL)?;
-    let fourth = agrees(alloc, station, SECOND_KEY, VOTE)?;
+    let mut kept = Items::new(alloc);
+    let first = agrees(alloc, station, &mut kept, FIRST_KEY, KEYS)?;
+    let second = agrees(alloc, station, &mut kept, FIRST_KEY, THRESHOLD)?;
+    let third = agrees(alloc, station, &mut kept, FIRST_KEY, PROPOSAL)?;
+    let fourth = agrees(alloc, station, &mut kept, SECOND_KEY, VOTE)?;
     Ok(first && second && third && fourth)
 }
 
