@@ -98,3 +98,15 @@ fn four_stations_meet(rt: HostRuntime) -> Result<(), Fail> {
     assert_eq!(rt; shared.met.load(Ordering::SeqCst), 4);
     Ok(())
 }
+
+// Both transactions are of one address, so the second worker waits while the first one's station works, which then fails.
+#[test]
+fn a_waiting_worker_goes_on_for_one_that_failed(rt: HostRuntime) -> Result<(), Fail> {
+    let alloc = rt.alloc();
+    let shared = Shared::new(alloc)?;
+    let mut desks = [shared.desk(Wanted::Failure)?, shared.desk(Wanted::Failure)?];
+    let applied = applied_by(&rt, alloc, plan(alloc, &["1", "1"])?, &mut desks)?;
+    assert_eq!(rt; applied, 2);
+    assert_eq!(rt; shared.met.load(Ordering::SeqCst), 2);
+    Ok(())
+}

@@ -1,6 +1,6 @@
 //! A processor that waits for others, for a while.
 
-ghost use Rattle.std.specs.Prelude.{◌≡◌, ◌≤◌, [], true, false, None, IsErrOf, OnOk};
+ghost use Rattle.std.specs.Prelude.{◌≡◌, ◌≤◌, [], true, false, None, IfErr, IsErrOf, OnOk};
 ghost use Rattle.saw_faults.specs.Counts.{Rose};
 ghost use Rattle.saw_messages.specs.declared.talk.Action.TheVariants as actions;
 
@@ -13,6 +13,9 @@ use std::thread;
 /// More turns than a thread needs that another has begun.
 const MAX_TURNS: u32 = 1_000_000;
 
+/// Turns in which other threads come to wait.
+const PAUSE: u32 = 10_000;
+
 /// What the transactions wait for.
 #[derive(Clone, Copy, PartialEq, Eq)]
 pub(crate) enum Wanted {
@@ -20,6 +23,8 @@ pub(crate) enum Wanted {
     Second,
     /// Each waits until so many have begun.
     Begun(u64),
+    /// The first finds no memory, after the others had time to wait for it.
+    Failure,
 }
 
 /// Answers once what is wanted has come, or after many turns, and counts where it came.
@@ -40,6 +45,24 @@ impl Meets<'_> {
             }
             thread::yield_now();
         }
+    }
+
+    // Fails where it is the first to come, after a while, and else counts this one.
+    fn fail_first(&self) -> Result<(), StationFault>
+        ensures { IfErr result (λ fault. fault ≡ StationFault.OutOfMemory) }
+    {
+        if self.come.fetch_add(1, Ordering::SeqCst) == 0 {
+            pause();
+            return Err(StationFault::OutOfMemory);
+        }
+        self.met.fetch_add(1, Ordering::SeqCst);
+        Ok(())
+    }
+}
+
+fn pause() {
+    for _ in 0..PAUSE {
+        thread::yield_now();
     }
 }
 
@@ -90,6 +113,7 @@ impl Station for Meets<'_> {
                 self.come.fetch_add(1, Ordering::SeqCst);
                 self.wait_for(count);
             }
+            Wanted::Failure => self.fail_first()?,
         }
         Ok(Action::Ok)
     }
