@@ -42,13 +42,35 @@ pub fn execute<B: Base, R: Station, T: Threads + Wait + Sync>(
     ensures desks { KeepsDesks R.faults R.offered desks.old desks.new }
     ensures cause { IsErrOf result CrewFault.PeerFailed → Failed R.faults desks.old desks.new }
 {
+    let threads = threads_for(&plan, desks);
+    if threads < 2 {
+        return execute_alone(alloc, plan, base, desks);
+    }
     let schedule = Schedule::new(alloc, plan.clone()?)?;
     let shared = desks[0].shared_offers()?;
-    let threads = threads_for(schedule.plan(), desks);
     let locked = Mutex::new(Locked::<R>::new(schedule, shared, threads));
     all_work(rt, alloc, desks, threads, &locked, base);
     let first = &mut desks[0];
     let offers = first.offers();
     let schedule = left_by_workers(alloc, locked.into_inner(), plan.clone()?, offers, base)?;
     run_alone(alloc, schedule, &plan, base, first)
+}
+
+// The same at the first desk alone, where a second thread is not worth its start.
+fn execute_alone<B: Base, R: Station>(
+    alloc: Global,
+    plan: Arc<Plan>,
+    base: &B,
+    desks: &mut [Desk<R>],
+) -> Result<Results, CrewFault>
+    requires some { 0 < length desks.old }
+    requires counted { transactions_in (arc_value plan).batches < 2 ^ 32 }
+    ensures results { let processors = processors_at R.next R.tells (offers_at desks.old) in
+        let batches = txs_of (arc_value plan).batches in
+        IfOk result (λ results. MayComeOfAll processors (B.entry base.now) batches results.batches) }
+    ensures desks { KeepsDesks R.faults R.offered desks.old desks.new }
+    ensures cause { IsErrOf result CrewFault.PeerFailed → Failed R.faults desks.old desks.new }
+{
+    let schedule = Schedule::new(alloc, plan.clone()?)?;
+    run_alone(alloc, schedule, &plan, base, &mut desks[0])
 }

@@ -1,6 +1,6 @@
 //! How many workers there are, and how many threads are worth their start.
 
-ghost use Rattle.std.specs.Prelude.{◌<◌, ◌≤◌, length};
+ghost use Rattle.std.specs.Prelude.{◌≡◌, ◌^◌, ◌<◌, ◌≤◌, length};
 
 use saw_plan::Plan;
 use saw_station::{Desk, Station};
@@ -8,10 +8,11 @@ use saw_station::{Desk, Station};
 /// For how many transactions of the built-in families a thread is started: its start takes as long as some ten of them.
 const WORTH: usize = 16;
 
-/// As many workers as desks.
+/// As many workers as desks; where a `u32` does not hold their number, as many as it holds.
 pub fn workers_at<R: Station>(desks: &[Desk<R>]) -> u32
     requires { 0 < length desks.now }
-    ensures { 1 ≤ result }
+    ensures some { 1 ≤ result }
+    ensures all { length desks.now < 2 ^ 32 → result ≡ length desks.now }
 {
     u32::try_from(desks.len()).unwrap_or(u32::MAX)
 }

@@ -8,6 +8,7 @@ pub mod Groups
 pub mod Walk
 pub mod Ends
 pub mod Steps
+pub mod OneChange
 pub mod OneMap
 pub mod Descent
 pub mod AfterChanges

@@ -104,6 +104,14 @@ EndsNode hash before true (c ∷ cs) answer old new = (answer ≡ before) × (ne
 EndsNode hash before false (c ∷ cs) answer old new =
     AddsSome hash (record { value = None; children = c ∷ cs }) answer old new
 
+-- nothing for no child; the node of before where the only child is the same, else one more
+abbrev pub EndsAbove : (List ℕ → List ℕ) → Option (List ℕ) → ℕ × List ℕ → Option (List ℕ) → Option (List ℕ)
+    → List NewNode → List NewNode → Type 0
+EndsAbove hash before child None answer old new = (answer ≡ None) × (new ≡ old)
+EndsAbove hash before child (Some below) answer old new =
+    ((below ≡ child.1) × (answer ≡ before) × (new ≡ old))
+    ⊎ AddsSome hash (record { value = None; children = (child.0, below) ∷ [] }) answer old new
+
 -- the byte of a change's address at a depth
 abbrev pub byte_of : ℕ → Change → ℕ
 byte_of depth change = get_or change.address depth 0

@@ -41,7 +41,7 @@ IsClashFor hash states m (Collision kept given) =
     (encoding_of (shape_of given)))
 IsClashFor hash states m OutOfMemory = ⊤
 
--- what a map needs to become known: its root, and its nodes but those of known maps, none of which clash
+-- what a map needs to become known: its root, and nodes of it, among them all that no known map has; none of its nodes clash
 pub record IsPreparedFor (hash : List ℕ → List ℕ) (states : States) (m : StateMap)
     (prepared : Preparation) : Type 0 where
   pub root : prepared.root ≡ root_of_map hash m

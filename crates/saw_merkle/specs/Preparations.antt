@@ -2,7 +2,7 @@
 use Rattle.std.specs.Prelude.{ℕ, List}
 use Rattle.saw_store.specs.declared.new_node.NewNode.{NewNode}
 
--- its root, and those of its nodes that are not kept yet
+-- its root, and nodes of it, among them all that no known map has
 pub record Preparation : Type 0 where
   pub root : List ℕ
   pub news : List NewNode

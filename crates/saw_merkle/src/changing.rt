@@ -9,10 +9,11 @@ ghost use Rattle.saw_merkle.specs.Changes.{FitsSome, value_read};
 ghost use Rattle.saw_merkle.specs.Merges.{shown};
 
 use crate::children::{Merge, old_children};
+use crate::single::changed_one;
 use saw_messages::Change;
-use saw_node::{Child, Node, NodeHash, NodeHasher};
+use saw_node::{Child, Children, Node, NodeHash, NodeHasher};
 use saw_store::{NewNode, NodeStore, hash_of_node};
-use saw_wire::{Bytes, Items};
+use saw_wire::Bytes;
 use std::alloc::{AllocError, Global};
 
 /// The hash of what lies below a place after changes there, where the hash of what lay there before is given. The
@@ -31,6 +32,10 @@ pub(crate) fn changed_under<H: NodeHasher>(
     ensures { IfOk result (λ answer.
         ChangesBelow H.hash_of store.now changes.now levels before.now answer news.old.items news.new.items) }
 {
+    if let [change] = changes {
+        let made = changed_one(alloc, store, before, levels, change, news)?;
+        return Ok(made);
+    }
     if levels == 0 {
         let value = &changes[changes.len() - 1].value;
         let answer = changed_leaf(alloc, store, before, value, news)?;
@@ -51,8 +56,8 @@ pub(crate) fn changed_under<H: NodeHasher>(
     Ok(answer)
 }
 
-// What lies at an address after its last change.
-fn changed_leaf<H: NodeHasher>(
+/// What lies at an address after its last change.
+pub(crate) fn changed_leaf<H: NodeHasher>(
     alloc: Global,
     store: &NodeStore<H>,
     before: &Option<NodeHash>,
@@ -115,7 +120,7 @@ pub(crate) fn changed_node<H: NodeHasher>(
     Ok(Some(hash))
 }
 
-fn add_node<H: NodeHasher>(
+pub(crate) fn add_node<H: NodeHasher>(
     alloc: Global,
     node: Node,
     news: &mut Vec<NewNode>,
@@ -127,12 +132,12 @@ fn add_node<H: NodeHasher>(
     Ok(hash)
 }
 
-fn leaf(alloc: Global, value: Bytes) -> Node
+pub(crate) fn leaf(alloc: Global, value: Bytes) -> Node
     ensures { shape_of result ≡ record { value = Some value; children = [] } }
 {
     Node {
         value: Some(value),
-        children: Items::new(alloc),
+        children: Children::new(alloc),
     }
 }
 
@@ -142,7 +147,7 @@ fn above(children: Vec<Child>) -> Node
 {
     Node {
         value: None,
-        children: Items::from_vec(children),
+        children: Children::from_vec(children),
     }
 }
 

@@ -9,6 +9,7 @@ mod prepared;
 mod reading;
 mod rooting;
 mod sharing;
+mod single;
 mod state;
 mod tree;
 

@@ -7,7 +7,7 @@ use saw_store::NewNode;
 use saw_wire::Items;
 use std::marker::Model;
 
-/// The root of a map, and those of its nodes that are not kept yet.
+/// The root of a map, and nodes of it, among them all that no known map has.
 #[derive(Drop)]
 pub struct Prepared {
     pub(crate) root: NodeHash,

@@ -17,7 +17,7 @@ use crate::prepared::Prepared;
 use crate::rooting::{changed_root, show_addresses};
 use crate::tree::Tree;
 use saw_messages::Change;
-use saw_node::{Node, NodeHash, NodeHasher};
+use saw_node::{Children, Node, NodeHash, NodeHasher};
 use saw_store::{NewNode, NodeStore, StoreFault};
 use saw_wire::Items;
 use std::alloc::{AllocError, Global};
@@ -59,7 +59,7 @@ fn empty_node(alloc: Global) -> Node
 {
     Node {
         value: None,
-        children: Items::new(alloc),
+        children: Children::new(alloc),
     }
 }
 

@@ -1,14 +1,17 @@
 //! Hashes of nodes, and the functions that make them.
 
-ghost use Rattle.std.specs.Prelude.{◌≡◌, ℕ, List, take};
+ghost use Rattle.std.specs.Prelude.{◌≡◌, ◌∷◌, [], ℕ, List, take};
+ghost use Rattle.std.specs.Cmp.Rules.{hashing};
+ghost use Rattle.std.proofs.Common.{rules};
 ghost use Rattle.hex.specs.Hex.{IsBytes, encode_lower};
 ghost use Rattle.saw_node.specs.Hashes.{IsHash, first_half, one_byte, first_half_is, one_byte_is};
 
 use sha2::{Digest, Sha512};
+use std::hash::{Hash, Hasher};
 use std::marker::Model;
 
 /// The hash of a node: 32 bytes.
-#[derive(Clone, Copy, PartialEq, Eq, PartialOrd, Ord, Hash, Debug)]
+#[derive(Clone, Copy, PartialEq, Eq, PartialOrd, Ord, Debug)]
 pub struct NodeHash {
     bytes: [u8; 32],
 }
@@ -24,6 +27,17 @@ impl Model for NodeHash {
     ghost inverse = { λ v. record { bytes = v } };
 
     ghost invariant = { λ hash. IsHash hash.bytes };
+}
+
+impl Hash for NodeHash {
+    ghost hash_input = { λ hash. take 8 hash ∷ [] };
+
+    ghost respects_eq = { Prim.search (hashing, rules) };
+
+    // The bytes are a hash already, so eight of them tell nearly all apart.
+    fn hash<H: Hasher>(&self, state: &mut H) {
+        state.write(&self.bytes[..8]);
+    }
 }
 
 impl NodeHash {

@@ -11,8 +11,8 @@ ghost use Rattle.saw_store.specs.Places.{AreNoted, IsFreeAt, IsToldApart};
 ghost use Rattle.saw_store.specs.Stores.{IsClash, IsFree, kept_at, shown, with_node};
 
 use crate::{NewNode, StoreFault};
-use saw_node::{Child, Node, NodeHash, NodeHasher, encode, encode_one_child};
-use saw_wire::{Bytes, Items};
+use saw_node::{Child, Children, Node, NodeHash, NodeHasher, encode, encode_one_child};
+use saw_wire::Bytes;
 use std::alloc::{AllocError, Global};
 use std::collections::HashMap;
 use std::marker::{Model, PhantomData};
@@ -230,7 +230,7 @@ fn copied(alloc: Global, node: &Node) -> Result<Node, AllocError>
     };
     Ok(Node {
         value,
-        children: Items::from_vec(children),
+        children: Children::from_vec(children),
     })
 }
 

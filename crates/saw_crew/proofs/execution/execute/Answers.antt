@@ -48,7 +48,7 @@ returns-clause-results g c =
     (λ (plan : Plan). IfOk c.run_alone.result (λ results.
     MayComeOfAll (processors_at g.R.Station.next g.R.Station.tells (get_or c.all_work.new.desks 0 c.index-desks-0-2.result).offers) (g.B.Base.entry c.args.base.now) (txs_of plan.batches)
     results.batches))
-    c.deref.ensures c.run_alone.ensures.results)
+    c.deref-2.ensures c.run_alone.ensures.results)
 
 pub returns-clause-whole : goal.returns-clause-whole
 returns-clause-whole g c =
@@ -57,6 +57,14 @@ returns-clause-whole g c =
     let batches = txs_of (arc_value c.args.plan).batches in
     if_ok (λ (results : Results). MayComeOfAll processors m batches results.batches) _
     (λ results comes. fit-all processors [] m batches results.batches comes) c.run_alone.result (returns-clause-results g c)
+
+pub returns-then-threads-lt2-clause-whole : goal.returns-then-threads-lt2-clause-whole
+returns-then-threads-lt2-clause-whole g c =
+    let processors = processors_at g.R.Station.next g.R.Station.tells (offers_at c.args.desks.now) in
+    let m = g.B.Base.entry c.args.base.now in
+    let batches = txs_of (arc_value c.args.plan).batches in
+    if_ok (λ (results : Results). MayComeOfAll processors m batches results.batches) _
+    (λ results comes. fit-all processors [] m batches results.batches comes) c.execute_alone.result c.execute_alone.ensures.results
 
 pub returns-clause-desks : goal.returns-clause-desks
 returns-clause-desks g c =
