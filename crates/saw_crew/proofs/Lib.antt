@@ -8,3 +8,6 @@ pub mod Alone
 pub mod Endings
 pub mod Lone
 pub mod Telling
+pub mod Depending
+pub mod Members
+pub mod Serially

@@ -1,3 +1,4 @@
 pub mod Desks
 pub mod Stored
 pub mod Alone
+pub mod Failing

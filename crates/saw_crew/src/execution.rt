@@ -11,6 +11,8 @@ ghost use Rattle.saw_station.specs.Serving.{processors_at};
 use crate::ending::{left_by_workers, run_alone};
 use crate::fault::CrewFault;
 use crate::locked::Locked;
+use crate::serial::run_serially;
+use crate::tangle::is_tangled;
 use crate::work::all_work;
 use crate::workers::threads_for;
 use saw_address::Base;
@@ -43,7 +45,7 @@ pub fn execute<B: Base, R: Station, T: Threads + Wait + Sync>(
     ensures cause { IsErrOf result CrewFault.PeerFailed → Failed R.faults desks.old desks.new }
 {
     let threads = threads_for(&plan, desks);
-    if threads < 2 {
+    if threads < 2 || is_tangled(alloc, &plan)? {
         return execute_alone(alloc, plan, base, desks);
     }
     let schedule = Schedule::new(alloc, plan.clone()?)?;
@@ -56,7 +58,7 @@ pub fn execute<B: Base, R: Station, T: Threads + Wait + Sync>(
     run_alone(alloc, schedule, &plan, base, first)
 }
 
-// The same at the first desk alone, where a second thread is not worth its start.
+// The same at the first desk alone, with no schedule.
 fn execute_alone<B: Base, R: Station>(
     alloc: Global,
     plan: Arc<Plan>,
@@ -71,6 +73,5 @@ fn execute_alone<B: Base, R: Station>(
     ensures desks { KeepsDesks R.faults R.offered desks.old desks.new }
     ensures cause { IsErrOf result CrewFault.PeerFailed → Failed R.faults desks.old desks.new }
 {
-    let schedule = Schedule::new(alloc, plan.clone()?)?;
-    run_alone(alloc, schedule, &plan, base, &mut desks[0])
+    run_serially(alloc, plan.batches.as_slice(), base, &mut desks[0])
 }

@@ -3,10 +3,13 @@
 
 mod alike;
 mod based;
+mod batch;
 mod ending;
 mod execution;
 mod fault;
 mod locked;
+mod serial;
+mod tangle;
 mod work;
 mod workers;
 

@@ -5,9 +5,6 @@ ghost use Rattle.std.specs.Prelude.{◌≡◌, ◌^◌, ◌<◌, ◌≤◌, leng
 use saw_plan::Plan;
 use saw_station::{Desk, Station};
 
-/// For how many transactions of the built-in families a thread is started: its start takes as long as some ten of them.
-const WORTH: usize = 16;
-
 /// As many workers as desks; where a `u32` does not hold their number, as many as it holds.
 pub fn workers_at<R: Station>(desks: &[Desk<R>]) -> u32
     requires { 0 < length desks.now }
@@ -25,16 +22,14 @@ fn transactions_of(plan: &Plan) -> usize {
     count
 }
 
-/// How many threads run a plan: no more than desks, and none for a few transactions alone. Each that a processor elsewhere
-/// may answer is worth one.
+/// How many threads run a plan: no more than it has transactions, or than desks. Where nothing is offered elsewhere it is
+/// one, since the built-in families answer sooner than a schedule hands out what to run.
 pub(crate) fn threads_for<R: Station>(plan: &Plan, desks: &[Desk<R>]) -> usize
     requires { 0 < length desks.now }
     ensures { 0 < result }
 {
-    let worth = if desks[0].offers().is_empty() {
-        WORTH
-    } else {
-        1
-    };
-    (transactions_of(plan) / worth).min(desks.len()).max(1)
+    if desks[0].offers().is_empty() {
+        return 1;
+    }
+    transactions_of(plan).min(desks.len()).max(1)
 }

@@ -1,4 +1,4 @@
-//! Batches of one transaction each, at addresses of their own.
+//! Batches of one transaction each, at addresses of their own or under one wide prefix.
 
 use saw_messages::{TransactionHeader, Tx, TxBatch, encode_transaction_header};
 use saw_plan::Plan;
@@ -29,24 +29,42 @@ fn addresses(alloc: Global, digit: &str) -> Result<Items<Text>, AllocError> {
     Ok(texts)
 }
 
-fn header(alloc: Global, digit: &str) -> Result<TransactionHeader, AllocError> {
+/// So many empty prefixes, each of which covers all addresses.
+fn wide(alloc: Global, count: usize) -> Result<Items<Text>, AllocError> {
+    let mut texts = Items::new(alloc);
+    for _ in 0..count {
+        texts.push(Text::new(alloc))?;
+    }
+    Ok(texts)
+}
+
+fn header(
+    alloc: Global,
+    inputs: Items<Text>,
+    outputs: Items<Text>,
+) -> Result<TransactionHeader, AllocError> {
     Ok(TransactionHeader {
         batcher_public_key: Text::new(alloc),
         dependencies: Items::new(alloc),
         family_name: Text::from_str(alloc, FAMILY)?,
         family_version: Text::from_str(alloc, "1.0")?,
-        inputs: addresses(alloc, digit)?,
+        inputs,
         nonce: Text::new(alloc),
-        outputs: addresses(alloc, digit)?,
+        outputs,
         payload_sha512: Text::new(alloc),
         signer_public_key: Text::from_str(alloc, "K")?,
     })
 }
 
-/// A batch of the transaction of this digit.
-fn batch(alloc: Global, digit: &str) -> Result<TxBatch, Fail> {
+/// A batch of one transaction, which declares these.
+fn batch(
+    alloc: Global,
+    digit: &str,
+    inputs: Items<Text>,
+    outputs: Items<Text>,
+) -> Result<TxBatch, Fail> {
     let id = Text::from_str(alloc, digit)?;
-    let header = encode_transaction_header(alloc, &header(alloc, digit)?)?;
+    let header = encode_transaction_header(alloc, &header(alloc, inputs, outputs)?)?;
     let tx = Tx::read(alloc, id, Bytes::from_vec(header), Bytes::new(alloc))?;
     let mut txs = Items::new(alloc);
     txs.push(Arc::new(alloc, tx)?)?;
@@ -57,11 +75,24 @@ fn batch(alloc: Global, digit: &str) -> Result<TxBatch, Fail> {
     })
 }
 
-/// The plan of a batch for each digit.
+/// The plan of a batch for each digit, of its own address.
 pub(crate) fn plan(alloc: Global, digits: &[&str]) -> Result<Plan, Fail> {
     let mut batches = Items::new(alloc);
     for digit in digits {
-        batches.push(batch(alloc, digit)?)?;
+        let inputs = addresses(alloc, digit)?;
+        let outputs = addresses(alloc, digit)?;
+        batches.push(batch(alloc, digit, inputs, outputs)?)?;
+    }
+    Ok(Plan { batches })
+}
+
+/// The same with so many wide prefixes for each, read and written.
+pub(crate) fn wide_plan(alloc: Global, digits: &[&str], count: usize) -> Result<Plan, Fail> {
+    let mut batches = Items::new(alloc);
+    for digit in digits {
+        let inputs = wide(alloc, count)?;
+        let outputs = wide(alloc, count)?;
+        batches.push(batch(alloc, digit, inputs, outputs)?)?;
     }
     Ok(Plan { batches })
 }

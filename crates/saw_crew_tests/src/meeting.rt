@@ -4,7 +4,7 @@ ghost use Rattle.std.specs.Prelude.{◌≡◌, ◌<◌, length, IfOk};
 ghost use Rattle.std.specs.Arc.{arc_value};
 ghost use Rattle.saw_crew.specs.Desks.{HaveSameOffers};
 
-use crate::apart::{offers, plan};
+use crate::apart::{offers, plan, wide_plan};
 use crate::meets::{Meets, Wanted};
 use saw_crew::execute;
 use saw_messages::PlainBase;
@@ -108,5 +108,18 @@ fn a_waiting_worker_goes_on_for_one_that_failed(rt: HostRuntime) -> Result<(), F
     let applied = applied_by(&rt, alloc, plan(alloc, &["1", "1"])?, &mut desks)?;
     assert_eq!(rt; applied, 2);
     assert_eq!(rt; shared.met.load(Ordering::SeqCst), 2);
+    Ok(())
+}
+
+// With 1,440,000 pairs of prefixes that meet, the batches are run one after another, so the second never comes in time.
+#[test]
+fn a_tangled_plan_is_run_by_one(rt: HostRuntime) -> Result<(), Fail> {
+    let alloc = rt.alloc();
+    let shared = Shared::new(alloc)?;
+    let mut desks = [shared.desk(Wanted::Second)?, shared.desk(Wanted::Second)?];
+    let tangled = wide_plan(alloc, &["1", "2"], 600)?;
+    let applied = applied_by(&rt, alloc, tangled, &mut desks)?;
+    assert_eq!(rt; applied, 2);
+    assert_eq!(rt; shared.met.load(Ordering::SeqCst), 0);
     Ok(())
 }

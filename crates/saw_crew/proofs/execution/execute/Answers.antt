@@ -12,6 +12,9 @@ use Rattle.saw_crew.proofs.Leaving.{first_failed, first_kept, first_offers, keep
 use Rattle.saw_crew.proofs.Results.{fit-all}
 use Rattle.saw_crew.proofs.execution.execute.Goals as goal
 
+pub returns-in_err-is_tangled-clause-desks : goal.returns-in_err-is_tangled-clause-desks
+returns-in_err-is_tangled-clause-desks g c = keep_all g.R.Station.faults g.R.Station.offered c.args.desks.now
+
 pub returns-in_err-clone-clause-desks : goal.returns-in_err-clone-clause-desks
 returns-in_err-clone-clause-desks g c = keep_all g.R.Station.faults g.R.Station.offered c.args.desks.now
 
