@@ -5,7 +5,7 @@ use saw_address::{
     sha512_hex64,
 };
 use saw_intkey::{address_of, serves};
-use saw_node::{NodeHash, OneByte, empty_root, root_by, root_of};
+use saw_node::{Child, Children, NodeHash, OneByte, empty_root, root_by, root_of};
 use saw_wire::Bytes;
 use std::collections::BTreeMap;
 use std::test::Fail;
@@ -79,6 +79,22 @@ fn a_child_is_two_texts_of_digits(rt: HostRuntime) -> Result<(), Fail> {
         saw_node::encode(alloc, &node)?.as_slice(),
         bytes.as_slice()
     );
+    Ok(())
+}
+
+// None, one in place, and two in a list.
+#[test]
+fn children_are_what_they_were_made_of(rt: HostRuntime) -> Result<(), Fail> {
+    let alloc = rt.alloc();
+    let hash = NodeHash::new([0x10; 32]);
+    assert!(rt; Children::new(alloc).is_empty());
+    let one = Children::one(Child { byte: 1, hash });
+    assert!(rt; one.len() == 1 && !one.is_empty());
+    let mut list = Vec::new(alloc);
+    list.push(Child { byte: 1, hash })?;
+    list.push(Child { byte: 2, hash })?;
+    let two = Children::from_vec(list);
+    assert_eq!(rt; two.len(), 2);
     Ok(())
 }
 
