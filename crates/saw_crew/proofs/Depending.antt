@@ -50,7 +50,8 @@ outcome_plain processors m tx its view made failed depends outcome same shows no
 
 -- ---- dependencies
 
-among-ids : (others : List TxShape) (id : List ℕ) → is_among (ids_of others) id ≡ list_any (λ other. bytes_eq id other.id) others
+-- an id is among those of transactions where one of them has it
+pub among-ids : (others : List TxShape) (id : List ℕ) → is_among (ids_of others) id ≡ list_any (λ other. bytes_eq id other.id) others
 among-ids [] id = refl
 among-ids (other ∷ others) id = rw (nat_list_eq_equiv.symm other.id id) (ap (λ (b : Bool). bytes_eq id other.id || b) (among-ids others id))
 

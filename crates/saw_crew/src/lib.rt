@@ -1,4 +1,4 @@
-//! Runs the batches of a plan over a base, each desk a worker round the lock of their schedule.
+//! Runs the batches of a plan over a base: one after another, or each desk a worker round the lock of their schedule.
 #![tactic(auto)]
 
 mod alike;

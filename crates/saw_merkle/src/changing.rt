@@ -8,7 +8,7 @@ ghost use Rattle.saw_merkle.specs.Changes.{AddsNode, ChangesBelow, ChangesLeaf, 
 ghost use Rattle.saw_merkle.specs.Changes.{FitsSome, value_read};
 ghost use Rattle.saw_merkle.specs.Merges.{shown};
 
-use crate::children::{Merge, old_children};
+use crate::children::{Merge, NOWHERE, old_children};
 use crate::single::changed_one;
 use saw_messages::Change;
 use saw_node::{Child, Children, Node, NodeHash, NodeHasher};
@@ -33,12 +33,12 @@ pub(crate) fn changed_under<H: NodeHasher>(
         ChangesBelow H.hash_of store.now changes.now levels before.now answer news.old.items news.new.items) }
 {
     if let [change] = changes {
-        let made = changed_one(alloc, store, before, levels, change, news)?;
+        let made = changed_one(alloc, store, before, NOWHERE, levels, change, news)?;
         return Ok(made);
     }
     if levels == 0 {
         let value = &changes[changes.len() - 1].value;
-        let answer = changed_leaf(alloc, store, before, value, news)?;
+        let answer = changed_leaf(alloc, store, before, NOWHERE, value, news)?;
         return Ok(answer);
     }
     let depth = 35 - levels as usize;
@@ -56,11 +56,12 @@ pub(crate) fn changed_under<H: NodeHasher>(
     Ok(answer)
 }
 
-/// What lies at an address after its last change.
+/// What lies at an address after its last change. What lay there is looked for at the place at hand first.
 pub(crate) fn changed_leaf<H: NodeHasher>(
     alloc: Global,
     store: &NodeStore<H>,
     before: &Option<NodeHash>,
+    near: usize,
     value: &Option<Bytes>,
     news: &mut Vec<NewNode>,
 ) -> Result<Option<NodeHash>, AllocError>
@@ -70,7 +71,7 @@ pub(crate) fn changed_leaf<H: NodeHasher>(
     match value {
         None => Ok(None),
         Some(value) => {
-            if has_value(store, before, value) {
+            if has_value(store, before, near, value) {
                 return Ok(*before);
             }
             let value = value.try_clone(alloc)?;
@@ -81,14 +82,14 @@ pub(crate) fn changed_leaf<H: NodeHasher>(
 }
 
 // Whether the node under a hash is kept and has this value.
-fn has_value<H>(store: &NodeStore<H>, before: &Option<NodeHash>, value: &Bytes) -> bool
+fn has_value<H>(store: &NodeStore<H>, before: &Option<NodeHash>, near: usize, value: &Bytes) -> bool
     ensures { IsTrue result ↔ (value_read store.now before.now ≡ Some value.now) }
 {
     match before {
         None => false,
-        Some(hash) => match store.get(hash) {
+        Some(hash) => match store.find(hash, near) {
             None => false,
-            Some(node) => match &node.value {
+            Some((_, node)) => match &node.value {
                 None => false,
                 Some(kept) => kept == value,
             },

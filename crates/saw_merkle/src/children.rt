@@ -133,6 +133,9 @@ fn is_same(first: &Option<NodeHash>, second: &Option<NodeHash>) -> bool
     }
 }
 
+/// No place of a store: what is searched for there lies anywhere.
+pub(crate) const NOWHERE: usize = usize::MAX;
+
 /// The children of a kept node; none where none is kept.
 pub(crate) fn old_children<'a, H>(store: &'a NodeStore<H>, before: &Option<NodeHash>) -> &'a [Child]
     ensures same { map pair_of result.now ≡ children_of store.now before.now }
@@ -143,6 +146,24 @@ pub(crate) fn old_children<'a, H>(store: &'a NodeStore<H>, before: &Option<NodeH
         Some(hash) => match store.get(hash) {
             None => &[],
             Some(node) => node.children.as_slice(),
+        },
+    }
+}
+
+/// As `old_children`, with the place where the node lies. It is looked for at the place at hand first.
+pub(crate) fn children_near<'a, H>(
+    store: &'a NodeStore<H>,
+    before: &Option<NodeHash>,
+    near: usize,
+) -> (usize, &'a [Child])
+    ensures same { map pair_of result.1.now ≡ children_of store.now before.now }
+    ensures rising { IsStrictlySortedBy nat_cmp (map (λ child. child.byte) result.1.now) }
+{
+    match before {
+        None => (NOWHERE, &[]),
+        Some(hash) => match store.find(hash, near) {
+            None => (NOWHERE, &[]),
+            Some((place, node)) => (place, node.children.as_slice()),
         },
     }
 }

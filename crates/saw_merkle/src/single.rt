@@ -7,17 +7,19 @@ ghost use Rattle.saw_store.specs.Stores.{Nodes};
 ghost use Rattle.saw_merkle.specs.Changes.{ChangesBelow, EndsAbove, FitsSome};
 
 use crate::changing::{add_node, changed_leaf, changed_node, leaf};
-use crate::children::{Merge, old_children};
+use crate::children::{Merge, NOWHERE, children_near};
 use saw_messages::Change;
 use saw_node::{Child, Children, Node, NodeHash, NodeHasher};
 use saw_store::{NewNode, NodeStore};
 use std::alloc::{AllocError, Global};
 
-/// As `changed_under`, for one change. The nodes with one child, as nearly all are, are made with no list.
+/// As `changed_under`, for one change. The nodes with one child, as nearly all are, are made with no list, and what lay
+/// below is looked for at the place at hand first: an only child lies right before its node, where both were kept at once.
 pub(crate) fn changed_one<H: NodeHasher>(
     alloc: Global,
     store: &NodeStore<H>,
     before: &Option<NodeHash>,
+    near: usize,
     levels: u32,
     change: &Change,
     news: &mut Vec<NewNode>,
@@ -32,19 +34,20 @@ pub(crate) fn changed_one<H: NodeHasher>(
         return Ok(made);
     }
     if levels == 0 {
-        let answer = changed_leaf(alloc, store, before, &change.value, news)?;
+        let answer = changed_leaf(alloc, store, before, near, &change.value, news)?;
         return Ok(answer);
     }
     let byte = change.address.as_slice()[35 - levels as usize];
-    let kept = old_children(store, before);
+    let (place, kept) = children_near(store, before, near);
     if let Some(hash) = only_at(kept, byte) {
-        let below = changed_one(alloc, store, &Some(hash), levels - 1, change, news)?;
+        let near = place.saturating_sub(1);
+        let below = changed_one(alloc, store, &Some(hash), near, levels - 1, change, news)?;
         let made = changed_above::<H>(alloc, before, Child { byte, hash }, &below, news)?;
         return Ok(made);
     }
     let mut merge = Merge::new(alloc, kept)?;
     let child = merge.take_at(byte)?;
-    let answer = changed_one(alloc, store, &child, levels - 1, change, news)?;
+    let answer = changed_one(alloc, store, &child, NOWHERE, levels - 1, change, news)?;
     merge.put(byte, &child, &answer)?;
     let answer = changed_node::<H>(alloc, before, merge, news)?;
     Ok(answer)

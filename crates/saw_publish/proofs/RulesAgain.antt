@@ -5,7 +5,6 @@ use Rattle.std.specs.Prelude.{if◌then◌else◌, ◌||◌, option_map}
 use Rattle.std.specs.Option.{option_or}
 use Rattle.std.specs.List.{list_any}
 use Rattle.std.specs.Str.{bytes_eq}
-use Rattle.std.specs.Cmp.Lexicographic.{nat_list_eq_equiv}
 use Rattle.std.proofs.lemmas.Bool.{or_parts}
 use Rattle.std.proofs.lemmas.List.Folds.{list_any-append}
 use Rattle.saw_address.specs.Maps.{StateMap}
@@ -19,6 +18,7 @@ use Rattle.saw_plan.specs.BatchShapes.{ids_of, txs_of}
 use Rattle.saw_plan.specs.StaticRules.{Ids, after_batch, batch_cause, first_missing, tx_cause, txs_cause}
 use Rattle.saw_plan.specs.declared.sorted.DropCause.{DropCause}
 use Rattle.saw_plan.specs.declared.sorted.DropCause.TheVariants.{DuplicateBatch, DuplicateTransaction, MissingDependency}
+use Rattle.saw_crew.proofs.Depending.{among-ids}
 use Rattle.saw_publish.specs.Drafts.{run_fate}
 use Rattle.saw_publish.specs.Fates.{still_in}
 use Rattle.saw_publish.proofs.Planned.{IsPlanned}
@@ -33,10 +33,6 @@ is_one_of others id = list_any (λ other. bytes_eq id other.id) others
 -- all these ids are those and the ones of the transactions that failed
 abbrev AreAlso : List (List ℕ) → List (List ℕ) → List TxShape → Type 0
 AreAlso all ids failed = (q : List ℕ) → is_among all q ≡ (is_among ids q || is_one_of failed q)
-
-among-ids : (others : List TxShape) (id : List ℕ) → is_among (ids_of others) id ≡ is_one_of others id
-among-ids [] id = refl
-among-ids (other ∷ others) id = rw (nat_list_eq_equiv.symm other.id id) (ap (λ b. bytes_eq id other.id || b) (among-ids others id))
 
 among-append : (a b : List (List ℕ)) (q : List ℕ) → is_among (a ++ b) q ≡ (is_among a q || is_among b q)
 among-append a b q = list_any-append (λ other. bytes_eq other q) a b

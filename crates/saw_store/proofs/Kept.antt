@@ -65,11 +65,6 @@ shown_inserted old new h node e = finite.same_map nat_list_cmp_total exact_bytes
     ∙ sym (finite.get-insert nat_list_cmp_total (shown old) h (kept_of (shape_of node)) q
     ∙ ap (cond (is_at (slice_cmp nat_cmp q) h) (Some (kept_of (shape_of node)))) (get-shown old q)))
 
--- entries in another order show the same
-pub shown_alike : (old new : List (List ℕ × Node)) → ((q : List ℕ) → lookup (bytes_eq q) new ≡ lookup (bytes_eq q) old) → shown new ≡ shown old
-shown_alike old new e = finite.same_map nat_list_cmp_total exact_bytes _ _ (λ q.
-    get-shown new q ∙ ap (option_map (λ k. kept_of (shape_of k))) (sym (same_lookup q new) ∙ e q ∙ same_lookup q old) ∙ sym (get-shown old q))
-
 -- one more node
 pub node_added : (hash : List ℕ → List ℕ) (old new : List (List ℕ × Node)) (nodes : Nodes) (h : List ℕ) (node : Node) → shown old ≡ nodes
     → h ≡ hash (encoding_of (shape_of node))

@@ -11,6 +11,7 @@ ghost use Rattle.saw_store.specs.Places.{AreNoted, IsFreeAt, IsToldApart};
 ghost use Rattle.saw_store.specs.Stores.{IsClash, IsFree, kept_at, shown, with_node};
 
 use crate::{NewNode, StoreFault};
+use indexmap::IndexMap;
 use saw_node::{Child, Children, Node, NodeHash, NodeHasher, encode, encode_one_child};
 use saw_wire::Bytes;
 use std::alloc::{AllocError, Global};
@@ -18,10 +19,12 @@ use std::collections::HashMap;
 use std::marker::{Model, PhantomData};
 
 /// Keeps one node for each hash. It is seen as the finite map from hashes to nodes.
+///
+/// Nodes lie in the order in which they were put, so an only child that was put right before its node lies beside it.
 #[derive(Drop)]
 pub struct NodeStore<H> {
     alloc: Global,
-    nodes: HashMap<NodeHash, Node>,
+    nodes: IndexMap<NodeHash, Node>,
     of: PhantomData<H>,
 }
 
@@ -42,6 +45,22 @@ impl<H> NodeStore<H> {
     {
         self.nodes.get(hash)
     }
+
+    /// The node that is kept under a hash, and at which place it lies. Where that is the place at hand, nothing is searched
+    /// for.
+    pub fn find(&self, hash: &NodeHash, near: usize) -> Option<(usize, &Node)>
+        ensures { option_map (λ found. shape_of found.1.now) result ≡ kept_at self.now hash.now }
+    {
+        if let Some((kept, node)) = self.nodes.get_index(near) {
+            if *kept == *hash {
+                return Some((near, node));
+            }
+        }
+        match self.nodes.get_full(hash) {
+            None => None,
+            Some((place, _, node)) => Some((place, node)),
+        }
+    }
 }
 
 impl<H: NodeHasher> NodeStore<H> {
@@ -51,7 +70,7 @@ impl<H: NodeHasher> NodeStore<H> {
     {
         Ok(NodeStore {
             alloc,
-            nodes: HashMap::new(alloc),
+            nodes: IndexMap::new(alloc),
             of: PhantomData,
         })
     }
@@ -157,7 +176,7 @@ impl<H: NodeHasher> NodeStore<H> {
 }
 
 // Puts each node under the hash beside it; there is room for all.
-fn put_each(nodes: &mut HashMap<NodeHash, Node>, news: Vec<NewNode>)
+fn put_each(nodes: &mut IndexMap<NodeHash, Node>, news: Vec<NewNode>)
     requires { length news.items ≤ spare nodes.old }
     ensures { (hash : List ℕ → List ℕ) → AreNamed hash news.items
         → shown nodes.new.entries ≡ with_all hash (shown nodes.old.entries) news.items }
@@ -168,7 +187,7 @@ fn put_each(nodes: &mut HashMap<NodeHash, Node>, news: Vec<NewNode>)
 }
 
 // Puts a node under the hash beside it; there is room for it.
-fn put_new(nodes: &mut HashMap<NodeHash, Node>, new: NewNode)
+fn put_new(nodes: &mut IndexMap<NodeHash, Node>, new: NewNode)
     requires { 0 < spare nodes.old }
     ensures updates { Updates bytes_eq nodes.old nodes.new new.hash (Some new.node) }
     ensures room { spare nodes.old ≤ spare nodes.new + 1 }

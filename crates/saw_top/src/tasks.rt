@@ -27,6 +27,7 @@ use saw_report::RunFault;
 use saw_station::{Desk, Station};
 use saw_verify::{Signer, Verifier};
 use std::alloc::Global;
+use std::mem;
 use std::sync::Wait;
 use std::thread::Threads;
 
@@ -121,7 +122,7 @@ pub(crate) fn do_task<
         desks,
         &mut journal,
     )?;
-    finish(
+    let came = finish(
         rt,
         alloc,
         output,
@@ -133,5 +134,8 @@ pub(crate) fn do_task<
         signer,
         batches,
         desks,
-    )
+    );
+    // A process ends behind its run. To give back each piece of the journal before that takes up to a tenth of the run.
+    mem::forget(journal);
+    came
 }
