@@ -5,7 +5,7 @@ use saw_address::{
     sha512_hex64,
 };
 use saw_intkey::{address_of, serves};
-use saw_node::{Child, Children, NodeHash, OneByte, empty_root, root_by, root_of};
+use saw_node::{Child, Node, NodeHash, OneByte, empty_root, root_by, root_of};
 use saw_wire::Bytes;
 use std::collections::BTreeMap;
 use std::test::Fail;
@@ -71,8 +71,8 @@ fn a_child_is_two_texts_of_digits(rt: HostRuntime) -> Result<(), Fail> {
     bytes.extend_from_slice(b"\x61v\xf6")?;
     assert_eq!(rt; bytes.len(), 76);
     let node = saw_node::decode(alloc, &bytes)?.ok_or("a node")?;
-    assert!(rt; node.value.is_none() && node.children.len() == 1);
-    for child in node.children.as_slice() {
+    assert!(rt; node.value().is_none() && node.children().len() == 1);
+    for child in node.children() {
         assert!(rt; child.byte == 0xab && child.hash == hash);
     }
     assert_eq!(rt;
@@ -82,19 +82,22 @@ fn a_child_is_two_texts_of_digits(rt: HostRuntime) -> Result<(), Fail> {
     Ok(())
 }
 
-// None, one in place, and two in a list.
+// Neither, an only child in place, and {"c": {"ab": "1010..10", "cd": "1010..10"}, "v": h'05'}.
 #[test]
-fn children_are_what_they_were_made_of(rt: HostRuntime) -> Result<(), Fail> {
+fn nodes_are_what_they_were_made_of(rt: HostRuntime) -> Result<(), Fail> {
     let alloc = rt.alloc();
     let hash = NodeHash::new([0x10; 32]);
-    assert!(rt; Children::new(alloc).is_empty());
-    let one = Children::one(Child { byte: 1, hash });
-    assert!(rt; one.len() == 1 && !one.is_empty());
-    let mut list = Vec::new(alloc);
-    list.push(Child { byte: 1, hash })?;
-    list.push(Child { byte: 2, hash })?;
-    let two = Children::from_vec(list);
-    assert_eq!(rt; two.len(), 2);
+    let empty = Node::empty(alloc);
+    assert!(rt; empty.value().is_none() && empty.children().is_empty());
+    let one = Node::above_one(Child { byte: 1, hash });
+    assert!(rt; one.value().is_none() && one.children().len() == 1);
+    let mut bytes = b"\xa2\x61c\xa2\x62ab\x78\x40".to_vec(alloc)?;
+    bytes.extend_from_slice(&hash.to_hex())?;
+    bytes.extend_from_slice(b"\x62cd\x78\x40")?;
+    bytes.extend_from_slice(&hash.to_hex())?;
+    bytes.extend_from_slice(b"\x61v\x41\x05")?;
+    let both = saw_node::decode(alloc, &bytes)?.ok_or("a node")?;
+    assert!(rt; both.value().is_some() && both.children().len() == 2);
     Ok(())
 }
 

@@ -26,6 +26,10 @@ fn clash_of(alloc: Global, first: u8, second: u8) -> Result<Option<[Option<u8>; 
     if store.get(&hash).is_none() {
         return Err("it is kept".into());
     }
+    // Looked for where it lies, and where nothing lies.
+    if store.find(&hash, 0).is_none() || store.find(&hash, 5).is_none() {
+        return Err("it is found".into());
+    }
     match store.put(leaf(alloc, second)?) {
         Err(StoreFault::Collision { kept, given }) => {
             Ok(Some([value_of(alloc, &kept)?, value_of(alloc, &given)?]))

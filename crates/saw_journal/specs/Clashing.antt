@@ -4,7 +4,7 @@ use Rattle.saw_address.specs.Maps.{StateMap}
 use Rattle.saw_context.specs.Outcome.{Processors}
 use Rattle.saw_merkle.specs.Clashes.{IsClashFor}
 use Rattle.saw_merkle.specs.States.{States}
-use Rattle.saw_node.specs.declared.node.Node.{Node}
+use Rattle.saw_node.specs.Contents.{Node}
 use Rattle.saw_receipts.specs.declared.block.BlockRecord.{BlockRecord}
 use Rattle.saw_store.specs.declared.fault.StoreFault.TheVariants.{Collision}
 use Rattle.saw_journal.specs.Judgement.{Rules, rules_with, would_leave}

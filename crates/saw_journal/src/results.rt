@@ -60,7 +60,7 @@ pub(crate) fn batch_records(
     ensures { IfOk result (λ made.
         made ≡ batch_records batches.now results.now.batches) }
 {
-    let mut made = Items::new(alloc);
+    let mut made = Items::from_vec(Vec::with_capacity(alloc, batches.len())?);
     for (batch, done) in batches.iter().zip(results.batches.as_slice()) {
         made.push(batch_record(alloc, batch, done)?)?;
     }

@@ -9,7 +9,7 @@ use Rattle.saw_address.specs.Maps.{StateMap, value_at, is_address}
 use Rattle.saw_address.specs.Prefixes.{covers}
 use Rattle.saw_node.specs.Nodes.{Shape, encoding_of, shape_of, pair_of}
 use Rattle.saw_node.specs.declared.node.Child.{Child}
-use Rattle.saw_node.specs.declared.node.Node.{Node}
+use Rattle.saw_node.specs.Contents.{Node}
 use Rattle.saw_node.specs.Trees.{found_at, has_under, node_at}
 use Rattle.saw_node.proofs.Places.{covers-append}
 use Rattle.std.proofs.lemmas.List.{take-append-drop}

@@ -5,7 +5,7 @@ use Rattle.std.specs.FinMap as finite
 use Rattle.saw_address.specs.Maps.{Entries, StateMap, no_entries}
 use Rattle.saw_node.specs.Nodes.{pair_of, shape_of}
 use Rattle.saw_node.specs.declared.node.Child.{Child}
-use Rattle.saw_node.specs.declared.node.Node.{Node}
+use Rattle.saw_node.specs.Contents.{Node}
 use Rattle.saw_store.specs.Stores.{Nodes, kept_at}
 use Rattle.saw_merkle.specs.Children.{children_in}
 use Rattle.saw_merkle.specs.Reading.{entry_at, leaf_entries, read_below, with_entries}

@@ -1,8 +1,6 @@
 -- Children that are made anew in one pass.
 use Rattle.std.proofs.Common.{◌≡◌, ℕ, zero, suc, ◌+◌, ◌-◌, ◌<◌, ◌≤◌, cond, List, [], ◌∷◌, ◌++◌, length, map, take, drop, get_or, refl, sym, ap, ◌∙◌, subst, arith, append_assoc, Option, Some, None, inl, inr}
 use Rattle.std.specs.List.{AllByRecursion}
-use Rattle.std.specs.List.Sorted.{IsStrictlySortedBy}
-use Rattle.std.specs.Ordering.{nat_cmp}
 use Rattle.saw_node.specs.Nodes.{pair_of}
 use Rattle.saw_node.specs.declared.node.Child.{Child}
 use Rattle.saw_merkle.specs.Children.{front_at, in_front}
@@ -39,10 +37,6 @@ from_at b (x ∷ kept) (suc i) d lt le = from_at b kept i d (omega (arith, lt)) 
 pub from_end : (b : ℕ) (kept : List Child) → IsFrom b (drop (length kept) kept)
 from_end b [] = tt
 from_end b (x ∷ kept) = from_end b kept
-
-pub none_rising : IsStrictlySortedBy nat_cmp []
-unfolding IsStrictlySortedBy
-none_rising = tt
 
 -- ---- the child at a byte
 

@@ -11,7 +11,7 @@ ghost use Rattle.saw_merkle.specs.Merges.{shown};
 use crate::children::{Merge, NOWHERE, old_children};
 use crate::single::changed_one;
 use saw_messages::Change;
-use saw_node::{Child, Children, Node, NodeHash, NodeHasher};
+use saw_node::{Node, NodeHash, NodeHasher};
 use saw_store::{NewNode, NodeStore, hash_of_node};
 use saw_wire::Bytes;
 use std::alloc::{AllocError, Global};
@@ -75,7 +75,7 @@ pub(crate) fn changed_leaf<H: NodeHasher>(
                 return Ok(*before);
             }
             let value = value.try_clone(alloc)?;
-            let hash = add_node::<H>(alloc, leaf(alloc, value), news)?;
+            let hash = add_node::<H>(alloc, Node::leaf(value), news)?;
             Ok(Some(hash))
         }
     }
@@ -89,7 +89,7 @@ fn has_value<H>(store: &NodeStore<H>, before: &Option<NodeHash>, near: usize, va
         None => false,
         Some(hash) => match store.find(hash, near) {
             None => false,
-            Some((_, node)) => match &node.value {
+            Some((_, node)) => match node.value() {
                 None => false,
                 Some(kept) => kept == value,
             },
@@ -117,7 +117,7 @@ pub(crate) fn changed_node<H: NodeHasher>(
     if merge.same {
         return Ok(*before);
     }
-    let hash = add_node::<H>(alloc, above(merge.made), news)?;
+    let hash = add_node::<H>(alloc, Node::above(merge.made), news)?;
     Ok(Some(hash))
 }
 
@@ -131,25 +131,6 @@ pub(crate) fn add_node<H: NodeHasher>(
     let hash = hash_of_node::<H>(alloc, &node)?;
     news.push(NewNode { hash, node })?;
     Ok(hash)
-}
-
-pub(crate) fn leaf(alloc: Global, value: Bytes) -> Node
-    ensures { shape_of result ≡ record { value = Some value; children = [] } }
-{
-    Node {
-        value: Some(value),
-        children: Children::new(alloc),
-    }
-}
-
-fn above(children: Vec<Child>) -> Node
-    requires { IsStrictlySortedBy nat_cmp (map (λ child. child.byte) children.items) }
-    ensures { shape_of result ≡ record { value = None; children = map pair_of children.items } }
-{
-    Node {
-        value: None,
-        children: Children::from_vec(children),
-    }
 }
 
 /// Where the changes end that have the same byte at this depth as the one at `at`.

@@ -145,7 +145,7 @@ pub(crate) fn old_children<'a, H>(store: &'a NodeStore<H>, before: &Option<NodeH
         None => &[],
         Some(hash) => match store.get(hash) {
             None => &[],
-            Some(node) => node.children.as_slice(),
+            Some(node) => node.children(),
         },
     }
 }
@@ -163,7 +163,7 @@ pub(crate) fn children_near<'a, H>(
         None => (NOWHERE, &[]),
         Some(hash) => match store.find(hash, near) {
             None => (NOWHERE, &[]),
-            Some((place, node)) => (place, node.children.as_slice()),
+            Some((place, node)) => (place, node.children()),
         },
     }
 }

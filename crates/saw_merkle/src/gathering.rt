@@ -44,10 +44,10 @@ fn gather<H>(
     if levels == 0 {
         return gather_value(alloc, node, place, map);
     }
-    let mut at = node.children.len();
+    let mut at = node.children().len();
     while at > 0 {
         at -= 1;
-        let child = &node.children.as_slice()[at];
+        let child = &node.children()[at];
         let mut below = place;
         below[35 - levels as usize] = child.byte;
         gather(alloc, store, &child.hash, below, levels - 1, map)?;
@@ -65,7 +65,7 @@ fn gather_value(
     ensures { OnOk result (map_of map.new.entries
         ≡ with_entries (map_of map.old.entries) (entry_at place node.now.value)) }
 {
-    if let Some(value) = &node.value {
+    if let Some(value) = node.value() {
         map.insert(Address::new(place), value.try_clone(alloc)?)?;
     }
     Ok(())

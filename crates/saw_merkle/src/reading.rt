@@ -24,7 +24,7 @@ pub(crate) fn value_below<'a, H>(
         let byte = bytes[i];
         match store.get(&hash) {
             None => return None,
-            Some(node) => match child_at(node.children.as_slice(), byte) {
+            Some(node) => match child_at(node.children(), byte) {
                 None => return None,
                 Some(child) => hash = child,
             },
@@ -32,7 +32,7 @@ pub(crate) fn value_below<'a, H>(
     }
     match store.get(&hash) {
         None => None,
-        Some(node) => match &node.value {
+        Some(node) => match node.value() {
             None => None,
             Some(value) => Some(value.as_slice()),
         },

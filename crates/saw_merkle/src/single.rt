@@ -6,10 +6,10 @@ ghost use Rattle.saw_node.specs.Nodes.{pair_of, shape_of};
 ghost use Rattle.saw_store.specs.Stores.{Nodes};
 ghost use Rattle.saw_merkle.specs.Changes.{ChangesBelow, EndsAbove, FitsSome};
 
-use crate::changing::{add_node, changed_leaf, changed_node, leaf};
+use crate::changing::{add_node, changed_leaf, changed_node};
 use crate::children::{Merge, NOWHERE, children_near};
 use saw_messages::Change;
-use saw_node::{Child, Children, Node, NodeHash, NodeHasher};
+use saw_node::{Child, Node, NodeHash, NodeHasher};
 use saw_store::{NewNode, NodeStore};
 use std::alloc::{AllocError, Global};
 
@@ -80,12 +80,12 @@ fn grown<H: NodeHasher>(
         return Ok(None);
     };
     let value = value.try_clone(alloc)?;
-    let mut hash = add_node::<H>(alloc, leaf(alloc, value), news)?;
+    let mut hash = add_node::<H>(alloc, Node::leaf(value), news)?;
     let mut depth = 35;
     while depth > 35 - levels as usize {
         depth -= 1;
         let byte = change.address.as_slice()[depth];
-        hash = add_node::<H>(alloc, above_one(Child { byte, hash }), news)?;
+        hash = add_node::<H>(alloc, Node::above_one(Child { byte, hash }), news)?;
     }
     Ok(Some(hash))
 }
@@ -108,18 +108,9 @@ fn changed_above<H: NodeHasher>(
             if *hash == kept {
                 return Ok(*before);
             }
-            let hash = add_node::<H>(alloc, above_one(Child { byte, hash: *hash }), news)?;
+            let hash = add_node::<H>(alloc, Node::above_one(Child { byte, hash: *hash }), news)?;
             Ok(Some(hash))
         }
-    }
-}
-
-fn above_one(child: Child) -> Node
-    ensures { shape_of result ≡ record { value = None; children = pair_of child ∷ [] } }
-{
-    Node {
-        value: None,
-        children: Children::one(child),
     }
 }
 

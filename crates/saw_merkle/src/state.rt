@@ -17,7 +17,7 @@ use crate::prepared::Prepared;
 use crate::rooting::{changed_root, show_addresses};
 use crate::tree::Tree;
 use saw_messages::Change;
-use saw_node::{Children, Node, NodeHash, NodeHasher};
+use saw_node::{Node, NodeHash, NodeHasher};
 use saw_store::{NewNode, NodeStore, StoreFault};
 use saw_wire::Items;
 use std::alloc::{AllocError, Global};
@@ -53,16 +53,6 @@ impl<H: NodeHasher> Model for State<H> {
     ghost invariant = { λ s. IsSound H.hash_of s.store s.roots.keys s.empty s.flat };
 }
 
-// The node of the empty map's root.
-fn empty_node(alloc: Global) -> Node
-    ensures { shape_of result ≡ record { value = None; children = [] } }
-{
-    Node {
-        value: None,
-        children: Children::new(alloc),
-    }
-}
-
 // Keeps nodes and makes a root known, or neither.
 fn join<H: NodeHasher>(
     store: &mut NodeStore<H>,
@@ -92,7 +82,7 @@ impl<H: NodeHasher> State<H> {
         ensures { IfOk result (λ s. s ≡ knows H.hash_of finite.empty no_entries) }
     {
         let mut store = NodeStore::<H>::new(alloc)?;
-        let Ok(empty) = store.put(empty_node(alloc)) else {
+        let Ok(empty) = store.put(Node::empty(alloc)) else {
             return Err(AllocError);
         };
         let mut roots = BTreeSet::new(alloc);

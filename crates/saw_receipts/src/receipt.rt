@@ -35,7 +35,7 @@ fn told(alloc: Global, change: &Change) -> Result<StateChange, AllocError>
 fn all_told(alloc: Global, changes: &[Change]) -> Result<Items<StateChange>, AllocError>
     ensures { IfOk result (λ made. made ≡ map told changes.now) }
 {
-    let mut made = Items::new(alloc);
+    let mut made = Items::from_vec(Vec::with_capacity(alloc, changes.len())?);
     for change in changes {
         made.push(told(alloc, change)?)?;
     }
@@ -45,7 +45,7 @@ fn all_told(alloc: Global, changes: &[Change]) -> Result<Items<StateChange>, All
 fn copies(alloc: Global, events: &[Event]) -> Result<Items<Event>, AllocError>
     ensures { IfOk result (λ made. made ≡ events.now) }
 {
-    let mut made = Items::new(alloc);
+    let mut made = Items::from_vec(Vec::with_capacity(alloc, events.len())?);
     for event in events {
         made.push(event.try_clone(alloc)?)?;
     }
@@ -78,7 +78,7 @@ pub fn batch_receipts(
 ) -> Result<Vec<Receipt>, AllocError>
     ensures { IfOk result (λ made. made.items ≡ receipts (ids_of batch.now.txs) outcomes.now) }
 {
-    let mut made = Vec::new(alloc);
+    let mut made = Vec::with_capacity(alloc, outcomes.len())?;
     for (tx, outcome) in batch.txs.as_slice().iter().zip(outcomes) {
         if let Outcome::Ok { changes, events } = outcome {
             made.push(receipt_of(alloc, &tx.id, changes.as_slice(), events.as_slice())?)?;

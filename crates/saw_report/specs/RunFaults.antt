@@ -8,7 +8,7 @@ use Rattle.saw_io.specs.declared.fault.ShelfFault.TheVariants as shelves
 use Rattle.saw_io.specs.declared.fault.SinkFault.{SinkFault}
 use Rattle.saw_io.specs.declared.fault.SinkFault.TheVariants as sinks
 use Rattle.saw_node.specs.Nodes.{encoding_of, shape_of}
-use Rattle.saw_node.specs.declared.node.Node.{Node}
+use Rattle.saw_node.specs.Contents.{Node}
 use Rattle.saw_verify.specs.declared.attest.AttestFault.{AttestFault}
 use Rattle.saw_verify.specs.declared.attest.AttestFault.TheVariants as lists
 use Rattle.saw_wire.specs.declared.fault.MessageFault.{MessageFault}

@@ -7,7 +7,7 @@ use Rattle.std.proofs.lemmas.Bool.Decides.{Decides-eqb, Decides-and, Decides-lik
 use Rattle.std.proofs.lemmas.Slice.Eq.{slice_eq-Decides, bytes_eq-Decides}
 use Rattle.saw_node.specs.Nodes.{Shape, pair_of, shape_of}
 use Rattle.saw_node.specs.declared.node.Child.{Child}
-use Rattle.saw_node.specs.declared.node.Node.{Node}
+use Rattle.saw_node.specs.Contents.{Node}
 
 abbrev same_child : Child → Child → Bool
 same_child x y = nat_eq x.byte y.byte && bytes_eq x.hash y.hash

@@ -11,7 +11,7 @@ use Rattle.std.specs.Str.{bytes_eq}
 use Rattle.std.specs.FinMap as finite
 use Rattle.std.proofs.lemmas.Map.Lookups.{exact_bytes}
 use Rattle.saw_node.specs.Nodes.{Shape, encoding_of, shape_of}
-use Rattle.saw_node.specs.declared.node.Node.{Node}
+use Rattle.saw_node.specs.Contents.{Node}
 use Rattle.saw_node.proofs.Found.{tie}
 use Rattle.saw_store.specs.Stores.{Kept, Nodes, kept_of, shape_from, kept_at, with_node, shown, IsFree}
 

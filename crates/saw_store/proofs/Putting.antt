@@ -2,7 +2,7 @@
 use Rattle.std.proofs.Common.{◌≡◌, ℕ, cond, List, ◌∷◌, refl, ap, ◌∙◌, subst, Some}
 use Rattle.std.specs.Map.{lookup}
 use Rattle.std.specs.Str.{bytes_eq}
-use Rattle.saw_node.specs.declared.node.Node.{Node}
+use Rattle.saw_node.specs.Contents.{Node}
 use Rattle.saw_store.specs.News.{AreNamed, with_all}
 use Rattle.saw_store.specs.Stores.{shown}
 use Rattle.saw_store.specs.declared.new_node.NewNode.{NewNode}

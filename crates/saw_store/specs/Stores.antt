@@ -6,7 +6,7 @@ use Rattle.std.specs.Cmp.Lexicographic.{slice_cmp}
 use Rattle.std.specs.Coded.{Coded, coded_list, coded_ℕ, coded×, coded_option}
 use Rattle.std.specs.FinMap as finite
 use Rattle.saw_node.specs.Nodes.{Shape, encoding_of, shape_of}
-use Rattle.saw_node.specs.declared.node.Node.{Node}
+use Rattle.saw_node.specs.Contents.{Node}
 use Rattle.saw_store.specs.declared.fault.StoreFault.{StoreFault}
 use Rattle.saw_store.specs.declared.fault.StoreFault.TheVariants.{Collision, OutOfMemory}
 

@@ -12,7 +12,7 @@ ghost use Rattle.saw_store.specs.Stores.{IsClash, IsFree, kept_at, shown, with_n
 
 use crate::{NewNode, StoreFault};
 use indexmap::IndexMap;
-use saw_node::{Child, Children, Node, NodeHash, NodeHasher, encode, encode_one_child};
+use saw_node::{Child, Node, NodeHash, NodeHasher, encode, encode_one_child};
 use saw_wire::Bytes;
 use std::alloc::{AllocError, Global};
 use std::collections::HashMap;
@@ -200,7 +200,7 @@ pub fn hash_of_node<H: NodeHasher>(alloc: Global, node: &Node) -> Result<NodeHas
     ensures { IfOk result (λ hash. hash ≡ H.hash_of (encoding_of (shape_of node.now))) }
 {
     // Nearly all nodes have one child and no value; their encoding takes no memory.
-    if let (None, [child]) = (&node.value, node.children.as_slice()) {
+    if let (None, [child]) = (node.value(), node.children()) {
         return Ok(H::hash(&encode_one_child(child)));
     }
     let encoding = encode(alloc, node)?;
@@ -211,8 +211,7 @@ pub fn hash_of_node<H: NodeHasher>(alloc: Global, node: &Node) -> Result<NodeHas
 fn is_same(first: &Node, second: &Node) -> bool
     ensures { IsTrue result ↔ (shape_of first.now ≡ shape_of second.now) }
 {
-    is_same_value(&first.value, &second.value)
-        && first.children.as_slice() == second.children.as_slice()
+    is_same_value(first.value(), second.value()) && first.children() == second.children()
 }
 
 // Whether two nodes of one hash are the same. `Collision`: they differ.
@@ -228,8 +227,8 @@ fn test_same(alloc: Global, kept: &Node, given: &Node) -> Result<(), StoreFault>
     Err(StoreFault::Collision { kept, given })
 }
 
-fn is_same_value(first: &Option<Bytes>, second: &Option<Bytes>) -> bool
-    ensures { IsTrue result ↔ (first.now ≡ second.now) }
+fn is_same_value(first: Option<&Bytes>, second: Option<&Bytes>) -> bool
+    ensures { IsTrue result ↔ (option_copied first.entry ≡ option_copied second.entry) }
 {
     match (first, second) {
         (None, None) => true,
@@ -242,15 +241,12 @@ fn is_same_value(first: &Option<Bytes>, second: &Option<Bytes>) -> bool
 fn copied(alloc: Global, node: &Node) -> Result<Node, AllocError>
     ensures { IfOk result (λ copy. shape_of copy ≡ shape_of node.now) }
 {
-    let children = copied_children(alloc, node.children.as_slice())?;
-    let value = match &node.value {
+    let children = copied_children(alloc, node.children())?;
+    let value = match node.value() {
         None => None,
         Some(value) => Some(value.try_clone(alloc)?),
     };
-    Ok(Node {
-        value,
-        children: Children::from_vec(children),
-    })
+    Node::new(alloc, value, children)
 }
 
 // The same children anew.

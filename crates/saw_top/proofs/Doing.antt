@@ -15,7 +15,7 @@ use Rattle.saw_journal.specs.Judgement.{Kept, Rules, rules_with}
 use Rattle.saw_journal.specs.Ledger.{Ledger, map_under}
 use Rattle.saw_merkle.specs.States.{States}
 use Rattle.saw_node.specs.Hashes.{first_half}
-use Rattle.saw_node.specs.declared.node.Node.{Node}
+use Rattle.saw_node.specs.Contents.{Node}
 use Rattle.saw_receipts.specs.Running.{Runs}
 use Rattle.saw_receipts.specs.declared.block.BlockRecord.{BlockRecord}
 use Rattle.saw_report.specs.Lines.{head_line}

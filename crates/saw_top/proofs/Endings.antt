@@ -14,7 +14,7 @@ use Rattle.saw_top.specs.Answers.{Prepared, answer_by, answer_to, prepared, task
 use Rattle.saw_top.specs.Command.{Asked, Generate, Judge, Wish, asked_of}
 use Rattle.saw_top.specs.EndingFaults.{is_told}
 use Rattle.saw_top.specs.Headline.{Carries, CarriesOut, EndsBy, Gives, HasCause, HasEnded, HasFault, IsAnswered, IsToldFor, IsWhole, ShowsBy, TellsEnd, TellsFault, WhereRead, WritesBy}
-use Rattle.saw_node.specs.declared.node.Node.{Node}
+use Rattle.saw_node.specs.Contents.{Node}
 use Rattle.saw_top.specs.Outside.{End, Outside, SomeFailed, sides_of}
 use Rattle.saw_top.specs.Run.{Answer, line_by, whole}
 use Rattle.saw_top.specs.Telling.{IsTold}

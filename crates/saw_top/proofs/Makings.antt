@@ -8,7 +8,7 @@ use Rattle.saw_journal.specs.Ledger.{Ledger}
 use Rattle.saw_merkle.specs.States.{States}
 use Rattle.saw_messages.specs.declared.batch.Batch.{Batch}
 use Rattle.saw_node.specs.Hashes.{first_half}
-use Rattle.saw_node.specs.declared.node.Node.{Node}
+use Rattle.saw_node.specs.Contents.{Node}
 use Rattle.saw_publish.specs.Building.{Builds}
 use Rattle.saw_publish.specs.Candidates.{Signing, content_of}
 use Rattle.saw_publish.specs.Drafts.{Draft}

@@ -20,7 +20,7 @@ use Rattle.saw_merkle.specs.States.{Stays}
 use Rattle.saw_node.specs.Hashes.{first_half}
 use Rattle.saw_node.specs.Nodes.{Shape, shape_of}
 use Rattle.saw_node.specs.Trees.{IsNodeOf}
-use Rattle.saw_node.specs.declared.node.Node.{Node}
+use Rattle.saw_node.specs.Contents.{Node}
 use Rattle.saw_context.specs.Outcome.{Processors}
 use Rattle.saw_receipts.specs.Running.{Runs, RunsBy}
 use Rattle.saw_receipts.specs.declared.verdict.Verdict.{Verdict}

@@ -9,7 +9,7 @@ use Rattle.saw_journal.specs.Ledger.{Ledger}
 use Rattle.saw_node.specs.Hashes.{first_half}
 use Rattle.saw_node.specs.Nodes.{encoding_of, shape_of}
 use Rattle.saw_node.specs.Trees.{IsNodeOf}
-use Rattle.saw_node.specs.declared.node.Node.{Node}
+use Rattle.saw_node.specs.Contents.{Node}
 use Rattle.saw_receipts.specs.Running.{Runs, RunsBy}
 use Rattle.saw_report.specs.declared.run_fault.RunFault.{RunFault}
 use Rattle.saw_report.specs.declared.run_fault.RunFault.TheVariants.{Blocks, Collision, Memory, Peer}

@@ -9,7 +9,7 @@ use Rattle.saw_journal.specs.Ledger.{Ledger, map_under}
 use Rattle.saw_merkle.specs.Clashes.{IsClashFor}
 use Rattle.saw_messages.specs.declared.batch.Batch.{Batch as BatchMessage}
 use Rattle.saw_node.specs.Hashes.{first_half}
-use Rattle.saw_node.specs.declared.node.Node.{Node}
+use Rattle.saw_node.specs.Contents.{Node}
 use Rattle.saw_publish.specs.Building.{map_before}
 use Rattle.saw_publish.specs.Drafts.{Draft, draft_of}
 use Rattle.saw_receipts.specs.Branches.{ids_in}

@@ -7,7 +7,7 @@ use Rattle.saw_faults.specs.Counts.{Rose}
 use Rattle.saw_io.specs.Frame.{IsPart}
 use Rattle.saw_io.specs.Shelf.{Files}
 use Rattle.saw_node.specs.Hashes.{first_half}
-use Rattle.saw_node.specs.declared.node.Node.{Node}
+use Rattle.saw_node.specs.Contents.{Node}
 use Rattle.saw_report.specs.RunFaults.{fault_line, status_of}
 use Rattle.saw_report.specs.declared.run_fault.RunFault.{RunFault}
 use Rattle.saw_report.specs.declared.run_fault.RunFault.TheVariants.{Words, Truncated, TooLong, Read, Write, Peer, Collision, Memory, FileMissing, FileTooLong, FileFailed, BadLine, BadList}

@@ -5,7 +5,7 @@ use Rattle.saw_address.specs.Maps.{StateMap}
 use Rattle.saw_io.specs.Frame.{frame_at, IsPart}
 use Rattle.saw_journal.specs.Ledger.{Ledger}
 use Rattle.saw_node.specs.Hashes.{first_half}
-use Rattle.saw_node.specs.declared.node.Node.{Node}
+use Rattle.saw_node.specs.Contents.{Node}
 use Rattle.saw_receipts.specs.Running.{Runs, RunsBy}
 use Rattle.saw_top.specs.History.{maps_of, some_refused, tried}
 use Rattle.saw_top.specs.Limits.{max_frames, max_length}

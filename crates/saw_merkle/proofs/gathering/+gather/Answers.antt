@@ -24,15 +24,15 @@ loop-at-preserved g t c =
     let some = c.loop-at-test.true in
     let least = c.loop-at.invariant.0 in
     let children = c.in-Some.node.now.children in
-    let child = c.index-as_slice-at.result in
+    let child = c.index-children-at.result in
     let levels = c.args.levels in
     let deep : levels ≢ 0 = c.if-levels-eq0.false in
     let at = c.loop-at.at - 1 in (
       omega (arith, some, least),
       one_more c.args.store.now (levels - 1) (take (35 - levels) c.args.place) (take (35 - (levels - 1)) (slice_set c.args.place (35 - levels) child.byte))
           (map_of c.args.map.now.entries) (map_of c.loop-at.map.entries) (map_of c.gather.new.map.entries) children c.loop-at.at at child
-          (omega (arith, some)) (omega (arith, some, least)) (ap (λ (cs : List Child). get_or cs at child) (sym c.as_slice.ensures)
-          ∙ sym c.index-as_slice-at.is)
+          (omega (arith, some)) (omega (arith, some, least)) (ap (λ (cs : List Child). get_or cs at child) (sym c.children.ensures.same)
+          ∙ sym c.index-children-at.is)
           (child_place c.args.place levels child.byte c.requires.whole deep c.requires.deep)
           c.loop-at.invariant.1 c.in_ok-gather.ensures,
     )

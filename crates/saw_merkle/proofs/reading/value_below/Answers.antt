@@ -1,4 +1,4 @@
-use Rattle.std.proofs.Common.{sym, ◌∙◌, ap, arith, refl, Some}
+use Rattle.std.proofs.Common.{◌∙◌, ap, arith, refl, Some}
 use Rattle.saw_merkle.proofs.Descent.{leads_missing, leads_on, leads_nowhere, leads_home}
 use Rattle.saw_merkle.proofs.reading.value_below.Goals as goal
 
@@ -9,14 +9,14 @@ returns-in-None g c = λ hash. leads_missing hash c.args.store.now c.args.root.n
 pub returns-in-None-child_at : goal.returns-in-None-child_at
 returns-in-None-child_at g c = λ hash.
     leads_nowhere hash c.args.store.now c.args.root.now c.args.at.now c.loop-i.i c.loop-i.hash (c.loop-i.invariant hash) c.in-Some.node.now
-    c.as_slice.result.now c.as_slice-bytes.result.now _
-    c.as_slice-bytes.ensures.is c.loop-i-test.true c.in-Some.ensures c.as_slice.ensures c.as_slice-bytes.ensures.bytes refl c.in-None-child_at.ensures
+    c.children.result.now c.as_slice-bytes.result.now _
+    c.as_slice-bytes.ensures.is c.loop-i-test.true c.in-Some.ensures c.children.ensures.same c.as_slice-bytes.ensures.bytes refl c.in-None-child_at.ensures
 
 pub loop-i-preserved : goal.loop-i-preserved
 loop-i-preserved g c = λ hash.
-    leads_on hash c.args.store.now c.args.root.now c.args.at.now c.loop-i.i c.loop-i.hash (c.loop-i.invariant hash) c.in-Some.node.now c.as_slice.result.now
+    leads_on hash c.args.store.now c.args.root.now c.args.at.now c.loop-i.i c.loop-i.hash (c.loop-i.invariant hash) c.in-Some.node.now c.children.result.now
     c.as_slice-bytes.result.now _ c.in-Some-child_at.child
-    c.as_slice-bytes.ensures.is c.loop-i-test.true c.in-Some.ensures c.as_slice.ensures c.as_slice-bytes.ensures.bytes refl c.in-Some-child_at.ensures
+    c.as_slice-bytes.ensures.is c.loop-i-test.true c.in-Some.ensures c.children.ensures.same c.as_slice-bytes.ensures.bytes refl c.in-Some-child_at.ensures
 
 pub returns-in-None-get : goal.returns-in-None-get
 returns-in-None-get g c = λ hash. leads_missing hash c.args.store.now c.args.root.now c.args.at.now c.loop-i.i c.loop-i.hash (c.loop-i.invariant hash)
@@ -24,12 +24,12 @@ returns-in-None-get g c = λ hash. leads_missing hash c.args.store.now c.args.ro
 
 pub returns-in-None-value : goal.returns-in-None-value
 returns-in-None-value g c = λ hash m is.
-    sym c.in-None-value.is
+    c.in-None-value.ensures
     ∙ leads_home hash c.args.store.now c.args.root.now c.args.at.now c.loop-i.i c.loop-i.hash (c.loop-i.invariant hash) c.in-Some-get.node.now
     c.as_slice-bytes.ensures.is (omega arith) c.in-Some-get.ensures m is
 
 pub returns-in-Some-value : goal.returns-in-Some-value
 returns-in-Some-value g c = λ hash m is.
-    ap Some c.as_slice-in-Some-value.ensures ∙ sym c.in-Some-value.is
+    ap Some c.as_slice.ensures ∙ c.in-Some-value.ensures
     ∙ leads_home hash c.args.store.now c.args.root.now c.args.at.now c.loop-i.i c.loop-i.hash (c.loop-i.invariant hash) c.in-Some-get.node.now
     c.as_slice-bytes.ensures.is (omega arith) c.in-Some-get.ensures m is

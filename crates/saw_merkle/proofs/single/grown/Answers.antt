@@ -1,4 +1,5 @@
 use Rattle.std.proofs.Common.{◌≡◌, ◌-◌, ◌∷◌, [], length, get_or, None, Some, sym, ◌∙◌, ap, subst, arith}
+use Rattle.saw_node.specs.Nodes.{shape_of}
 use Rattle.saw_merkle.specs.Changes.{AddsNode, ChangesBelow}
 use Rattle.saw_merkle.proofs.OneChange.{leaf_grown, more_grown, none_grown}
 use Rattle.saw_merkle.proofs.single.grown.Goals as goal
@@ -14,7 +15,7 @@ loop-depth-init g c = (
   λ nodes.
       leaf_grown g.H.NodeHasher.hash_of nodes c.args.change.now c.in_ok-value.value c.in_ok-hash.hash c.args.news.now.items c.add_node.new.news.items
       (c.in-Some.is ∙ ap Some (sym c.in_ok-value.ensures))
-      (subst (λ s. AddsNode g.H.NodeHasher.hash_of s c.in_ok-hash.hash c.args.news.now.items c.add_node.new.news.items) c.leaf.ensures c.in_ok-hash.ensures),
+      (subst (λ s. AddsNode g.H.NodeHasher.hash_of s c.in_ok-hash.hash c.args.news.now.items c.add_node.new.news.items) (ap shape_of c.leaf.ensures) c.in_ok-hash.ensures),
 )
 
 pub bounds-as_slice-depth : goal.bounds-as_slice-depth
@@ -39,7 +40,7 @@ loop-depth-preserved g c =
           c.loop-depth.news.items c.add_node-in-loop-depth.new.news.items (omega (arith, more)) deep
           c.as_slice.ensures.is (ap (λ bytes. get_or bytes (c.loop-depth.depth - 1) 0) c.as_slice.ensures.bytes)
           (c.loop-depth.invariant.2 nodes)
-          (subst (λ s. AddsNode g.H.NodeHasher.hash_of s c.in_ok-hash-2.hash c.loop-depth.news.items c.add_node-in-loop-depth.new.news.items) c.above_one.ensures
+          (subst (λ s. AddsNode g.H.NodeHasher.hash_of s c.in_ok-hash-2.hash c.loop-depth.news.items c.add_node-in-loop-depth.new.news.items) (ap shape_of c.above_one.ensures)
           c.in_ok-hash-2.ensures),
     )
 
