@@ -38,16 +38,16 @@ returns-clause-does g c =
     (g.V.Verifier.accepts c.args.verifier.now)
     (record { key = g.G.Signer.key_text c.args.signer.now; signature = g.G.Signer.signature c.args.signer.now }) c.args.batches.now
     _ _ c.judge_lines.new.journal c.in_ok-refused.refused (c.in_ok-refused.ensures.judges held new_held)
-    (sink_end g.O.Sink c.finish.new.output) (sink_end g.N.Sink c.finish.new.notes) (counts_of g.R.Station.faults c.finish.new.desks)
-    (rose_since g.R.Station.faults g.R.Station.offered c.args.desks.now c.judge_lines.new.desks _ keeps) c.finish.result
-    (rw same at c.finish.ensures.finishes)
+    (sink_end g.O.Sink c.finish-came.new.output) (sink_end g.N.Sink c.finish-came.new.notes) (counts_of g.R.Station.faults c.finish-came.new.desks)
+    (rose_since g.R.Station.faults g.R.Station.offered c.args.desks.now c.judge_lines.new.desks _ keeps) c.finish-came.result
+    (rw same at c.finish-came.ensures.finishes)
 
-pub finish-requires-clause-some : goal.finish-requires-clause-some
-finish-requires-clause-some g c = λ κs alive.
+pub finish-came-requires-clause-some : goal.finish-came-requires-clause-some
+finish-came-requires-clause-some g c = λ κs alive.
     kept_some g.R.Station.faults g.R.Station.offered c.args.desks.now c.judge_lines.new.desks c.in_ok-refused.ensures.desks c.requires.some
 
-pub finish-requires-clause-alike : goal.finish-requires-clause-alike
-finish-requires-clause-alike g c = λ κs alive.
+pub finish-came-requires-clause-alike : goal.finish-came-requires-clause-alike
+finish-came-requires-clause-alike g c = λ κs alive.
     kept_alike g.R.Station.faults g.R.Station.offered c.args.desks.now c.judge_lines.new.desks c.in_ok-refused.ensures.desks c.requires.alike
 
 pub returns-in_err-journal-clause-desks : goal.returns-in_err-journal-clause-desks
@@ -55,5 +55,5 @@ returns-in_err-journal-clause-desks g c = keep_all g.R.Station.faults g.R.Statio
 
 pub returns-clause-desks : goal.returns-clause-desks
 returns-clause-desks g c =
-    keeps_all_trans g.R.Station.faults g.R.Station.offered c.args.desks.now c.judge_lines.new.desks c.finish.new.desks
-    c.in_ok-refused.ensures.desks c.finish.ensures.desks
+    keeps_all_trans g.R.Station.faults g.R.Station.offered c.args.desks.now c.judge_lines.new.desks c.finish-came.new.desks
+    c.in_ok-refused.ensures.desks c.finish-came.ensures.desks
