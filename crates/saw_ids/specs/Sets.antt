@@ -1,17 +1,32 @@
 -- Sets of ids, by their bits.
-use Rattle.std.specs.Prelude.{◌≡◌, ℕ, ◌+◌, ◌*◌, ◌/◌, ◌%◌, ◌^◌, ◌==◌, ◌||◌, Bool, true, false, not, List, map}
+use Rattle.std.specs.Prelude.{◌≡◌, ℕ, ◌+◌, ◌*◌, ◌/◌, ◌%◌, ◌^◌, ◌==◌, ◌&&◌, ◌||◌, Bool, true, false, not, List, length, map, nat_le, take}
 use Rattle.std.specs.Prelude.{Option, Some, None, slice_get, bit_and, if◌then◌else◌}
 use Rattle.std.specs.Arc.{arc_value}
-use Rattle.std.specs.Global.{Global}
+use Rattle.std.specs.Int.{from_le_bytes, w64}
+use Rattle.std.specs.List.{list_any}
 use Rattle.std.specs.Str.{bytes_eq}
-use Rattle.std.specs.declared.sync.Arc.{Arc}
 use Rattle.saw_ids.specs.Seen.{is_among}
 use Rattle.saw_ids.specs.declared.set.IdSet.{IdSet}
+use Rattle.saw_ids.specs.declared.set.Marked.{Marked}
 use Rattle.saw_ids.specs.declared.set.Tree.{Tree, Few, Fork'}
 
--- the texts by themselves
-abbrev pub texts_of : List (Arc (List ℕ) Global) → List (List ℕ)
-texts_of ids = map arc_value ids
+-- the first eight bytes as a number; of less, 0
+unfoldable pub mark_of : List ℕ → ℕ
+mark_of id = if nat_le 8 (length id) then from_le_bytes w64 (take 8 id) else 0
+
+abbrev pub text_of : Marked → List ℕ
+text_of one = arc_value one.id
+
+-- a marked id by itself, and such ids
+abbrev pub entry_of : Marked → ℕ × List ℕ
+entry_of one = (one.mark, text_of one)
+
+abbrev pub entries_of : List Marked → List (ℕ × List ℕ)
+entries_of ids = map entry_of ids
+
+-- whether one of these has the mark of the id, and is it
+abbrev pub is_marked : List (ℕ × List ℕ) → List ℕ → Bool
+is_marked entries id = list_any (λ other. other.0 == mark_of id && bytes_eq other.1 id) entries
 
 -- a bit of the value of a hex digit; of none, 0
 abbrev pub bit_of : Option ℕ → ℕ → Bool
@@ -22,14 +37,14 @@ bit_of (Some digit) bit = bit_and ((bit_and digit 15 + 9 * (digit / 64)) / 2 ^ b
 unfoldable pub turns : List ℕ → ℕ → Bool
 turns id bit = bit_of (slice_get id (bit / 4)) (bit % 4)
 
--- whether an id goes this way
-abbrev pub goes : ℕ → Bool → List ℕ → Bool
-goes bit false id = not (turns id bit)
-goes bit true id = turns id bit
+-- whether a marked id goes this way
+abbrev pub goes : ℕ → Bool → ℕ × List ℕ → Bool
+goes bit false one = not (turns one.1 bit)
+goes bit true one = turns one.1 bit
 
 -- whether the tree has the id: each fork shows where it must be
 abbrev pub has : Tree → List ℕ → Bool
-has (Few bit ids) id = is_among (texts_of ids) id
+has (Few bit ids) id = is_marked (entries_of ids) id
 has (Fork' bit p zero q one) id = if turns id bit then has one id else has zero id
 
 -- the tree has what the other has, and this id

@@ -1,11 +1,11 @@
 //! Sets of ids of which many may stand side by side: a set with one id more shares all but a few nodes with the set before.
 
-ghost use Rattle.std.specs.Prelude.{◌≡◌, ◌==◌, ◌<◌, ◌++◌, ◌||◌, ◌∷◌, [], ℕ, List, filter, IfOk, OnErr, OnOk, true, false};
+ghost use Rattle.std.specs.Prelude.{◌≡◌, ◌==◌, ◌<◌, ◌++◌, ◌&&◌, ◌||◌, ◌∷◌, [], ℕ, List, filter, IfOk, OnErr, OnOk, true, false};
 ghost use Rattle.saw_ids.specs.Seen.{is_among};
 ghost use Rattle.std.specs.Arc.{arc_value};
 ghost use Rattle.std.specs.List.{list_any};
 ghost use Rattle.std.specs.Str.{bytes_eq};
-ghost use Rattle.saw_ids.specs.Sets.{HasIds, HasOneMore, HasSame, goes, has, texts_of, turns};
+ghost use Rattle.saw_ids.specs.Sets.{HasIds, HasOneMore, HasSame, entries_of, entry_of, goes, has, is_marked, mark_of, text_of, turns};
 
 use saw_wire::{Items, Text};
 use std::alloc::{AllocError, Global};
@@ -17,13 +17,20 @@ const FEW: usize = 8;
 // No fork looks at a bit from here on, so no walk is longer. Two ids of 128 hex digits differ before it.
 const DEEPEST: usize = 512;
 
+// An id, and its first bytes as a number, which tells nearly all apart with no look at the texts themselves.
+#[derive(Drop)]
+struct Marked {
+    mark: u64,
+    id: Arc<Text>,
+}
+
 // Ids by the bits of their digits. A fork parts ids by one bit; a few that went the same way so far lie side by side, and
 // are parted by the next bit when they become many.
 #[derive(Drop)]
 enum Tree {
     Few {
         bit: usize,
-        ids: Items<Arc<Text>>,
+        ids: Items<Marked>,
     },
     Fork {
         bit: usize,
@@ -49,45 +56,75 @@ fn turns(id: &str, bit: usize) -> bool
     }
 }
 
-fn is_one_of(ids: &[Arc<Text>], id: &Text) -> bool
-    ensures { result ≡ list_any (λ other. bytes_eq (arc_value other) id.now) ids.now }
+// The first eight bytes as a number; of less, 0.
+#[tactic(auto, unfolding(crate::specs::Sets::mark_of))]
+fn mark_of(id: &str) -> u64
+    ensures { result ≡ mark_of id.now }
 {
-    ids.iter().any(|other| **other == *id)
+    match id.as_bytes().first_chunk::<8>() {
+        None => 0,
+        Some(bytes) => u64::from_le_bytes(*bytes),
+    }
 }
 
-fn copy_of(alloc: Global, ids: &[Arc<Text>]) -> Result<Items<Arc<Text>>, AllocError>
-    ensures { IfOk result (λ copy. texts_of copy ≡ texts_of ids.now) }
+fn with_mark(id: &Arc<Text>) -> Result<Marked, AllocError>
+    ensures { IfOk result (λ made. entry_of made ≡ (mark_of (arc_value id.now), arc_value id.now)) }
+{
+    Ok(Marked {
+        mark: mark_of(id.as_str()),
+        id: Arc::try_clone(id)?,
+    })
+}
+
+fn is_this(other: &Marked, mark: u64, id: &Text) -> bool
+    ensures { result ≡ (other.now.mark == mark && bytes_eq (text_of other.now) id.now) }
+{
+    other.mark == mark && *other.id == *id
+}
+
+fn is_one_of(ids: &[Marked], mark: u64, id: &Text) -> bool
+    ensures { result ≡ list_any (λ other. other.mark == mark && bytes_eq (text_of other) id.now) ids.now }
+{
+    ids.iter().any(|other| is_this(other, mark, id))
+}
+
+fn again(one: &Marked) -> Result<Marked, AllocError>
+    ensures { IfOk result (λ made. entry_of made ≡ entry_of one.now) }
+{
+    Ok(Marked {
+        mark: one.mark,
+        id: Arc::try_clone(&one.id)?,
+    })
+}
+
+fn copy_of(alloc: Global, ids: &[Marked]) -> Result<Items<Marked>, AllocError>
+    ensures { IfOk result (λ copy. entries_of copy ≡ entries_of ids.now) }
 {
     let mut copy = Items::new(alloc);
-    for id in ids {
-        copy.push(Arc::try_clone(id)?)?;
+    for one in ids {
+        copy.push(again(one)?)?;
     }
     Ok(copy)
 }
 
 // The ids that go this way.
-fn going(
-    alloc: Global,
-    ids: &[Arc<Text>],
-    bit: usize,
-    way: bool,
-) -> Result<Items<Arc<Text>>, AllocError>
-    ensures { IfOk result (λ some. texts_of some ≡ filter (goes bit way) (texts_of ids.now)) }
+fn going(alloc: Global, ids: &[Marked], bit: usize, way: bool) -> Result<Items<Marked>, AllocError>
+    ensures { IfOk result (λ some. entries_of some ≡ filter (goes bit way) (entries_of ids.now)) }
 {
     let mut some = Items::new(alloc);
-    for id in ids {
-        if turns(id.as_str(), bit) == way {
-            some.push(Arc::try_clone(id)?)?;
+    for one in ids {
+        if turns(one.id.as_str(), bit) == way {
+            some.push(again(one)?)?;
         }
     }
     Ok(some)
 }
 
 // Parts ids by a bit.
-fn fork(alloc: Global, bit: usize, ids: &[Arc<Text>]) -> Result<Tree, AllocError>
+fn fork(alloc: Global, bit: usize, ids: &[Marked]) -> Result<Tree, AllocError>
     requires { bit < 512 }
     ensures { IfOk result
-        (λ tree. (other : List ℕ) → has tree other ≡ is_among (texts_of ids.now) other) }
+        (λ tree. (other : List ℕ) → has tree other ≡ is_marked (entries_of ids.now) other) }
 {
     let zero = Tree::Few {
         bit: bit + 1,
@@ -105,17 +142,12 @@ fn fork(alloc: Global, bit: usize, ids: &[Arc<Text>]) -> Result<Tree, AllocError
 }
 
 // A few ids and one more, which are parted where they have become many.
-fn few_with(
-    alloc: Global,
-    bit: usize,
-    ids: &[Arc<Text>],
-    id: &Arc<Text>,
-) -> Result<Tree, AllocError>
+fn few_with(alloc: Global, bit: usize, ids: &[Marked], id: &Arc<Text>) -> Result<Tree, AllocError>
     ensures { IfOk result
-        (λ made. (other : List ℕ) → has made other ≡ (is_among (texts_of ids.now) other || bytes_eq (arc_value id.now) other)) }
+        (λ made. (other : List ℕ) → has made other ≡ (is_marked (entries_of ids.now) other || bytes_eq (arc_value id.now) other)) }
 {
     let mut more = copy_of(alloc, ids)?;
-    more.push(Arc::try_clone(id)?)?;
+    more.push(with_mark(id)?)?;
     if ids.len() < FEW || bit >= DEEPEST {
         Ok(Tree::Few { bit, ids: more })
     } else {
@@ -127,7 +159,7 @@ fn has(tree: &Tree, id: &Text) -> bool
     ensures { result ≡ has tree.now id.now }
 {
     match tree {
-        Tree::Few { ids, .. } => is_one_of(ids.as_slice(), id),
+        Tree::Few { ids, .. } => is_one_of(ids.as_slice(), mark_of(id.as_str()), id),
         Tree::Fork { bit, zero, one } => {
             if turns(id.as_str(), *bit) {
                 has(one, id)
@@ -168,7 +200,7 @@ fn insert_in(alloc: Global, tree: &mut Tree, id: &Arc<Text>) -> Result<(), Alloc
     match tree {
         Tree::Few { bit, ids } => {
             if ids.len() < FEW || *bit >= DEEPEST {
-                ids.push(Arc::try_clone(id)?)
+                ids.push(with_mark(id)?)
             } else {
                 let made = few_with(alloc, *bit, ids.as_slice(), id)?;
                 *tree = made;

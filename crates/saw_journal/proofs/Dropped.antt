@@ -12,8 +12,13 @@ empty_from : (dropped : List Dropped) → None ≡ first_dropped dropped → dro
 empty_from [] none = refl
 empty_from (one ∷ others) none = absurd (grind (arith, none))
 
+-- none is dropped
+pub nothing_dropped : (there : Ids) (batches : List BatchShape) (sorted : Sorted) → IsSorted there batches sorted → None ≡ first_dropped sorted.dropped
+    → dropped_by 0 (causes there batches) ≡ []
+nothing_dropped there batches sorted is none = sym is.dropped ∙ empty_from sorted.dropped none
+
 pub none_from : (there : Ids) (batches : List BatchShape) (sorted : Sorted) → IsSorted there batches sorted → None ≡ first_dropped sorted.dropped
     → (static_fault there batches ≡ None) × (sorted.plan.batches ≡ batches)
 none_from there batches sorted is none =
-    let empty : dropped_by 0 (causes there batches) ≡ [] = sym is.dropped ∙ empty_from sorted.dropped none in
+    let empty = nothing_dropped there batches sorted is none in
     (ap first_dropped empty, is.plan ∙ none_dropped 0 there batches empty)

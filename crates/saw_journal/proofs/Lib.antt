@@ -17,3 +17,4 @@ pub mod OneByOne
 pub mod Branching
 pub mod KnownBranches
 pub mod Leaving
+pub mod Recorded

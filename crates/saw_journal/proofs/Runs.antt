@@ -29,6 +29,7 @@ use Rattle.saw_journal.specs.Parted.{RunsAs, run_fault}
 use Rattle.saw_journal.specs.Stops.{IsStop}
 use Rattle.saw_journal.specs.declared.fault.JournalFault.{JournalFault}
 use Rattle.saw_journal.specs.declared.fault.JournalFault.TheVariants as faults
+use Rattle.saw_journal.specs.declared.branch_ids.BranchIds.{BranchIds}
 use Rattle.saw_journal.specs.declared.judge.New.{New}
 use Rattle.saw_journal.specs.declared.stop.Stop.{Stop}
 use Rattle.saw_journal.specs.declared.stop.Stop.TheVariants.{Refused, Failed}
@@ -103,7 +104,7 @@ module _ (processors : Processors) (hash : List ℕ → List ℕ) (states : Stat
       other_root (Failed fault) told = subst (λ fault. Answers (Err (Failed fault))) (sym told) tt
 
       -- or there is a record of it
-      pub is_new : (block : BlockRecord) (prepared : Preparation) → root_fault checked.header root ≡ None → IsSome (state_at states before) → AreRising changes
+      pub is_new : (block : BlockRecord) (ids : BranchIds) (prepared : Preparation) → root_fault checked.header root ≡ None → IsSome (state_at states before) → AreRising changes
           → IsPreparedFor hash states (map_after (map_at states before) changes) prepared
           → block ≡ record {
             id = checked.id;
@@ -114,8 +115,8 @@ module _ (processors : Processors) (hash : List ℕ → List ℕ) (states : Stat
             root = root;
             batches = batch_records checked.batches results;
           }
-          → Answers (Ok (record { block = block; before = before; changes = changes; prepared = prepared }))
-      is_new block prepared told known rising ready made = (
+          → Answers (Ok (record { block = block; ids = ids; before = before; changes = changes; prepared = prepared }))
+      is_new block ids prepared told known rising ready made = (
         results,
         record { may = may; tested = then_root None told },
         record {

@@ -17,14 +17,14 @@ ghost use Rattle.saw_journal.specs.KnownBranches.{HaveIds, KnowsIds};
 ghost use Rattle.saw_journal.specs.Ledger.{IsFull, Says};
 ghost use Rattle.saw_receipts.specs.Running.{RunsBy};
 ghost use Rattle.saw_journal.specs.Linked.{AreLinked};
-ghost use Rattle.saw_journal.specs.Parted.{JoinsAs, MayJoin};
+ghost use Rattle.saw_journal.specs.Parted.{BringsIds, JoinsAs, MayJoin};
 ghost use Rattle.saw_merkle.specs.Clashes.{AreTold, IsPreparedFor};
 ghost use Rattle.saw_merkle.specs.States.{AreRooted, Stays, knows, map_at, state_at};
 ghost use Rattle.saw_plan.specs.StaticRules.{Knows};
 ghost use Rattle.saw_station.specs.Serving.{processors_at};
 
 use crate::branch::known_behind;
-use crate::branch_ids::{BranchIds, ids_with};
+use crate::branch_ids::BranchIds;
 use crate::fault::JournalFault;
 use crate::head::choose;
 use crate::judge::{New, judge};
@@ -102,6 +102,7 @@ fn put<H: NodeHasher>(
     requires fresh { has_block (values blocks.old) new.block.id ≡ false }
     requires ids { map string_bytes (keys blocks.old) ≡ map (λ block. block.id) (values blocks.old) }
     requires kept { HaveIds (values blocks.old) (values blocks.old) ids.old.items }
+    requires brings { BringsIds (values blocks.old) new }
     requires known { IsSome (state_at state.old new.before) }
     requires rising { AreRising new.changes }
     requires prepared { IsPreparedFor H.hash_of state.old
@@ -121,17 +122,17 @@ fn put<H: NodeHasher>(
 {
     let New {
         block,
+        ids: own,
         before,
         changes,
         prepared,
     } = new;
-    let known = ids_with(alloc, blocks, ids.as_slice(), &block)?;
     let key = String::from_str(alloc, block.id.as_str())?;
     blocks.reserve(1)?;
     ids.reserve(1)?;
     state.keep(&before, changes.as_slice(), prepared)?;
     put_last(blocks, key, block);
-    push_last(ids, known);
+    push_last(ids, own);
     Ok(())
 }
 
@@ -227,7 +228,8 @@ impl<H: NodeHasher> Journal<H> {
 
     // Lets a block without fault join.
     fn join(&mut self, new: New) -> Result<Verdict, JournalFault>
-        requires { MayJoin H.hash_of self.old new }
+        requires may { MayJoin H.hash_of self.old new }
+        requires brings { BringsIds self.old.blocks new }
         ensures ok { IfOk result (λ verdict. JoinsAs H.hash_of self.old new verdict self.new) }
         ensures full { IsErrOf result JournalFault.Full → length self.old.blocks ≡ self.old.limit }
         ensures peer { IsErrOf result JournalFault.PeerFailed → ⊥ }

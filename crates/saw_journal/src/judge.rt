@@ -4,7 +4,7 @@ ghost use Rattle.std.specs.Prelude.{◌≡◌, ◌<◌, ◌^◌, map, length, st
 ghost use Rattle.indexmap.specs.IndexMap.{keys, values};
 ghost use Rattle.saw_crew.specs.Desks.{Failed, HaveSameOffers, KeepsDesks, offers_at};
 ghost use Rattle.saw_journal.specs.KnownBranches.{HaveIds};
-ghost use Rattle.saw_journal.specs.Parted.{JudgedAs, root_before};
+ghost use Rattle.saw_journal.specs.Parted.{BringsIds, JudgedAs, root_before};
 ghost use Rattle.saw_journal.specs.Standing.{IsFounded};
 ghost use Rattle.saw_station.specs.Serving.{processors_at};
 
@@ -28,11 +28,12 @@ use std::collections::BTreeMap;
 use std::sync::Wait;
 use std::thread::Threads;
 
-/// What is kept of a block without fault: its record, the changes that lead from the map under the root `before` to the
-/// one that it leaves, and what that one needs to become known.
+/// What is kept of a block without fault: its record, the ids of its branch, the changes that lead from the map under the
+/// root `before` to the one that it leaves, and what that one needs to become known.
 #[derive(Drop)]
 pub(crate) struct New {
     pub(crate) block: BlockRecord,
+    pub(crate) ids: BranchIds,
     pub(crate) before: NodeHash,
     pub(crate) changes: Items<Change>,
     pub(crate) prepared: Prepared,
@@ -73,6 +74,7 @@ pub(crate) fn judge<H: NodeHasher, T: Threads + Wait + Sync, V: Verifier, R: Sta
     ensures judged { let processors = processors_at R.next R.tells (offers_at desks.old) in
         JudgedAs processors H.hash_of (V.accepts verifier.now)
         (values blocks.now) state.now bytes.now result }
+    ensures ids { IfOk result (BringsIds (values blocks.now)) }
     ensures room { IsErrOf result (Stop.Failed JournalFault.Full) → ⊥ }
     ensures desks { KeepsDesks R.faults R.offered desks.old desks.new }
     ensures cause { IsErrOf result (Stop.Failed JournalFault.PeerFailed)
@@ -80,8 +82,8 @@ pub(crate) fn judge<H: NodeHasher, T: Threads + Wait + Sync, V: Verifier, R: Sta
 {
     let checked = check_block(rt, alloc, bytes, verifier, workers_at(desks))?;
     let parent = parent_of(blocks, &checked.id, &checked.header)?;
-    let known = ids_behind(alloc, blocks, ids, &checked.header.previous_block_id)?;
-    let plan = plan_all(alloc, &known, checked.batches.as_slice())?;
+    let mut known = ids_behind(alloc, blocks, ids, &checked.header.previous_block_id)?;
+    let plan = plan_all(alloc, &mut known, checked.batches.as_slice())?;
     let before = root_before::<H>(alloc, parent)?;
-    run(rt, alloc, state, before, checked, plan, desks)
+    run(rt, alloc, state, before, checked, plan, known, desks)
 }

@@ -1,9 +1,11 @@
 //! The batches of a block by the static rules.
 
-ghost use Rattle.std.specs.Prelude.{◌≡◌, ◌<◌, ◌^◌, length};
+ghost use Rattle.std.specs.Prelude.{◌≡◌, ◌<◌, ◌^◌, length, OnOk};
 ghost use Rattle.saw_journal.specs.BlockFaults.{first_dropped};
+ghost use Rattle.saw_journal.specs.KnownBranches.{own_ids};
 ghost use Rattle.saw_journal.specs.Parted.{PlansAs};
 ghost use Rattle.saw_plan.specs.BatchShapes.{transactions_in};
+ghost use Rattle.saw_plan.specs.SortingSteps.{both};
 ghost use Rattle.saw_plan.specs.StaticRules.{Ids};
 
 use crate::stop::Stop;
@@ -13,15 +15,18 @@ use saw_receipts::BlockFault;
 use saw_wire::Items;
 use std::alloc::Global;
 
-/// Plans all batches of a block, against the ids that are there. It stops at the first that the static rules drop.
+/// Plans all batches of a block, against the ids that are there, and adds their ids to these. It stops at the first batch
+/// that the static rules drop.
 pub(crate) fn plan_all<K: KnownIds>(
     alloc: Global,
-    known: &K,
+    known: &mut K,
     batches: &[TxBatch],
 ) -> Result<Plan, Stop>
     requires batches { length batches.now < 2 ^ 32 }
     requires transactions { transactions_in batches.now < 2 ^ 32 }
-    ensures { (there : Ids) → K.knows known.now there → PlansAs there batches.now result }
+    ensures plans { (there : Ids) → K.knows known.old there → PlansAs there batches.now result }
+    ensures grown { OnOk result
+        ((there : Ids) → K.knows known.old there → K.knows known.new (both there (own_ids batches.now))) }
 {
     let Sorted {
         plan,

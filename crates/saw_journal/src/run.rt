@@ -6,14 +6,17 @@ ghost use Rattle.saw_crew.specs.Desks.{Failed, HaveSameOffers, KeepsDesks, offer
 ghost use Rattle.saw_journal.specs.BlockFaults.{root_fault};
 ghost use Rattle.saw_journal.specs.Clashing.{TellsNoNodes};
 ghost use Rattle.saw_journal.specs.Judgement.{batch_records};
+ghost use Rattle.saw_journal.specs.KnownBranches.{own_ids};
 ghost use Rattle.saw_journal.specs.Parted.{RunsAs};
 ghost use Rattle.saw_journal.specs.Stops.{TestsAs};
 ghost use Rattle.saw_journal.specs.BlockShapes.{parts_in};
 ghost use Rattle.saw_merkle.specs.States.{map_at, state_at};
 ghost use Rattle.saw_plan.specs.BatchShapes.{transactions_in, txs_of};
+ghost use Rattle.saw_receipts.specs.Branches.{batch_ids};
 ghost use Rattle.saw_schedule.specs.BatchResults.{AreResultsFor};
 ghost use Rattle.saw_station.specs.Serving.{processors_at};
 
+use crate::branch_ids::BranchIds;
 use crate::fault::JournalFault;
 use crate::judge::New;
 use crate::results::{batch_records, test_results};
@@ -106,7 +109,7 @@ fn record_of(
     })
 }
 
-/// Runs the planned batches of a block over the map under the root `before`. It stops at the tests that need their results.
+/// Runs the planned batches of a block over the map under the root `before`; `ids` go along. It stops at the tests that need their results.
 pub(crate) fn run<H: NodeHasher, T: Threads + Wait + Sync, R: Station>(
     rt: &T,
     alloc: Global,
@@ -114,6 +117,7 @@ pub(crate) fn run<H: NodeHasher, T: Threads + Wait + Sync, R: Station>(
     before: NodeHash,
     checked: CheckedBlock,
     plan: Plan,
+    ids: BranchIds,
     desks: &mut [Desk<R>],
 ) -> Result<New, Stop>
     requires known { IsSome (state_at state.now before) }
@@ -124,6 +128,7 @@ pub(crate) fn run<H: NodeHasher, T: Threads + Wait + Sync, R: Station>(
     requires alike { HaveSameOffers desks.old }
     ensures ran { let processors = processors_at R.next R.tells (offers_at desks.old) in
         RunsAs processors H.hash_of state.now before (parts_in checked) result }
+    ensures ids { IfOk result (λ new. (new.ids ≡ ids) × (batch_ids new.block.batches ≡ own_ids checked.batches)) }
     ensures room { IsErrOf result (Stop.Failed JournalFault.Full) → ⊥ }
     ensures desks { KeepsDesks R.faults R.offered desks.old desks.new }
     ensures cause { IsErrOf result (Stop.Failed JournalFault.PeerFailed)
@@ -139,6 +144,7 @@ pub(crate) fn run<H: NodeHasher, T: Threads + Wait + Sync, R: Station>(
     let block = record_of(alloc, checked, root, &results)?;
     Ok(New {
         block,
+        ids,
         before,
         changes,
         prepared,

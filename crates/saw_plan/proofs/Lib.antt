@@ -2,3 +2,4 @@ pub mod Transactions
 pub mod Rest
 pub mod Whole
 pub mod Pairs
+pub mod Adding

@@ -1,13 +1,13 @@
 -- The batches that are sorted, and the rest of the list.
 use Rattle.std.proofs.Common.{◌≡◌, ℕ, zero, suc, ◌+◌, ◌<◌, ◌≤◌, List, [], ◌∷◌, ◌++◌, length, drop, get_or, Some, None, Option, refl, sym}
-use Rattle.std.proofs.Common.{subst, ◌∙◌, arith}
+use Rattle.std.proofs.Common.{ap, subst, ◌∙◌, arith}
 use Rattle.std.proofs.lemmas.List.{append_assoc, append-nil, drop_more, drop_all}
 use Rattle.std.proofs.lemmas.List.Sums.{sum_by-cons}
 use Rattle.saw_messages.specs.TxShapes.{BatchShape}
-use Rattle.saw_plan.specs.BatchShapes.{ids_of, transactions_in}
+use Rattle.saw_plan.specs.BatchShapes.{transactions_in}
 use Rattle.saw_plan.specs.Sorting.{kept_by, places_by, dropped_by, IsSorted}
-use Rattle.saw_plan.specs.StaticRules.{Ids, batch_cause, after_batch, causes}
-use Rattle.saw_plan.specs.SortingSteps.{Sorting, sorting_of, both, with_batch}
+use Rattle.saw_plan.specs.StaticRules.{Ids, after_batch, after_batches, batch_cause, causes}
+use Rattle.saw_plan.specs.SortingSteps.{Sorting, sorting_of, with_batch}
 use Rattle.saw_plan.specs.declared.sorted.DropCause.{DropCause}
 use Rattle.saw_plan.specs.declared.sorted.Sorted.{Sorted}
 
@@ -16,12 +16,7 @@ pub record GoesOn (there now : Ids) (place : ℕ) (rest all : List BatchShape) (
   pub plan : sorting.plan ++ kept_by (causes now rest) rest ≡ kept_by (causes there all) all
   pub places : sorting.places ++ places_by place (causes now rest) ≡ places_by 0 (causes there all)
   pub dropped : sorting.dropped ++ dropped_by place (causes now rest) ≡ dropped_by 0 (causes there all)
-
-both_after : (cause : Option DropCause) (there more : Ids) (batch : BatchShape)
-    → both there (after_batch cause more batch) ≡ after_batch cause (both there more) batch
-both_after None there more batch =
-    rw (append_assoc there.batches more.batches (batch.id ∷ []), append_assoc there.transactions more.transactions (ids_of batch.txs)) refl
-both_after (Some cause) there more batch = refl
+  pub grown : after_batches now rest ≡ after_batches there all
 
 module _ (place : ℕ) (batch : BatchShape) (others : List (Option DropCause)) (sorting : Sorting) where
   plan_more : (cause : Option DropCause) (rest : List BatchShape)
@@ -48,24 +43,23 @@ step there now place batch rest all sorting so_far =
       plan = plan_more place batch others sorting cause rest ∙ so_far.plan;
       places = places_more place batch others sorting cause ∙ so_far.places;
       dropped = dropped_more place batch others sorting cause ∙ so_far.dropped;
+      grown = so_far.grown;
     }
 
-pub goes_on : (there more : Ids) (batches : List BatchShape) (place : ℕ) (batch : BatchShape) → place < length batches → batch ≡ get_or batches place batch
-    → (sorting new : Sorting) → new ≡ with_batch (batch_cause (both there more) batch) place batch sorting
-    → GoesOn there (both there more) place (drop place batches) batches sorting
-    → GoesOn there (both there (after_batch (batch_cause (both there more) batch) more batch)) (place + 1)
-    (drop (place + 1) batches) batches new
-goes_on there more batches place batch below here sorting new is so_far =
+pub goes_on : (there now : Ids) (batches : List BatchShape) (place : ℕ) (batch : BatchShape) → place < length batches → batch ≡ get_or batches place batch
+    → (sorting new : Sorting) → new ≡ with_batch (batch_cause now batch) place batch sorting
+    → GoesOn there now place (drop place batches) batches sorting
+    → GoesOn there (after_batch (batch_cause now batch) now batch) (place + 1) (drop (place + 1) batches) batches new
+goes_on there now batches place batch below here sorting new is so_far =
     let cut : drop place batches ≡ batch ∷ drop (place + 1) batches = rw (drop_more batches place batch below, ← here) refl in
-    rw (is, both_after (batch_cause (both there more) batch) there more batch)
-    (step there (both there more) place batch (drop (place + 1) batches) batches sorting
-    (subst (λ (rest : List BatchShape). GoesOn there (both there more) place rest batches sorting) cut so_far))
+    rw is
+    (step there now place batch (drop (place + 1) batches) batches sorting
+    (subst (λ (rest : List BatchShape). GoesOn there now place rest batches sorting) cut so_far))
 
 -- nothing is sorted, and all is left
 pub begins : (there : Ids) (all : List BatchShape) (sorting : Sorting) → sorting ≡ record { plan = []; places = []; dropped = [] }
-    → GoesOn there (both there (record { batches = []; transactions = [] })) 0 all all sorting
-begins there all sorting is =
-    rw (is, append-nil there.batches, append-nil there.transactions) (record { plan = refl; places = refl; dropped = refl })
+    → GoesOn there there 0 all all sorting
+begins there all sorting is = rw is (record { plan = refl; places = refl; dropped = refl; grown = refl })
 
 -- nothing is left
 pub ends : (there now : Ids) (place : ℕ) (batches : List BatchShape) (sorted : Sorted) → length batches ≤ place
@@ -79,6 +73,13 @@ ends there now place batches sorted over so_far =
       places = sym (append-nil (sorting_of sorted).places) ∙ all.places;
       dropped = sym (append-nil (sorting_of sorted).dropped) ∙ all.dropped;
     }
+
+-- and what is known then is what is known after all
+pub grown : (there now : Ids) (place : ℕ) (batches : List BatchShape) (sorting : Sorting) → length batches ≤ place
+    → GoesOn there now place (drop place batches) batches sorting
+    → now ≡ after_batches there batches
+grown there now place batches sorting over so_far =
+    ap (after_batches now) (sym (drop_all place batches over)) ∙ so_far.grown
 
 -- a batch has no more transactions than all have
 few_at : (batches : List BatchShape) (place : ℕ) (d : BatchShape) → place < length batches

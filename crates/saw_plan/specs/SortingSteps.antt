@@ -1,7 +1,8 @@
 -- The batches one after another.
-use Rattle.std.specs.Prelude.{ℕ, List, [], ◌∷◌, ◌++◌, Option, Some, None}
+use Rattle.std.specs.Prelude.{◌≡◌, ℕ, List, [], ◌∷◌, ◌++◌, Option, Some, None}
 use Rattle.saw_messages.specs.TxShapes.{BatchShape}
-use Rattle.saw_plan.specs.StaticRules.{Ids}
+use Rattle.saw_plan.specs.StaticRules.{Ids, Knows}
+use Rattle.saw_plan.specs.declared.known.Beside.{Beside}
 use Rattle.saw_plan.specs.declared.sorted.DropCause.{DropCause}
 use Rattle.saw_plan.specs.declared.sorted.Dropped.{Dropped}
 use Rattle.saw_plan.specs.declared.sorted.Sorted.{Sorted}
@@ -9,6 +10,10 @@ use Rattle.saw_plan.specs.declared.sorted.Sorted.{Sorted}
 -- the ids of both
 abbrev pub both : Ids → Ids → Ids
 both there more = record { batches = there.batches ++ more.batches; transactions = there.transactions ++ more.transactions }
+
+-- exactly these ids are known: those that stay as they are, and those that were added
+abbrev pub KnowsBoth : Beside → Ids → Type 0
+KnowsBoth beside there = (known added : Ids) × Knows beside.known.now known × Knows beside.added added × (both known added ≡ there)
 
 -- a sorting, with its batches by themselves
 pub record Sorting : Type 0 where

@@ -17,6 +17,14 @@ pub record Ids : Type 0 where
 abbrev pub Knows : Known → Ids → Type 0
 Knows known there = HoldsIds known.batches there.batches × HoldsIds known.transactions there.transactions
 
+-- what is there, and the id of a batch
+abbrev pub with_batch_id : Ids → List ℕ → Ids
+with_batch_id there id = record { batches = there.batches ++ id ∷ []; transactions = there.transactions }
+
+-- what is there, and ids of transactions
+abbrev pub with_transactions : Ids → List (List ℕ) → Ids
+with_transactions there ids = record { batches = there.batches; transactions = there.transactions ++ ids }
+
 -- the first dependency that is not among these ids
 abbrev pub first_missing : List (List ℕ) → List (List ℕ) → Option (List ℕ)
 first_missing ids [] = None
@@ -46,3 +54,8 @@ after_batch (Some cause) there batch = there
 abbrev pub causes : Ids → List BatchShape → List (Option DropCause)
 causes there [] = []
 causes there (batch ∷ batches) = batch_cause there batch ∷ causes (after_batch (batch_cause there batch) there batch) batches
+
+-- what is there after batches, one after another
+abbrev pub after_batches : Ids → List BatchShape → Ids
+after_batches there [] = there
+after_batches there (batch ∷ batches) = after_batches (after_batch (batch_cause there batch) there batch) batches

@@ -3,10 +3,9 @@
 ghost use Rattle.std.specs.Prelude.{◌≡◌, ◌<◌, ◌^◌, ◌++◌, [], ℕ, List, length, IfOk};
 ghost use Rattle.saw_ids.specs.Seen.{HoldsIds, is_among};
 ghost use Rattle.saw_plan.specs.BatchShapes.{shapes_of};
-ghost use Rattle.saw_plan.specs.StaticRules.{Ids, Knows, first_missing, tx_cause, txs_cause, batch_cause};
-ghost use Rattle.saw_plan.specs.SortingSteps.{both};
+ghost use Rattle.saw_plan.specs.StaticRules.{Ids, first_missing, tx_cause, txs_cause, batch_cause};
 
-use crate::known::{Known, KnownIds};
+use crate::known::KnownIds;
 use crate::sorted::DropCause;
 use saw_ids::{add_id, has_id};
 use saw_messages::{Tx, TxBatch};
@@ -15,44 +14,26 @@ use std::alloc::{AllocError, Global};
 use std::collections::BTreeSet;
 use std::sync::Arc;
 
-// What is there is what is known and what the kept batches added: two sets, since there may be very many known ids.
-fn is_batch_there<K: KnownIds>(known: &K, kept: &Known, id: &Text) -> bool
-    ensures { (there more : Ids) → K.knows known.now there → Knows kept.now more → result
-        ≡ is_among (both there more).batches id.now }
-{
-    known.has_batch(id) || kept.has_batch(id)
-}
-
-fn is_tx_there<K: KnownIds>(known: &K, kept: &Known, id: &Text) -> bool
-    ensures { (there more : Ids) → K.knows known.now there → Knows kept.now more → result
-        ≡ is_among (both there more).transactions id.now }
-{
-    known.has_transaction(id) || kept.has_transaction(id)
-}
-
 // Whether a dependency is there or earlier in the batch.
-fn is_met<K: KnownIds>(known: &K, kept: &Known, earlier: &BTreeSet<Text>, dependency: &Text) -> bool
-    ensures { (there more : Ids) (before : List (List ℕ)) → K.knows known.now there → Knows kept.now more
-        → HoldsIds earlier.now before
-        → result ≡ is_among ((both there more).transactions ++ before) dependency.now }
+fn is_met<K: KnownIds>(known: &K, earlier: &BTreeSet<Text>, dependency: &Text) -> bool
+    ensures { (there : Ids) (before : List (List ℕ)) → K.knows known.now there → HoldsIds earlier.now before
+        → result ≡ is_among (there.transactions ++ before) dependency.now }
 {
-    is_tx_there(known, kept, dependency) || has_id(earlier, dependency)
+    known.has_transaction(dependency) || has_id(earlier, dependency)
 }
 
 fn first_missing<K: KnownIds>(
     alloc: Global,
     known: &K,
-    kept: &Known,
     earlier: &BTreeSet<Text>,
     dependencies: &[Text],
 ) -> Result<Option<Text>, AllocError>
     ensures { IfOk result
-        (λ missing. (there more : Ids) (before : List (List ℕ)) → K.knows known.now there → Knows kept.now more
-        → HoldsIds earlier.now before
-        → missing ≡ first_missing ((both there more).transactions ++ before) dependencies.now) }
+        (λ missing. (there : Ids) (before : List (List ℕ)) → K.knows known.now there → HoldsIds earlier.now before
+        → missing ≡ first_missing (there.transactions ++ before) dependencies.now) }
 {
     for dependency in dependencies {
-        if !is_met(known, kept, earlier, dependency) {
+        if !is_met(known, earlier, dependency) {
             return Ok(Some(dependency.try_clone(alloc)?));
         }
     }
@@ -62,26 +43,18 @@ fn first_missing<K: KnownIds>(
 fn tx_cause<K: KnownIds>(
     alloc: Global,
     known: &K,
-    kept: &Known,
     earlier: &BTreeSet<Text>,
     t: u32,
     tx: &Tx,
 ) -> Result<Option<DropCause>, AllocError>
     ensures { IfOk result
-        (λ cause. (there more : Ids) (before : List (List ℕ)) → K.knows known.now there → Knows kept.now more
-        → HoldsIds earlier.now before
-        → cause ≡ tx_cause (both there more).transactions before t tx.now) }
+        (λ cause. (there : Ids) (before : List (List ℕ)) → K.knows known.now there → HoldsIds earlier.now before
+        → cause ≡ tx_cause there.transactions before t tx.now) }
 {
-    if is_tx_there(known, kept, &tx.id) {
+    if known.has_transaction(&tx.id) {
         return Ok(Some(DropCause::DuplicateTransaction { t }));
     }
-    match first_missing(
-        alloc,
-        known,
-        kept,
-        earlier,
-        tx.header.dependencies.as_slice(),
-    )? {
+    match first_missing(alloc, known, earlier, tx.header.dependencies.as_slice())? {
         Some(id) => Ok(Some(DropCause::MissingDependency { t, id })),
         None => Ok(None),
     }
@@ -91,16 +64,15 @@ fn tx_cause<K: KnownIds>(
 fn txs_cause<K: KnownIds>(
     alloc: Global,
     known: &K,
-    kept: &Known,
     txs: &[Arc<Tx>],
 ) -> Result<Option<DropCause>, AllocError>
     requires { length txs.now < 2 ^ 32 }
-    ensures { IfOk result (λ cause. (there more : Ids) → K.knows known.now there → Knows kept.now more
-        → cause ≡ txs_cause (both there more).transactions [] 0 (shapes_of txs.now)) }
+    ensures { IfOk result (λ cause. (there : Ids) → K.knows known.now there
+        → cause ≡ txs_cause there.transactions [] 0 (shapes_of txs.now)) }
 {
     let mut earlier = BTreeSet::new(alloc);
     for (t, tx) in txs.iter().enumerate() {
-        if let Some(cause) = tx_cause(alloc, known, kept, &earlier, t as u32, tx)? {
+        if let Some(cause) = tx_cause(alloc, known, &earlier, t as u32, tx)? {
             return Ok(Some(cause));
         }
         add_id(&mut earlier, alloc, &tx.id)?;
@@ -112,15 +84,14 @@ fn txs_cause<K: KnownIds>(
 pub(crate) fn batch_cause<K: KnownIds>(
     alloc: Global,
     known: &K,
-    kept: &Known,
     batch: &TxBatch,
 ) -> Result<Option<DropCause>, AllocError>
     requires { length batch.now.txs < 2 ^ 32 }
-    ensures { IfOk result (λ cause. (there more : Ids) → K.knows known.now there → Knows kept.now more
-        → cause ≡ batch_cause (both there more) batch.now) }
+    ensures { IfOk result (λ cause. (there : Ids) → K.knows known.now there
+        → cause ≡ batch_cause there batch.now) }
 {
-    if is_batch_there(known, kept, &batch.id) {
+    if known.has_batch(&batch.id) {
         return Ok(Some(DropCause::DuplicateBatch));
     }
-    txs_cause(alloc, known, kept, batch.txs.as_slice())
+    txs_cause(alloc, known, batch.txs.as_slice())
 }

@@ -6,15 +6,19 @@ use Rattle.saw_crew.proofs.Leaving.{keep_all}
 use Rattle.saw_crew.specs.Desks.{offers_at}
 use Rattle.saw_messages.specs.TxShapes.{BatchShape}
 use Rattle.saw_plan.specs.BatchShapes.{transactions_in}
+use Rattle.saw_plan.specs.SortingSteps.{both}
+use Rattle.saw_receipts.specs.Branches.{branch_of, ids_in}
 use Rattle.saw_station.proofs.Finished.{processors_own}
 use Rattle.saw_station.specs.Serving.{processors_at}
 use Rattle.saw_journal.specs.BlockFaults.{ids_before, static_fault}
+use Rattle.saw_journal.specs.KnownBranches.{KnowsIds, own_ids}
 use Rattle.saw_journal.specs.Stops.{IsStop}
 use Rattle.saw_journal.specs.declared.fault.JournalFault.TheVariants.{Full, OutOfMemory, PeerFailed}
 use Rattle.saw_journal.proofs.Counted.{few_batches, few_transactions}
 use Rattle.saw_journal.proofs.Judgements.{by_place, by_results, by_rules, by_structure, of_memory}
 use Rattle.saw_journal.proofs.Judging.{at_root}
 use Rattle.saw_journal.proofs.KnownBranches.{known_before}
+use Rattle.saw_journal.proofs.Recorded.{brings}
 use Rattle.saw_journal.proofs.judge.judge.Goals as goal
 
 pub returns-in_err-checked-clause-desks : goal.returns-in_err-checked-clause-desks
@@ -92,7 +96,7 @@ returns-in_err-plan-clause-judged g c =
     let own = processors_own g.R.Station.next laws.own_reasons g.R.Station.tells (offers_at c.args.desks.now) in
     let processors = processors_at g.R.Station.next g.R.Station.tells (offers_at c.args.desks.now) in
     let dropped = subst (λ (batches : List BatchShape). IsStop (static_fault there batches) c.in_err-plan.field-0.0) c.as_slice.ensures
-    (c.in_err-plan.ensures there knows) in
+    (c.in_err-plan.ensures.plans there knows) in
     rw (p.1, p.2) (by_rules processors own hash accepts blocks states content checked sound.0 sound.1 placed.0 c.in_err-plan.field-0.0 dropped)
 
 pub returns-in_err-before-clause-judged : goal.returns-in_err-before-clause-judged
@@ -127,7 +131,7 @@ run-requires-clause-plan g c = λ κs alive.
     let parent = option_copied c.in_ok-parent.parent in
     let there = ids_before blocks checked.header in
     let knows = known_before blocks checked.header c.in_ok-known.known c.requires.founded.linked c.in_ok-known.ensures in
-    (c.in_ok-plan.ensures there knows).1 ∙ c.as_slice.ensures
+    (c.in_ok-plan.ensures.plans there knows).1 ∙ c.as_slice.ensures
 
 pub run-requires-clause-counted : goal.run-requires-clause-counted
 run-requires-clause-counted g c = λ κs alive.
@@ -143,7 +147,7 @@ run-requires-clause-counted g c = λ κs alive.
     let there = ids_before blocks checked.header in
     let knows = known_before blocks checked.header c.in_ok-known.known c.requires.founded.linked c.in_ok-known.ensures in
     subst (λ (shapes : List BatchShape). transactions_in shapes < 2 ^ 32)
-    (sym ((c.in_ok-plan.ensures there knows).1 ∙ c.as_slice.ensures)) (few_transactions accepts content checked sound.0 sound.1)
+    (sym ((c.in_ok-plan.ensures.plans there knows).1 ∙ c.as_slice.ensures)) (few_transactions accepts content checked sound.0 sound.1)
 
 pub run-requires-clause-few : goal.run-requires-clause-few
 run-requires-clause-few g c = λ κs alive.
@@ -174,7 +178,7 @@ returns-clause-judged g c =
     let laws = g.met.R.Station g.world.𝓛 g.world.𝓜 g.world.𝓡 ((λ s x. x), (λ x. x), (λ x. x), λ x. x) in
     let own = processors_own g.R.Station.next laws.own_reasons g.R.Station.tells (offers_at c.args.desks.now) in
     let processors = processors_at g.R.Station.next g.R.Station.tells (offers_at c.args.desks.now) in
-    let whole = (c.in_ok-plan.ensures there knows).0 in
+    let whole = (c.in_ok-plan.ensures.plans there knows).0 in
     let all = ap (λ (batches : List BatchShape). static_fault there batches) (sym c.as_slice.ensures) ∙ whole in
     by_results processors own hash accepts blocks states content checked sound.0 sound.1 placed.0 all c.in_ok-before.before root.0
     c.run.result c.run.ensures.ran
@@ -189,7 +193,7 @@ returns-in_err-plan-clause-room g c =
     let knows = known_before blocks checked.header c.in_ok-known.known c.requires.founded.linked c.in_ok-known.ensures in
     rw (p.1, p.2) (λ is.
     let same : Full ≡ OutOfMemory = of_memory (static_fault there c.as_slice.result.now) c.in_err-plan.field-0.0 Full
-    (c.in_err-plan.ensures there knows) is in
+    (c.in_err-plan.ensures.plans there knows) is in
     absurd cc)
 
 pub returns-in_err-plan-clause-cause : goal.returns-in_err-plan-clause-cause
@@ -202,5 +206,16 @@ returns-in_err-plan-clause-cause g c =
     let knows = known_before blocks checked.header c.in_ok-known.known c.requires.founded.linked c.in_ok-known.ensures in
     rw (p.1, p.2) (λ is.
     let same : PeerFailed ≡ OutOfMemory = of_memory (static_fault there c.as_slice.result.now) c.in_err-plan.field-0.0 PeerFailed
-    (c.in_err-plan.ensures there knows) is in
+    (c.in_err-plan.ensures.plans there knows) is in
     absurd cc)
+
+pub returns-clause-ids : goal.returns-clause-ids
+returns-clause-ids g c =
+    let blocks = values c.args.blocks.now in
+    let checked = c.in_ok-checked.checked in
+    let before = ids_in (branch_of (λ block. block) blocks checked.header.previous_block_id) in
+    let processors = processors_at g.R.Station.next g.R.Station.tells (offers_at c.args.desks.now) in
+    let grown = c.in_ok-plan.ensures.grown before c.in_ok-known.ensures in
+    brings processors g.H.NodeHasher.hash_of c.args.state.now c.in_ok-before.before checked blocks c.plan_all.new.known c.run.result
+    c.run.ensures.ran c.run.ensures.ids
+    (subst (λ (batches : List BatchShape). KnowsIds c.plan_all.new.known (both before (own_ids batches))) c.as_slice.ensures grown)

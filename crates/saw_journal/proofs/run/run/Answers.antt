@@ -1,4 +1,4 @@
-use Rattle.std.proofs.Common.{List, subst, ◌∙◌}
+use Rattle.std.proofs.Common.{List, refl, ap, subst, ◌∙◌}
 use Rattle.std.proofs.lemmas.Result.{err_from_is_err_and}
 use Rattle.saw_context.specs.Outcome.{map_after}
 use Rattle.saw_context.specs.Possible.{MayComeOfAll}
@@ -8,8 +8,12 @@ use Rattle.saw_merkle.specs.States.{map_at}
 use Rattle.saw_messages.specs.declared.outcome.Change.{Change}
 use Rattle.saw_messages.specs.TxShapes.{BatchShape}
 use Rattle.saw_plan.specs.BatchShapes.{txs_of}
+use Rattle.saw_receipts.specs.Branches.{batch_ids}
+use Rattle.saw_receipts.specs.declared.block.BlockRecord.{BlockRecord}
+use Rattle.saw_schedule.specs.BatchResults.{AreResultsFor}
 use Rattle.saw_station.specs.Serving.{processors_at}
 use Rattle.saw_journal.specs.BlockShapes.{parts_in}
+use Rattle.saw_journal.proofs.Recorded.{recorded}
 use Rattle.saw_journal.proofs.Runs.{failed_first, few_results, is_new, not_prepared, other_root, ran_other}
 use Rattle.saw_journal.proofs.run.run.Goals as goal
 
@@ -84,5 +88,14 @@ returns-clause-ran g c =
     let may = subst (λ (shapes : List BatchShape). MayComeOfAll processors before (txs_of shapes) results)
     c.requires.plan c.in_ok-results.ensures.results in
     is_new processors hash c.args.state.now c.args.before c.args.checked results may c.in_ok-test_results.ensures
-    changes (c.in_ok-changes.ensures.left before) c.root-root.result (c.root-root.ensures ∙ ready.root) c.in_ok-block.block c.in_ok-prepared.prepared
+    changes (c.in_ok-changes.ensures.left before) c.root-root.result (c.root-root.ensures ∙ ready.root) c.in_ok-block.block c.args.ids c.in_ok-prepared.prepared
     c.in_ok-test_root.ensures c.requires.known c.in_ok-changes.ensures.rising ready c.in_ok-block.ensures
+
+pub returns-clause-ids : goal.returns-clause-ids
+returns-clause-ids g c =
+    let results = c.in_ok-results.results.batches in
+    let whole = subst (λ (shapes : List BatchShape). AreResultsFor (txs_of shapes) results) c.requires.plan c.in_ok-results.ensures.whole in (
+      refl,
+      ap (λ (block : BlockRecord). batch_ids block.batches) c.in_ok-block.ensures
+          ∙ recorded c.args.checked.batches results whole c.in_ok-test_results.ensures,
+    )

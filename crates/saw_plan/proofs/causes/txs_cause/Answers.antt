@@ -1,6 +1,5 @@
 use Rattle.std.proofs.Common.{take, sym, ◌∙◌}
 use Rattle.saw_plan.specs.BatchShapes.{shapes_of, ids_of}
-use Rattle.saw_plan.specs.SortingSteps.{both}
 use Rattle.saw_plan.proofs.Transactions.{ids_more, cause_later}
 use Rattle.saw_plan.proofs.causes.txs_cause.Goals as goal
 
@@ -14,8 +13,8 @@ loop-t-preserved g c =
     record {
       holds = rw (← ids_more txs at tx c.loop-t-test.true c.index-txs-t.is _ (c.behind-tx.view_is ∙ c.deref-in-loop-t.ensures))
           (c.in_ok-add_id.ensures ids i.holds).1;
-      so_far = λ there more known kept.
-          cause_later txs at tx c.loop-t-test.true c.index-txs-t.is c.deref.result.now c.deref.ensures (both there more).transactions
-          (i.so_far there more known kept)
-          (sym c.in_default.is ∙ c.in_ok-cause.ensures there more ids known kept i.holds);
+      so_far = λ there known.
+          cause_later txs at tx c.loop-t-test.true c.index-txs-t.is c.deref.result.now c.deref.ensures there.transactions
+          (i.so_far there known)
+          (sym c.in_default.is ∙ c.in_ok-cause.ensures there ids known i.holds);
     }

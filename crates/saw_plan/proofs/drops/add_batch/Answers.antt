@@ -1,18 +1,16 @@
 use Rattle.std.specs.declared.sync.Arc.{Arc}
 use Rattle.std.specs.Global.{Global}
-use Rattle.std.proofs.Common.{◌++◌, List, subst}
+use Rattle.std.proofs.Common.{List, subst}
 use Rattle.std.proofs.lemmas.Result.{on_ok_weaker}
-use Rattle.saw_ids.specs.Seen.{HoldsIds}
 use Rattle.saw_messages.specs.declared.tx.Tx.{Tx}
 use Rattle.saw_plan.specs.BatchShapes.{shapes_of, ids_of}
+use Rattle.saw_plan.specs.StaticRules.{with_batch_id, with_transactions}
 use Rattle.saw_plan.proofs.drops.add_batch.Goals as goal
 
 pub returns : goal.returns
-returns c =
+returns g c =
     rw (← c.batch.view_is) (on_ok_weaker c.add_txs.result
-    (λ added more knows. (
-      (c.in_ok-add_id.ensures more.batches knows.0).1,
-      subst (λ (txs : List (Arc Tx Global)). HoldsIds c.add_txs.new.seen (more.transactions ++ ids_of (shapes_of txs))) c.as_slice.ensures
-          (added more.transactions knows.1),
-    ))
+    (λ added there known.
+    subst (λ (txs : List (Arc Tx Global)). g.K.KnownIds.knows c.add_txs.new.known (with_transactions (with_batch_id there c.batch.inside.id) (ids_of (shapes_of txs))))
+    c.as_slice.ensures (added (with_batch_id there c.batch.inside.id) (c.in_ok-add_batch.ensures there known)))
     c.add_txs.ensures)

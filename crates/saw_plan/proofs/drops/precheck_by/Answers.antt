@@ -1,16 +1,11 @@
-use Rattle.std.proofs.Common.{[], arith}
-use Rattle.saw_plan.specs.StaticRules.{batch_cause, after_batch}
-use Rattle.saw_plan.specs.SortingSteps.{both, sorting_of}
-use Rattle.saw_plan.proofs.Rest.{begins, goes_on, ends, few}
+use Rattle.std.proofs.Common.{arith, subst}
+use Rattle.saw_plan.specs.StaticRules.{after_batch, batch_cause}
+use Rattle.saw_plan.specs.SortingSteps.{sorting_of}
+use Rattle.saw_plan.proofs.Rest.{begins, goes_on, ends, few, grown}
 use Rattle.saw_plan.proofs.drops.precheck_by.Goals as goal
 
 pub loop-place-init : goal.loop-place-init
-loop-place-init g c = λ there known. (
-  record { batches = []; transactions = [] },
-  c.new-kept.ensures,
-  begins there c.args.batches.now
-      (sorting_of c.new-sorted.result) c.new-sorted.ensures,
-)
+loop-place-init g c = λ there known. (there, known, begins there c.args.batches.now (sorting_of c.new-sorted.result) c.new-sorted.ensures)
 
 pub sort_next-requires : goal.sort_next-requires
 sort_next-requires g c =
@@ -25,16 +20,22 @@ loop-place-preserved g c = λ there known.
     let l = c.loop-place in
     let batch = c.index-batches-place.result in
     let so_far = l.invariant there known in
-    let more = so_far.0 in
+    let now = so_far.0 in
     let done = c.in_ok-sort_next.ensures in (
-      after_batch (batch_cause (both there more) batch) more batch,
-      done.ids there more known so_far.1,
-      goes_on there more c.args.batches.now l.place batch c.loop-place-test.true c.index-batches-place.is (sorting_of l.sorted)
-          (sorting_of c.sort_next.new.sorted) (done.sorting there more known so_far.1) so_far.2,
+      after_batch (batch_cause now batch) now batch,
+      done.ids now so_far.1,
+      goes_on there now c.args.batches.now l.place batch c.loop-place-test.true c.index-batches-place.is (sorting_of l.sorted)
+          (sorting_of c.sort_next.new.sorted) (done.sorting now so_far.1) so_far.2,
     )
 
-pub returns : goal.returns
-returns g c = λ there known.
+pub returns-clause-sorted : goal.returns-clause-sorted
+returns-clause-sorted g c = λ there known.
     let l = c.loop-place in
     let so_far = l.invariant there known in
-    ends there (both there so_far.0) l.place c.args.batches.now l.sorted c.loop-place-test.false so_far.2
+    ends there so_far.0 l.place c.args.batches.now l.sorted c.loop-place-test.false so_far.2
+
+pub returns-clause-grown : goal.returns-clause-grown
+returns-clause-grown g c = λ there known.
+    let l = c.loop-place in
+    let so_far = l.invariant there known in
+    subst (g.K.KnownIds.knows l.known) (grown there so_far.0 l.place c.args.batches.now (sorting_of l.sorted) c.loop-place-test.false so_far.2) so_far.1

@@ -1,9 +1,9 @@
 use Rattle.std.proofs.Common.{drop}
-use Rattle.saw_plan.specs.StaticRules.{Ids, Knows}
-use Rattle.saw_plan.specs.SortingSteps.{both, sorting_of}
+use Rattle.saw_plan.specs.StaticRules.{Ids}
+use Rattle.saw_plan.specs.SortingSteps.{sorting_of}
 use Rattle.saw_plan.proofs.Rest.{GoesOn}
 use Rattle.saw_plan.proofs.drops.precheck_by.Given as goal
 
 abbrev pub invariant-loop-place : goal.invariant-loop-place
-invariant-loop-place g l = (there : Ids) → g.K.KnownIds.knows l.known there → (more : Ids) × Knows l.kept more
-    × GoesOn there (both there more) l.place (drop l.place l.batches) l.batches (sorting_of l.sorted)
+invariant-loop-place g l = (there : Ids) → g.K.KnownIds.knows l.fn.known there → (now : Ids) × g.K.KnownIds.knows l.known now
+    × GoesOn there now l.place (drop l.place l.batches) l.batches (sorting_of l.sorted)

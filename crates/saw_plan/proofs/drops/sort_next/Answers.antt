@@ -1,13 +1,13 @@
 use Rattle.std.proofs.Common.{Option, sym, subst, ◌∙◌}
 use Rattle.std.proofs.lemmas.Result.{on_ok_weaker}
-use Rattle.saw_plan.specs.StaticRules.{Knows, after_batch}
+use Rattle.saw_plan.specs.StaticRules.{after_batch}
 use Rattle.saw_plan.specs.declared.sorted.DropCause.{DropCause}
 use Rattle.saw_plan.proofs.drops.sort_next.Goals as goal
 
 pub returns-in_ok-copy_batch-in-None-clause-ids : goal.returns-in_ok-copy_batch-in-None-clause-ids
 returns-in_ok-copy_batch-in-None-clause-ids g c =
     on_ok_weaker c.keep.result
-    (λ _ there more known kept.
-    subst (λ (cause : Option DropCause). Knows c.add_batch.new.kept (after_batch cause more c.args.batch.now))
-    (sym c.in-None.is ∙ c.in_ok-batch_cause.ensures there more known kept) (c.in_ok-add_batch-in-None.ensures more kept))
+    (λ _ there known.
+    subst (λ (cause : Option DropCause). g.K.KnownIds.knows c.add_batch.new.known (after_batch cause there c.args.batch.now))
+    (sym c.in-None.is ∙ c.in_ok-batch_cause.ensures there known) (c.in_ok-add_batch-in-None.ensures there known))
     c.keep.ensures
