@@ -60,19 +60,19 @@ fn is_as_lent<B: Base>(schedule: &Schedule, plan: &Plan, base: &B) -> bool
 pub(crate) fn left_by_workers<R: Station, B: Base>(
     alloc: Global,
     locked: Locked<R>,
-    plan: Arc<Plan>,
+    plan: &Arc<Plan>,
     offers: &[Offer],
     base: &B,
 ) -> Result<Schedule, AllocError>
-    requires { transactions_in (arc_value plan).batches < 2 ^ 32 }
-    ensures { IfOk result (IsAlone (processors_at R.next R.tells offers.now) (B.entry base.now) (txs_of (arc_value plan).batches)) }
+    requires { transactions_in (arc_value plan.now).batches < 2 ^ 32 }
+    ensures { IfOk result (IsAlone (processors_at R.next R.tells offers.now) (B.entry base.now) (txs_of (arc_value plan.now).batches)) }
 {
     let (mut schedule, lent) = locked.into_parts();
-    if same_offers(&lent, offers) && is_as_lent(&schedule, &plan, base) {
+    if same_offers(&lent, offers) && is_as_lent(&schedule, plan, base) {
         give_all_back(&mut schedule);
         return Ok(schedule);
     }
-    Schedule::new(alloc, plan)
+    Schedule::new(alloc, plan.clone()?)
 }
 
 /// Takes, runs and finishes at one desk until nothing may be taken: then all batches are settled.

@@ -19,7 +19,7 @@ use saw_address::Base;
 use saw_plan::Plan;
 use saw_schedule::{Results, Schedule};
 use saw_station::{Desk, Station};
-use std::alloc::Global;
+use std::alloc::{AllocError, Global};
 use std::sync::{Arc, Mutex, Wait};
 use std::thread::Threads;
 
@@ -46,32 +46,63 @@ pub fn execute<B: Base, R: Station, T: Threads + Wait + Sync>(
 {
     let threads = threads_for(&plan, desks);
     if threads < 2 || is_tangled(alloc, &plan)? {
-        return execute_alone(alloc, plan, base, desks);
+        return execute_alone(alloc, &plan, base, desks);
     }
-    let schedule = Schedule::new(alloc, plan.clone()?)?;
-    let shared = desks[0].shared_offers()?;
-    let locked = Mutex::new(Locked::<R>::new(schedule, shared, threads));
-    all_work(rt, alloc, desks, threads, &locked, base);
-    let first = &mut desks[0];
-    let offers = first.offers();
-    let schedule = left_by_workers(alloc, locked.into_inner(), plan.clone()?, offers, base)?;
-    run_alone(alloc, schedule, &plan, base, first)
+    execute_together(rt, alloc, &plan, base, desks, threads)
 }
 
 // The same at the first desk alone, with no schedule.
 fn execute_alone<B: Base, R: Station>(
     alloc: Global,
-    plan: Arc<Plan>,
+    plan: &Plan,
     base: &B,
     desks: &mut [Desk<R>],
 ) -> Result<Results, CrewFault>
     requires some { 0 < length desks.old }
-    requires counted { transactions_in (arc_value plan).batches < 2 ^ 32 }
+    requires counted { transactions_in plan.now.batches < 2 ^ 32 }
     ensures results { let processors = processors_at R.next R.tells (offers_at desks.old) in
-        let batches = txs_of (arc_value plan).batches in
+        let batches = txs_of plan.now.batches in
         IfOk result (λ results. MayComeOfAll processors (B.entry base.now) batches results.batches) }
     ensures desks { KeepsDesks R.faults R.offered desks.old desks.new }
     ensures cause { IsErrOf result CrewFault.PeerFailed → Failed R.faults desks.old desks.new }
 {
     run_serially(alloc, plan.batches.as_slice(), base, &mut desks[0])
+}
+
+// The same by so many threads over a schedule; the first desk ends what they leave.
+fn execute_together<B: Base, R: Station, T: Threads + Wait + Sync>(
+    rt: &T,
+    alloc: Global,
+    plan: &Arc<Plan>,
+    base: &B,
+    desks: &mut [Desk<R>],
+    threads: usize,
+) -> Result<Results, CrewFault>
+    requires some { 0 < length desks.old }
+    requires threads { 0 < threads }
+    requires counted { transactions_in (arc_value plan.now).batches < 2 ^ 32 }
+    ensures results { let processors = processors_at R.next R.tells (offers_at desks.old) in
+        let batches = txs_of (arc_value plan.now).batches in
+        IfOk result (λ results. MayComeOfAll processors (B.entry base.now) batches results.batches) }
+    ensures desks { KeepsDesks R.faults R.offered desks.old desks.new }
+    ensures cause { IsErrOf result CrewFault.PeerFailed → Failed R.faults desks.old desks.new }
+{
+    let locked = Mutex::new(lent(alloc, plan, &desks[0], threads)?);
+    all_work(rt, alloc, desks, threads, &locked, base);
+    let first = &mut desks[0];
+    let schedule = left_by_workers(alloc, locked.into_inner(), plan, first.offers(), base)?;
+    run_alone(alloc, schedule, plan, base, first)
+}
+
+// A schedule of the plan, of which nothing was taken yet, and the offers of the desk.
+fn lent<R: Station>(
+    alloc: Global,
+    plan: &Arc<Plan>,
+    desk: &Desk<R>,
+    threads: usize,
+) -> Result<Locked<R>, AllocError>
+    requires { transactions_in (arc_value plan.now).batches < 2 ^ 32 }
+{
+    let schedule = Schedule::new(alloc, plan.clone()?)?;
+    Ok(Locked::new(schedule, desk.shared_offers()?, threads))
 }

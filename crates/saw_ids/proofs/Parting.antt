@@ -38,7 +38,8 @@ second false b e = absurd cc
 -- equal ids go one way
 same_way : (bit : ℕ) (way : Bool) (one : ℕ × List ℕ) (other : List ℕ) → (one.0 == mark_of other && bytes_eq one.1 other) ≡ true
     → goes bit way one ≡ goes bit way (mark_of other, other)
-same_way bit true one other same = ap (λ (id : List ℕ). turns id bit) ((bytes_eq-Decides one.1 other).0 (second (one.0 == mark_of other) (bytes_eq one.1 other) same))
+same_way bit true one other same =
+    ap (λ (id : List ℕ). turns id bit) ((bytes_eq-Decides one.1 other).0 (second (one.0 == mark_of other) (bytes_eq one.1 other) same))
 same_way bit false one other same =
     ap (λ (id : List ℕ). not (turns id bit)) ((bytes_eq-Decides one.1 other).0 (second (one.0 == mark_of other) (bytes_eq one.1 other) same))
 
@@ -49,7 +50,8 @@ kept_way entries bit way other so =
     any-filter_same (λ one. one.0 == mark_of other && bytes_eq one.1 other) (goes bit way) true (λ one same. same_way bit way one other same ∙ so) entries
 
 pub parted : (entries : List (ℕ × List ℕ)) (bit : ℕ) (other : List ℕ)
-    → (if turns other bit then is_marked (filter (goes bit true) entries) other else is_marked (filter (goes bit false) entries) other) ≡ is_marked entries other
+    → (if turns other bit then is_marked (filter (goes bit true) entries) other else is_marked (filter (goes bit false) entries) other)
+    ≡ is_marked entries other
 parted entries bit other = by_way (turns other bit) refl where
   by_way : (way : Bool) → turns other bit ≡ way
       → (if way then is_marked (filter (goes bit true) entries) other else is_marked (filter (goes bit false) entries) other) ≡ is_marked entries other

@@ -1,7 +1,7 @@
 -- The ids of batches, and those of the records that are kept of them.
 use Rattle.std.proofs.Common.{◌≡◌, ℕ, ◌+◌, List, [], ◌∷◌, ◌++◌, length, map, Option, Some, None, refl, sym, subst, ap, ◌∙◌, arith}
-use Rattle.std.specs.Prelude.{option_map, Result, Ok, Err, IfOk}
-use Rattle.std.specs.List.{AllByRecursion, flat_map}
+use Rattle.std.specs.Prelude.{Result, Ok, Err, IfOk}
+use Rattle.std.specs.List.{AllByRecursion}
 use Rattle.std.proofs.lemmas.List.{append_assoc, append-nil, length-map}
 use Rattle.std.proofs.lemmas.List.Concat.{flat_map-cons}
 use Rattle.saw_checks.specs.declared.checked.CheckedBlock.{CheckedBlock}
@@ -12,7 +12,6 @@ use Rattle.saw_merkle.specs.States.{States}
 use Rattle.saw_messages.specs.TxShapes.{BatchShape, TxShape}
 use Rattle.saw_messages.specs.declared.outcome.Outcome.{Outcome}
 use Rattle.saw_messages.specs.declared.outcome.Outcome.TheVariants as outcomes
-use Rattle.saw_messages.specs.declared.outcome.Reason.{Reason}
 use Rattle.saw_plan.specs.BatchShapes.{ids_of, txs_of}
 use Rattle.saw_plan.specs.Sorting.{dropped_by}
 use Rattle.saw_plan.specs.SortingSteps.{both}
@@ -32,6 +31,7 @@ use Rattle.saw_journal.specs.declared.branch_ids.BranchIds.{BranchIds}
 use Rattle.saw_journal.specs.declared.judge.New.{New}
 use Rattle.saw_journal.specs.declared.stop.Stop.{Stop}
 use Rattle.saw_journal.proofs.KnownBranches.{known_behind}
+use Rattle.saw_journal.proofs.SameParts.{map_none}
 
 -- ---- where none is dropped
 
@@ -89,14 +89,10 @@ recorded_from k (batch ∷ batches) (Applied done ∷ results) are none =
       own,
     ) (ap (λ (ids : Ids). record { batches = batch.id ∷ ids.batches; transactions = ids_of batch.txs ++ ids.transactions }) rest)
 
-none_found : (found : Option (ℕ × ℕ × Reason)) → {B : Type 0} → (f : ℕ × ℕ × Reason → B) → option_map f found ≡ None → found ≡ None
-none_found None f none = refl
-none_found (Some failure) f none = absurd cc
-
 -- the ids that the records of all tell
 pub recorded : (batches : List BatchShape) (results : List BatchResult) → AreResultsFor (txs_of batches) results → failure_fault results ≡ None
     → batch_ids (batch_records batches results) ≡ own_ids batches
-recorded batches results are none = recorded_from 0 batches results are (none_found (first_failure 0 results) _ none)
+recorded batches results are none = recorded_from 0 batches results are (map_none _ (first_failure 0 results) none)
 
 -- ---- what a run brings
 

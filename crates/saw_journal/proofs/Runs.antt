@@ -104,7 +104,8 @@ module _ (processors : Processors) (hash : List ℕ → List ℕ) (states : Stat
       other_root (Failed fault) told = subst (λ fault. Answers (Err (Failed fault))) (sym told) tt
 
       -- or there is a record of it
-      pub is_new : (block : BlockRecord) (ids : BranchIds) (prepared : Preparation) → root_fault checked.header root ≡ None → IsSome (state_at states before) → AreRising changes
+      pub is_new : (block : BlockRecord) (ids : BranchIds) (prepared : Preparation) → root_fault checked.header root ≡ None
+          → IsSome (state_at states before) → AreRising changes
           → IsPreparedFor hash states (map_after (map_at states before) changes) prepared
           → block ≡ record {
             id = checked.id;

@@ -26,7 +26,7 @@ pub neither : {F : Type 0} (a b : Option F) → (a <|> b) ≡ None → (a ≡ No
 neither None b e = (refl, e)
 neither (Some fault) b e = absurd cc
 
-map_none : {A B : Type 0} (f : A → B) (o : Option A) → option_map f o ≡ None → o ≡ None
+pub map_none : {A B : Type 0} (f : A → B) (o : Option A) → option_map f o ≡ None → o ≡ None
 map_none f None e = refl
 map_none f (Some x) e = absurd cc
 

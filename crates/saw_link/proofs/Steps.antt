@@ -1,7 +1,6 @@
 -- A move, from what the code did.
-use Rattle.std.proofs.Common.{◌≡◌, ◌+◌, ◌<◌, ◌≤◌, ℕ, length, true, List, [], ◌∷◌, ◌++◌, Option, Some, None, Result, Ok, Err, OnOk, refl, sym, ap, ◌∙◌, subst, arith}
+use Rattle.std.proofs.Common.{◌≡◌, ◌+◌, ◌≤◌, ℕ, length, true, List, [], ◌∷◌, ◌++◌, Option, Some, None, Result, Ok, Err, OnOk, refl, sym, ap, ◌∙◌, subst}
 use Rattle.std.specs.Fmt.{decimal}
-use Rattle.std.specs.Prelude.{if◌then◌else◌}
 use Rattle.std.specs.Option.{IsSome, IfSome, is_some}
 use Rattle.saw_messages.specs.TxShapes.{TxShape}
 use Rattle.saw_messages.specs.declared.talk.Action.{Action}
@@ -11,7 +10,6 @@ use Rattle.saw_messages.specs.declared.talk.Turn.{Turn}
 use Rattle.saw_messages.specs.declared.transaction.Transaction.{Transaction}
 use Rattle.saw_station.specs.TalkSteps.{fits}
 use Rattle.saw_link.specs.declared.heard.Asked.{Asked}
-use Rattle.saw_link.specs.declared.heard.Finish.{Finish}
 use Rattle.saw_link.specs.declared.heard.Finish.TheVariants.{Accepted, Refused, Broken}
 use Rattle.saw_link.specs.declared.heard.Heard.{Heard}
 use Rattle.saw_link.specs.declared.heard.Heard.TheVariants.{Asks, Ends, Breach}
@@ -82,14 +80,11 @@ module _ (told later : Option (List Passed)) (s next : Standing) (context sent f
     answer_is : (reply : Reply) → sent ≡ answer asked reply → answer_sent s.asked reply ≡ Sent sent ∷ []
     answer_is reply sent_is = rw (asked_is, sent_is) refl
 
-    module _ (last : LastStep) (reply : Reply) (last_is : s.last ≡ Some last) (context_is : context ≡ decimal s.count) (sent_is : sent ≡ answer asked reply)
-        (legal : acted s last.tx (last.turns ++ record { action = last.action; reply = reply } ∷ []) s.count h ≡ Some next)
-        (due : IsDue s (Answers reply)) where
+    module _ (reply : Reply) (context_is : context ≡ decimal s.count) (sent_is : sent ≡ answer asked reply)
+        (legal : answered s s.last reply h ≡ Some next) (due : IsDue s (Answers reply)) where
       answers_legal : after s (Answers reply) frame ≡ Some next
       unfolding after
-      answers_legal = let P : Heard → Type 0 = λ x. acted s last.tx (last.turns ++ record { action = last.action; reply = reply } ∷ []) s.count x ≡ Some next in
-          let Q : Option LastStep → Type 0 = λ x. answered s x reply (heard (limit_of s.version) (decimal s.count) frame) ≡ Some next in
-          subst Q (sym last_is) (subst P (said_at s.count context_is) legal)
+      answers_legal = let P : Heard → Type 0 = λ x. answered s s.last reply x ≡ Some next in subst P (said_at s.count context_is) legal
 
       pub answers_moved : Moved told s (Answers reply) later next
       answers_moved = moved_by (Answers reply) (λ at f n. refl) due (answer_is reply sent_is) answers_legal
@@ -116,44 +111,28 @@ acted_over s x tx turns count (Ends Refused) = refl
 acted_over s x tx turns count (Ends Broken) = refl
 acted_over s x tx turns count Breach = refl
 
--- the parts of the last step, with its reply as the latest turn
-pub acted_behind : (s : Standing) (x : Option LastStep) (last : LastStep) (parts : Transaction × List Turn × Action) (turns : List Turn)
-    (copied reply : Reply) (h : Heard) (next : Standing)
-    → parts ≡ (last.tx, last.turns, last.action) → turns ≡ parts.1 ++ record { action = parts.2; reply = copied } ∷ [] → copied ≡ reply
-    → acted (record s { last = x }) parts.0 turns s.count h ≡ Some next
-    → acted s last.tx (last.turns ++ record { action = last.action; reply = reply } ∷ []) s.count h ≡ Some next
-acted_behind s x last parts turns copied reply h next parts_is turns_is copied_is legal =
-    let P : List Turn → Type 0 = λ all. acted s parts.0 all s.count h ≡ Some next in
-    let R : Reply → List Turn = λ said. parts.1 ++ record { action = parts.2; reply = said } ∷ [] in
-    let T : Transaction × List Turn × Action → Type 0 = λ p.
-    acted s p.0 (p.1 ++ record { action = p.2; reply = reply } ∷ []) s.count h ≡ Some next in
-    subst T parts_is (subst P (turns_is ∙ ap R copied_is) (sym (acted_over s x parts.0 turns s.count h) ∙ legal))
-
--- a further request while there are refusals left
-pub closed_asks : (s : Standing) (h : Heard) (asked : Asked) (action : Action) → h ≡ Asks asked action → s.refused < 999
-    → closed s h ≡ Some (record s { asked = Some asked; refused = s.refused + 1 })
-closed_asks s h asked action is below = rw is (grind arith)
-
-pub closed_ends : (s : Standing) (h : Heard) (finish : Finish) → h ≡ Ends finish → closed s h ≡ Some (record s { asked = None; refused = 0 })
-closed_ends s h finish is = rw is refl
+-- the last step and its turns, with the reply as the latest
+pub acted_behind : (s : Standing) (x : Option LastStep) (last : LastStep) (made : Transaction × List Turn) (reply : Reply) (h : Heard) (next : Standing)
+    → s.last ≡ Some last → made ≡ (last.tx, last.turns ++ record { action = last.action; reply = reply } ∷ [])
+    → acted (record s { last = x }) made.0 made.1 s.count h ≡ Some next → answered s s.last reply h ≡ Some next
+acted_behind s x last made reply h next last_is made_is legal =
+    let T : Transaction × List Turn → Type 0 = λ p. acted s p.0 p.1 s.count h ≡ Some next in
+    let Q : Option LastStep → Type 0 = λ y. answered s y reply h ≡ Some next in
+    subst Q (sym last_is) (subst T made_is (sym (acted_over s x made.0 made.1 s.count h) ∙ legal))
 
 some_same : {A : Type 0} (x y : A) → Some x ≡ Some y → x ≡ y
 some_same x y e = cc
 
 -- a registration that was entered and answered
-pub registers_moved : (told mid later : Option (List Passed)) (s next : Standing) (frame sent : List ℕ) (limit : ℕ)
-    (read : Option Registration) (found : Registration) (version : ℕ)
-    → length sent ≤ limit → limit ≡ limit_of s.version → read ≡ registration limit frame → read ≡ Some found
-    → version ≡ version_by found.request.protocol_version → may_register s version ≡ true
-    → registered_by s found version ≡ Some next → sent ≡ welcome version found.correlation → Adds told (Received frame ∷ []) mid → s.more ≡ true
-    → Adds mid (Sent sent ∷ []) later → Moved told s Registers later next
+pub registers_moved : (told mid later : Option (List Passed)) (s next : Standing) (frame sent : List ℕ) (limit : ℕ) (found : Registration)
+    → length sent ≤ limit → limit ≡ limit_of s.version → registration (limit_of s.version) frame ≡ Some found
+    → may_register s (version_by found.request.protocol_version) ≡ true
+    → registered_by s found (version_by found.request.protocol_version) ≡ Some next → sent ≡ welcome (version_by found.request.protocol_version) found.correlation
+    → Adds told (Received frame ∷ []) mid → s.more ≡ true → Adds mid (Sent sent ∷ []) later → Moved told s Registers later next
 unfolding after
-registers_moved told mid later s next frame sent limit read found version short limit_is read_is is version_is may entered sent_is
-    received due answered =
-    let said : registration (limit_of s.version) frame ≡ Some found = sym (ap (λ l. registration l frame) limit_is) ∙ sym read_is ∙ is in
+registers_moved told mid later s next frame sent limit found short limit_is said may entered sent_is received due answered =
     let Q : Option Registration → Type 0 = λ r. registered s r ≡ Some next in
-    let R : ℕ → Type 0 = λ v. (if may_register s v then registered_by s found v else None) ≡ Some next in
-    let fixed : version ≡ next.version = ap (λ x. x.version) (some_same _ _ entered) in
+    let fixed : version_by found.request.protocol_version ≡ next.version = ap (λ x. x.version) (some_same _ _ entered) in
     let sent_here : welcomed next.version (registration (limit_of s.version) frame) ≡ Sent sent ∷ [] = ap (welcomed next.version) said
     ∙ ap (λ v. Sent (welcome v found.correlation) ∷ []) (sym fixed) ∙ ap (λ x. Sent x ∷ []) (sym sent_is) in
     let P : List Passed → Type 0 = λ passed. Adds told passed later in
@@ -163,14 +142,16 @@ registers_moved told mid later s next frame sent limit read found version short 
       frame = frame;
       within = (tt, subst W (sym sent_here) (subst S limit_is short, tt));
       due = due;
-      legal = subst Q (sym said) (subst R version_is (rw may entered));
+      legal = subst Q (sym said) (rw may entered);
       adds = subst P (ap (λ x. Received frame ∷ x) (sym sent_here)) (adds_two told mid later (Received frame ∷ []) (Sent sent ∷ []) received answered);
     }
 
+fits_last : (s : Standing) (x : Option LastStep) (reply : Reply) (h : Heard) (next : Standing) → answered s x reply h ≡ Some next
+    → IfSome x (λ last. fits last.action reply ≡ true) → FitsLast x reply
+fits_last s None reply h next legal fit = absurd cc
+fits_last s (Some last) reply h next legal fit = fit
+
 -- an answer is due
-pub due_answers : (s : Standing) (asked : Asked) (last : LastStep) (reply : Reply) → s.refused ≡ 0 → s.asked ≡ Some asked → s.last ≡ Some last
-    → IfSome s.last (λ last. fits last.action reply ≡ true) → IsDue s (Answers reply)
-due_answers s asked last reply still asked_is last_is fit =
-    let P : Option LastStep → Type 0 = λ x. IfSome x (λ last. fits last.action reply ≡ true) in
-    let Q : Option LastStep → Type 0 = λ x. FitsLast x reply in
-    (still, ap is_some asked_is, subst Q (sym last_is) (subst P last_is fit))
+pub due_answers : (s : Standing) (asked : Asked) (reply : Reply) (h : Heard) (next : Standing) → s.refused ≡ 0 → s.asked ≡ Some asked
+    → answered s s.last reply h ≡ Some next → IfSome s.last (λ last. fits last.action reply ≡ true) → IsDue s (Answers reply)
+due_answers s asked reply h next still asked_is legal fit = (still, ap is_some asked_is, fits_last s s.last reply h next legal fit)

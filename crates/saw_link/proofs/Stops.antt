@@ -1,17 +1,16 @@
 -- What passed of moves that did not come to their end.
-use Rattle.std.proofs.Common.{◌≡◌, ◌<◌, ◌≤◌, ◌+◌, ℕ, true, false, List, [], ◌∷◌, ◌++◌, length, Option, Some, None, Result, Ok, Err, refl, sym, ap, ◌∙◌, subst, arith}
+use Rattle.std.proofs.Common.{◌≡◌, ◌<◌, ◌+◌, ℕ, true, List, [], ◌∷◌, ◌++◌, length, Option, Some, None, Result, Ok, Err, refl, sym, ap, ◌∙◌, subst}
 use Rattle.std.specs.Result.{IfErr}
-use Rattle.std.specs.Prelude.{if◌then◌else◌}
 use Rattle.std.specs.Fmt.{decimal}
-use Rattle.saw_messages.specs.declared.talk.Action.{Action}
 use Rattle.saw_messages.specs.declared.talk.Reply.{Reply}
+use Rattle.saw_messages.specs.declared.talk.Reply.TheVariants.{Unauthorized}
 use Rattle.saw_messages.specs.declared.transaction.Transaction.{Transaction}
 use Rattle.saw_link.specs.declared.heard.Asked.{Asked}
 use Rattle.saw_link.specs.declared.heard.Finish.TheVariants.{Broken}
 use Rattle.saw_link.specs.declared.heard.Heard.{Heard}
 use Rattle.saw_link.specs.declared.heard.Registration.{Registration}
 use Rattle.saw_link.specs.declared.standing.LastStep.{LastStep}
-use Rattle.saw_link.specs.declared.heard.Heard.TheVariants.{Asks, Ends, Breach}
+use Rattle.saw_link.specs.declared.heard.Heard.TheVariants.{Ends, Breach}
 use Rattle.saw_link.specs.declared.standing.Standing.{Standing}
 use Rattle.saw_link.specs.declared.exchange.Trouble.{Trouble}
 use Rattle.saw_link.specs.declared.exchange.Trouble.TheVariants as troubles
@@ -20,7 +19,7 @@ use Rattle.saw_link.specs.LinkConversation.{Move, Registers, Begins, Answers, Re
 use Rattle.saw_link.specs.declared.passed.Passed.{Passed}
 use Rattle.saw_link.specs.declared.passed.Passed.TheVariants.{Sent, Received, Ended}
 use Rattle.saw_link.specs.Tells.{Adds}
-use Rattle.saw_link.specs.Troubles.{Unsent, Unreceived, Unasked, Unacted, IsTooLong, Troubled, Stopped, SaysBroken}
+use Rattle.saw_link.specs.Troubles.{Unsent, Unreceived, Unasked, Unacted, IsTooLong, IsUnregistered, Troubled, Stopped, SaysBroken}
 use Rattle.saw_link.specs.SentFrames.{answer, limit_of, process_request, welcome}
 use Rattle.saw_link.proofs.LinkRuns.{adds_two, ran_none}
 
@@ -145,50 +144,48 @@ pub none_refuses : (s : Standing) (frame : List ℕ) (h : Heard) → h ≡ heard
 unfolding after
 none_refuses s frame h said none = let P : Heard → Type 0 = λ x. closed s x ≡ None in subst P said none
 
-pub closed_over : (s : Standing) (h : Heard) (asked : Asked) (action : Action) → h ≡ Asks asked action → 999 ≤ s.refused → closed s h ≡ None
-closed_over s h asked action is above = rw is (grind arith)
-
-pub closed_breach : (s : Standing) (h : Heard) → h ≡ Breach → closed s h ≡ None
-closed_breach s h is = rw is refl
-
 pub adds_heard : (told later : Option (List Passed)) (s : Standing) (move : Move) (sent frame : List ℕ) → sent_before s move ≡ Sent sent ∷ []
     → Adds told (Sent sent ∷ Received frame ∷ []) later → Adds told (sent_before s move ++ Received frame ∷ []) later
 adds_heard told later s move sent frame is adds = let P : List Passed → Type 0 = λ x. Adds told (x ++ Received frame ∷ []) later in subst P (sym is) adds
 
+-- what was heard closes nothing
+pub unclosed_troubled : (told later : Option (List Passed)) (s : Standing) (sent frame : List ℕ) (h : Heard) → answer_sent s.asked (Unauthorized 0) ≡ Sent sent ∷ []
+    → h ≡ heard (limit_of s.version) (decimal s.count) frame → Adds told (Sent sent ∷ Received frame ∷ []) later
+    → (trouble : Trouble) → (trouble ≡ troubles.Breach frame) × (closed s h ≡ None) → Troubled trouble told s Refuses later
+unclosed_troubled told later s sent frame h is said adds trouble unclosed =
+    let Q : Trouble → Type 0 = λ x. Troubled x told s Refuses later in
+    subst Q (sym unclosed.0) (none_refuses s frame h said unclosed.1, λ e. e, adds_heard told later s Refuses sent frame is adds)
+
 -- ---- registrations
 
-pub none_registers : (s : Standing) (limit : ℕ) (frame : List ℕ) (read : Option Registration) → limit ≡ limit_of s.version
-    → read ≡ registration limit frame → registered s read ≡ None → after s Registers frame ≡ None
+pub unregistered_troubled : (told later : Option (List Passed)) (s : Standing) (frame : List ℕ) → Adds told (Received frame ∷ []) later
+    → (trouble : Trouble) → IsUnregistered s frame trouble → Troubled trouble told s Registers later
 unfolding after
-none_registers s limit frame read limit_is read_is none = let P : Option Registration → Type 0 = λ x. registered s x ≡ None in
-    subst P (read_is ∙ ap (λ l. registration l frame) limit_is) none
-
-pub may_not : (s : Standing) (found : Registration) (version : ℕ) → version ≡ version_by found.request.protocol_version
-    → may_register s version ≡ false → registered s (Some found) ≡ None
-may_not s found version version_is may = let P : ℕ → Type 0 = λ v. (if may_register s v then registered_by s found v else None) ≡ None in
-    subst P version_is (rw may refl)
+unregistered_troubled told later s frame adds troubles.Link u = absurd u
+unregistered_troubled told later s frame adds troubles.TooLong u = absurd u
+unregistered_troubled told later s frame adds troubles.Ended u = absurd u
+unregistered_troubled told later s frame adds troubles.Broken u = absurd u
+unregistered_troubled told later s frame adds (troubles.Breach other) u =
+    let P : List ℕ → Type 0 = λ x. (registered s (registration (limit_of s.version) x) ≡ None) × (⊥ → ⊥) × Adds told (Received x ∷ []) later in
+    subst P (sym u.1) (u.0, λ e. e, adds)
+unregistered_troubled told later s frame adds troubles.Exhausted u = absurd u
+unregistered_troubled told later s frame adds troubles.OutOfMemory u = tt
 
 some_alike : {A : Type 0} (x y : A) → Some x ≡ Some y → x ≡ y
 some_alike x y e = cc
 
 -- the answer to a registration was not sent
-module _ (told mid later : Option (List Passed)) (s next : Standing) (frame sent : List ℕ) (limit : ℕ) (read : Option Registration)
-    (found : Registration) (version : ℕ) (limit_is : limit ≡ limit_of s.version)
-    (read_is : read ≡ registration limit frame) (is : read ≡ Some found) (version_is : version ≡ version_by found.request.protocol_version)
-    (may : may_register s version ≡ true) (entered : registered_by s found version ≡ Some next)
-    (sent_is : sent ≡ welcome version found.correlation) (received : Adds told (Received frame ∷ []) mid) where
-  entered_read : registration (limit_of s.version) frame ≡ Some found
-  entered_read = sym (ap (λ l. registration l frame) limit_is) ∙ sym read_is ∙ is
-
-  entered_version : version ≡ next.version
+module _ (told mid later : Option (List Passed)) (s next : Standing) (frame sent : List ℕ) (limit : ℕ) (found : Registration)
+    (limit_is : limit ≡ limit_of s.version) (entered_read : registration (limit_of s.version) frame ≡ Some found)
+    (may : may_register s (version_by found.request.protocol_version) ≡ true)
+    (entered : registered_by s found (version_by found.request.protocol_version) ≡ Some next)
+    (sent_is : sent ≡ welcome (version_by found.request.protocol_version) found.correlation) (received : Adds told (Received frame ∷ []) mid) where
+  entered_version : version_by found.request.protocol_version ≡ next.version
   entered_version = ap (λ x. x.version) (some_alike _ _ entered)
 
   entered_legal : after s Registers frame ≡ Some next
   unfolding after
-  entered_legal =
-      let Q : Option Registration → Type 0 = λ r. registered s r ≡ Some next in
-      let R : ℕ → Type 0 = λ v. (if may_register s v then registered_by s found v else None) ≡ Some next in
-      subst Q (sym entered_read) (subst R version_is (rw may entered))
+  entered_legal = let Q : Option Registration → Type 0 = λ r. registered s r ≡ Some next in subst Q (sym entered_read) (rw may entered)
 
   entered_sent : sent_behind s Registers frame next ≡ Sent sent ∷ []
   entered_sent = ap (welcomed next.version) entered_read ∙ ap (λ v. Sent (welcome v found.correlation) ∷ []) (sym entered_version)

@@ -1,8 +1,8 @@
 -- Why a move did not come to its end, and what passed of it.
 use Rattle.std.specs.Prelude.{◌≡◌, ◌<◌, ◌≤◌, ◌+◌, ◌^◌, ℕ, List, [], ◌∷◌, ◌++◌, Option, Some, None, length}
 use Rattle.std.specs.Fmt.{decimal}
-use Rattle.saw_link.specs.Hearing.{heard}
-use Rattle.saw_link.specs.LinkConversation.{Move, Registers, Begins, Answers, Refuses, Ran, after, sent_before, sent_behind}
+use Rattle.saw_link.specs.Hearing.{heard, registration}
+use Rattle.saw_link.specs.LinkConversation.{Move, Registers, Begins, Answers, Refuses, Ran, after, registered, sent_before, sent_behind}
 use Rattle.saw_link.specs.declared.passed.Passed.{Passed}
 use Rattle.saw_link.specs.declared.passed.Passed.TheVariants.{Sent, Received, Ended}
 use Rattle.saw_link.specs.Tells.{Adds}
@@ -59,6 +59,16 @@ Unacted troubles.Broken said frame = said ≡ Ends Broken
 Unacted (troubles.Breach other) said frame = (said ≡ Breach) × (other ≡ frame)
 Unacted troubles.Exhausted said frame = ⊥
 Unacted troubles.OutOfMemory said frame = Unit {0}
+
+-- no registration that is legal here was heard
+abbrev pub IsUnregistered : Standing → List ℕ → Trouble → Type 0
+IsUnregistered s frame troubles.Link = ⊥
+IsUnregistered s frame troubles.TooLong = ⊥
+IsUnregistered s frame troubles.Ended = ⊥
+IsUnregistered s frame troubles.Broken = ⊥
+IsUnregistered s frame (troubles.Breach other) = (registered s (registration (limit_of s.version) frame) ≡ None) × (other ≡ frame)
+IsUnregistered s frame troubles.Exhausted = ⊥
+IsUnregistered s frame troubles.OutOfMemory = Unit {0}
 
 -- the peer says that it broke, while the station waits for its action
 abbrev pub SaysBroken : Standing → Move → List ℕ → Type 0

@@ -18,9 +18,9 @@ ghost use Rattle.saw_link.specs.Hearing.{heard, registration, registration_in, h
 
 use saw_address::Address;
 use saw_linkmsg::{
-    Envelope, TpRegisterRequest, TpStateEntry, decode_envelope, decode_tp_event_add_request,
-    decode_tp_process_response, decode_tp_register_request, decode_tp_state_delete_request,
-    decode_tp_state_get_request, decode_tp_state_set_request,
+    Envelope, TpRegisterRequest, TpStateEntry, TpStateSetRequest, decode_envelope,
+    decode_tp_event_add_request, decode_tp_process_response, decode_tp_register_request,
+    decode_tp_state_delete_request, decode_tp_state_get_request, decode_tp_state_set_request,
 };
 use saw_messages::{Action, Entry, MessageFault, Place};
 use saw_wire::{Items, Text};
@@ -214,9 +214,21 @@ fn hear_set(
     ensures asking { IfOk result IsAsking }
     ensures value { IfOk result (λ made. made ≡ heard_set context.now correlation (result_ok (tp_state_set_request content.now))) }
 {
-    let Some(message) = legal(decode_tp_state_set_request(alloc, content))? else {
-        return Ok(Heard::Breach);
-    };
+    match legal(decode_tp_state_set_request(alloc, content))? {
+        Some(message) => asks_to_set(alloc, context, correlation, &message),
+        None => Ok(Heard::Breach),
+    }
+}
+
+fn asks_to_set(
+    alloc: Global,
+    context: &str,
+    correlation: Text,
+    message: &TpStateSetRequest,
+) -> Result<Heard, AllocError>
+    ensures asking { IfOk result IsAsking }
+    ensures value { IfOk result (λ made. made ≡ heard_set context.now correlation (Some message.now)) }
+{
     let same = message.context_id.as_str() == context;
     let texts = texts_of(alloc, message.entries.as_slice())?;
     let entries = entries_of(alloc, message.entries.as_slice())?;

@@ -9,11 +9,12 @@ ghost use Rattle.saw_messages.specs.TxShapes.{shape_in};
 ghost use Rattle.saw_station.specs.TalkSteps.{IsShort, fits};
 ghost use Rattle.saw_link.specs.Asking.{IsAsking};
 ghost use Rattle.saw_link.specs.Copies.{kept_tx};
-ghost use Rattle.saw_link.specs.Hearing.{heard};
-ghost use Rattle.saw_link.specs.LinkConversation.{Move, Registers, Begins, Answers, Refuses, ObeysAfter, IsSpelled, IsAct, Moved, Closed, Registered, Began, acted, after, left_by, may_register, registered_by, version_by};
-ghost use Rattle.saw_link.specs.Troubles.{Unasked, Unacted, Troubled, Stopped};
+ghost use Rattle.saw_link.specs.Hearing.{heard, registration};
+ghost use Rattle.saw_link.specs.LinkConversation.{Move, Registers, Begins, Answers, Refuses, ObeysAfter, IsSpelled, IsAct, Moved, Closed, Registered, Began, acted, after, answered, closed, left_by, may_register, registered_by, version_by};
+ghost use Rattle.saw_link.specs.Troubles.{IsUnregistered, Unasked, Unacted, Troubled, Stopped};
 ghost use Rattle.saw_link.specs.declared.passed.Passed.{Passed};
 ghost use Rattle.saw_link.specs.declared.passed.Passed.TheVariants.{Sent, Received};
+ghost use Rattle.saw_link.specs.SentFrames.{answer, limit_of, process_request, welcome};
 ghost use Rattle.saw_link.specs.Tells.{Adds};
 
 use crate::copies::{copy_action, copy_reply, copy_tx};
@@ -152,14 +153,35 @@ pub(crate) fn begin_tx<L: Link>(
         return Err(Trouble::Exhausted);
     };
     let kept = copy_tx(alloc, tx)?;
-    let context = number(alloc, count)?;
-    let sent = process_request(alloc, standing.version, &context, &kept)?;
-    let limit = limit_of(standing.version);
-    let said = match ask(alloc, link, limit, context.as_str(), &sent) {
+    let said = match ask_about(alloc, link, standing.version, count, &kept) {
         Ok(said) => said,
         Err(trouble) => return Err(trouble),
     };
     act(alloc, standing, kept, Items::new(alloc), count, said)
+}
+
+// Sends a transaction under this number, and hears the next frame.
+fn ask_about<L: Link>(
+    alloc: Global,
+    link: &mut L,
+    version: u32,
+    count: u64,
+    tx: &Transaction,
+) -> Result<Said, Trouble>
+    ensures heard { IfOk result (λ said. said.heard ≡ heard (limit_of version) (decimal count) said.frame) }
+    ensures asking { IfOk result (λ said. IsAsking said.heard) }
+    ensures adds { IfOk result (λ said. Adds (L.told link.old) (Sent (process_request version (decimal count) tx.now) ∷ Received said.frame ∷ []) (L.told link.new)) }
+    ensures within { OnOk result (length (process_request version (decimal count) tx.now) ≤ limit_of version) }
+    ensures obeys { L.tells ≡ true → IfOk result (λ said. ObeysAfter L.next (L.told link.old) (process_request version (decimal count) tx.now) said.frame) }
+    ensures whole { L.tells ≡ true → OnOk result (IsSome (L.told link.old)) }
+    ensures later { L.faults link.old ≤ L.faults link.new }
+    ensures unasked { IfErr result (λ trouble. Unasked trouble (L.told link.old) (limit_of version) (process_request version (decimal count) tx.now) (L.told link.new)) }
+    ensures link { IsErrOf result Trouble.Link → Rose (L.faults link.old) (L.faults link.new) }
+{
+    let context = number(alloc, count)?;
+    let sent = process_request(alloc, version, &context, tx)?;
+    let limit = limit_of(version);
+    ask(alloc, link, limit, context.as_str(), &sent)
 }
 
 /// Answers the request that waits.
@@ -188,18 +210,74 @@ pub(crate) fn go_on<L: Link>(
     let Some(asked) = &standing.asked else {
         return Err(Trouble::OutOfMemory);
     };
+    let said = answer_asked(alloc, link, standing, asked, reply)?;
+    take_turn(alloc, standing, reply, said)
+}
+
+// Answers this request, and hears the next frame.
+fn answer_asked<L: Link>(
+    alloc: Global,
+    link: &mut L,
+    standing: &Standing,
+    asked: &Asked,
+    reply: &Reply,
+) -> Result<Said, Trouble>
+    ensures heard { IfOk result (λ said. said.heard ≡ heard (limit_of standing.now.version) (decimal standing.now.count) said.frame) }
+    ensures asking { IfOk result (λ said. IsAsking said.heard) }
+    ensures adds { IfOk result (λ said. Adds (L.told link.old) (Sent (answer asked.now reply.now) ∷ Received said.frame ∷ []) (L.told link.new)) }
+    ensures within { OnOk result (length (answer asked.now reply.now) ≤ limit_of standing.now.version) }
+    ensures obeys { L.tells ≡ true → IfOk result (λ said. ObeysAfter L.next (L.told link.old) (answer asked.now reply.now) said.frame) }
+    ensures whole { L.tells ≡ true → OnOk result (IsSome (L.told link.old)) }
+    ensures later { L.faults link.old ≤ L.faults link.new }
+    ensures unasked { IfErr result (λ trouble. Unasked trouble (L.told link.old) (limit_of standing.now.version) (answer asked.now reply.now) (L.told link.new)) }
+    ensures link { IsErrOf result Trouble.Link → Rose (L.faults link.old) (L.faults link.new) }
+{
     let sent = answer(alloc, asked, reply)?;
-    let reply = copy_reply(alloc, reply)?;
     let context = number(alloc, standing.count)?;
     let limit = limit_of(standing.version);
-    let said = ask(alloc, link, limit, context.as_str(), &sent)?;
-    let count = standing.count;
+    ask(alloc, link, limit, context.as_str(), &sent)
+}
+
+// Keeps the peer's action behind the last step and this reply to it.
+fn take_turn(
+    alloc: Global,
+    standing: &mut Standing,
+    reply: &Reply,
+    said: Said,
+) -> Result<Action, Trouble>
+    requires { IsAsking said.heard }
+    ensures still { OnOk result ((standing.new.refused ≡ 0) × (standing.new.more ≡ standing.old.more)) }
+    ensures answered { OnOk result (answered standing.old standing.old.last reply.now said.heard ≡ Some standing.new) }
+    ensures last { IfOk result (λ action. IfSome standing.old.last (λ last. standing.new.last
+        ≡ Some (record { tx = last.tx; turns = last.turns ++ record { action = last.action; reply = reply.now } ∷ []; action = action }))) }
+    ensures had { OnOk result (IsSome standing.old.last) }
+    ensures own { IfOk result (λ action. has_own_reason action ≡ true) }
+    ensures short { IfOk result IsShort }
+    ensures talking { IfOk result (λ action. is_some standing.new.asked ≡ true → is_request action ≡ true) }
+    ensures offers { standing.new.offers ≡ standing.old.offers }
+    ensures unacted { IfErr result (λ trouble. Unacted trouble said.heard said.frame) }
+    ensures link { IsErrOf result Trouble.Link → ⊥ }
+{
     let Some(last) = standing.last.take() else {
         return Err(Trouble::OutOfMemory);
     };
+    let (tx, turns) = turns_behind(alloc, last, reply)?;
+    let count = standing.count;
+    act(alloc, standing, tx, turns, count, said)
+}
+
+// The transaction of a step, and its turns with the reply to its action.
+fn turns_behind(
+    alloc: Global,
+    last: LastStep,
+    reply: &Reply,
+) -> Result<(Transaction, Items<Turn>), AllocError>
+    ensures { IfOk result (λ made. made ≡ (last.tx, last.turns ++ record { action = last.action; reply = reply.now } ∷ [])) }
+{
+    let reply = copy_reply(alloc, reply)?;
     let (tx, mut turns, action) = last.parts();
     turns.push(Turn { action, reply })?;
-    act(alloc, standing, tx, turns, count, said)
+    Ok((tx, turns))
 }
 
 /// Refuses the request that waits.
@@ -218,10 +296,27 @@ fn refuse<L: Link>(alloc: Global, link: &mut L, standing: &mut Standing) -> Resu
     let Some(asked) = &standing.asked else {
         return Ok(());
     };
-    let sent = answer(alloc, asked, &Reply::Unauthorized { index: 0 })?;
-    let context = number(alloc, standing.count)?;
-    let limit = limit_of(standing.version);
-    let said = ask(alloc, link, limit, context.as_str(), &sent)?;
+    let said = answer_asked(
+        alloc,
+        link,
+        standing,
+        asked,
+        &Reply::Unauthorized { index: 0 },
+    )?;
+    take_refused(standing, said)
+}
+
+// Keeps what the peer says to a refusal.
+fn take_refused(standing: &mut Standing, said: Said) -> Result<(), Trouble>
+    ensures closed { OnOk result (closed standing.old said.heard ≡ Some standing.new) }
+    ensures still { OnOk result (is_some standing.new.asked ≡ false → standing.new.refused ≡ 0) }
+    ensures more { standing.new.more ≡ standing.old.more }
+    ensures less { OnOk result (is_some standing.old.asked ≡ true
+        → left_by standing.new.asked standing.new.refused < left_by standing.old.asked standing.old.refused) }
+    ensures last { standing.new.last ≡ standing.old.last }
+    ensures offers { standing.new.offers ≡ standing.old.offers }
+    ensures unclosed { IfErr result (λ trouble. (trouble ≡ Trouble.Breach said.frame) × (closed standing.old said.heard ≡ None)) }
+{
     let Said { heard, frame } = said;
     match heard {
         Heard::Asks(asked, _) => {
@@ -279,16 +374,48 @@ fn register<L: Link>(alloc: Global, link: &mut L, standing: &mut Standing) -> Re
 {
     let limit = limit_of(standing.version);
     let frame = receive(alloc, link)?;
-    let Some(found) = hear_registration(alloc, limit, &frame)? else {
-        return Err(Trouble::Breach(Bytes::from_vec(frame)));
-    };
-    let version = version_by(found.request.protocol_version);
-    if !may_register(standing, version) {
-        return Err(Trouble::Breach(Bytes::from_vec(frame)));
+    let found = legal_registration(alloc, standing, frame)?;
+    let sent = take_registration(alloc, standing, found)?;
+    send(alloc, link, limit, &sent)
+}
+
+// The registration that a frame says, where it is legal here.
+fn legal_registration(
+    alloc: Global,
+    standing: &Standing,
+    frame: Vec<u8>,
+) -> Result<Registration, Trouble>
+    ensures found { IfOk result (λ found. registration (limit_of standing.now.version) frame.items ≡ Some found) }
+    ensures may { IfOk result (λ found. may_register standing.now (version_by found.request.protocol_version) ≡ true) }
+    ensures breach { IfErr result (IsUnregistered standing.now frame.items) }
+{
+    let limit = limit_of(standing.version);
+    if let Some(found) = hear_registration(alloc, limit, &frame)? {
+        if may_register(standing, version_by(found.request.protocol_version)) {
+            return Ok(found);
+        }
     }
+    Err(Trouble::Breach(Bytes::from_vec(frame)))
+}
+
+// Keeps what a registration offers, and gives the answer to it.
+fn take_registration(
+    alloc: Global,
+    standing: &mut Standing,
+    found: Registration,
+) -> Result<Vec<u8>, AllocError>
+    requires { may_register standing.old (version_by found.request.protocol_version) ≡ true }
+    ensures still { standing.new.refused ≡ standing.old.refused }
+    ensures entered { OnOk result (registered_by standing.old found (version_by found.request.protocol_version) ≡ Some standing.new) }
+    ensures answer { IfOk result (λ made. made.items ≡ welcome (version_by found.request.protocol_version) found.correlation) }
+    ensures asked { standing.new.asked ≡ standing.old.asked }
+    ensures few { OnOk result (standing.new.registrations ≤ 100) }
+    ensures less { OnOk result (standing.new.registrations ≡ standing.old.registrations + 1) }
+{
+    let version = version_by(found.request.protocol_version);
     let sent = welcome(alloc, version, found.correlation.as_str())?;
     enter(standing, version, found)?;
-    send(alloc, link, limit, &sent)
+    Ok(sent)
 }
 
 fn version_by(protocol: u32) -> u32

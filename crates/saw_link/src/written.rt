@@ -101,12 +101,18 @@ fn entries_of(
 {
     let mut made = Items::new(alloc);
     for i in 0..texts.len().min(bodies.len()) {
-        made.push(TpStateEntry {
-            address: texts[i].try_clone(alloc)?,
-            body: bodies[i].try_clone(alloc)?,
-        })?;
+        made.push(entry_of(alloc, &texts[i], &bodies[i])?)?;
     }
     Ok(made)
+}
+
+fn entry_of(alloc: Global, text: &Text, body: &Bytes) -> Result<TpStateEntry, AllocError>
+    ensures { IfOk result (λ made. made ≡ record { address = text.now; body = body.now }) }
+{
+    Ok(TpStateEntry {
+        address: text.try_clone(alloc)?,
+        body: body.try_clone(alloc)?,
+    })
 }
 
 fn copy_texts(alloc: Global, texts: &[Text]) -> Result<Items<Text>, AllocError>

@@ -1,13 +1,14 @@
 //! The states of a journal.
 
-ghost use Rattle.std.specs.Prelude.{◌≡◌, ◌≤◌, [], None, Some, IfErr, IfOk, IfSome, IsSome, OnErr, OnOk};
+ghost use Rattle.std.specs.Prelude.{◌≡◌, ◌≤◌, [], ◌∷◌, None, Some, IfErr, IfOk, IfSome, IsSome, OnErr, OnOk};
 ghost use Rattle.std.specs.FinMap as finite;
 ghost use Rattle.saw_address.specs.Maps.{no_entries};
 ghost use Rattle.saw_context.specs.Changed.{AreRising};
 ghost use Rattle.saw_context.specs.Outcome.{map_after};
-ghost use Rattle.saw_node.specs.Nodes.{shape_of};
+ghost use Rattle.saw_node.specs.Nodes.{encoding_of, shape_of};
 ghost use Rattle.saw_node.specs.Trees.{root_of_map};
 ghost use Rattle.saw_store.specs.News.{AreNamed, with_all};
+ghost use Rattle.saw_store.specs.Stores.{with_node};
 ghost use Rattle.saw_merkle.specs.Clashes.{AreTold, AreToldWith, IsClashFor, IsPreparedFor};
 ghost use Rattle.saw_merkle.specs.Inside.{HasMore, HasSame};
 ghost use Rattle.saw_merkle.specs.States.{AreRooted, IsRooted, Updates, knows, map_at, state_at};
@@ -76,17 +77,34 @@ fn join<H: NodeHasher>(
     Ok(())
 }
 
+// The hash of the node without anything, which is kept.
+fn put_empty<H: NodeHasher>(alloc: Global, store: &mut NodeStore<H>) -> Result<NodeHash, AllocError>
+    ensures hash { IfOk result (λ hash. hash ≡ H.hash_of (encoding_of (record { value = None; children = [] }))) }
+    ensures kept { OnOk result (store.new ≡ with_node H.hash_of store.old (record { value = None; children = [] })) }
+{
+    match store.put(Node::empty(alloc)) {
+        Ok(empty) => Ok(empty),
+        Err(_) => Err(AllocError),
+    }
+}
+
+// A set of one root.
+fn only_root(alloc: Global, root: NodeHash) -> Result<BTreeSet<NodeHash>, AllocError>
+    ensures { IfOk result (λ roots. roots.keys ≡ root ∷ []) }
+{
+    let mut roots = BTreeSet::new(alloc);
+    roots.insert(root)?;
+    Ok(roots)
+}
+
 impl<H: NodeHasher> State<H> {
     /// Only the empty map's root is known.
     pub fn new(alloc: Global) -> Result<Self, AllocError>
         ensures { IfOk result (λ s. s ≡ knows H.hash_of finite.empty no_entries) }
     {
         let mut store = NodeStore::<H>::new(alloc)?;
-        let Ok(empty) = store.put(Node::empty(alloc)) else {
-            return Err(AllocError);
-        };
-        let mut roots = BTreeSet::new(alloc);
-        roots.insert(empty)?;
+        let empty = put_empty(alloc, &mut store)?;
+        let roots = only_root(alloc, empty)?;
         Ok(State {
             alloc,
             store,

@@ -58,7 +58,7 @@ fn sort_next<K: KnownIds>(
 
 /// Sorts batches by the static rules: against what is known and the batches kept before it a batch is dropped where its id
 /// or that of one of its transactions is there already, or where a dependency is neither there nor earlier in the batch.
-/// The ids of the kept batches are known then, too.
+/// The ids of the kept batches are known then, too; after want of memory those of some of them may be.
 pub fn precheck_by<K: KnownIds>(
     alloc: Global,
     known: &mut K,

@@ -10,7 +10,6 @@ use Rattle.saw_messages.specs.Blocks.{block_header_pieces, block_pieces}
 use Rattle.saw_messages.specs.Reasons.{has_own_reason}
 use Rattle.saw_messages.specs.TxShapes.{BatchShape, TxShape}
 use Rattle.saw_messages.specs.declared.batch.Batch.{Batch}
-use Rattle.saw_messages.specs.declared.block.BlockHeader.{BlockHeader}
 use Rattle.saw_messages.specs.declared.talk.Turn.{Turn}
 use Rattle.saw_node.specs.Trees.{root_of_map}
 use Rattle.saw_plan.specs.StaticRules.{Ids}
@@ -86,20 +85,18 @@ module _ (hash : List ℕ → List ℕ) (signing : Signing) (states : States) (p
   made_clash some stores.OutOfMemory clash = tt
 
   -- the block of those that are
-  pub made_block : ((ids ≡ []) → ⊥) → (root : List ℕ) → root ≡ root_of_map hash (map_after before ran.changes) → (header : BlockHeader)
-      → header ≡ header_with signing.key parent ids root → (bytes : List ℕ) → bytes ≡ spelled (block_header_pieces header) → (sig : List ℕ)
-      → sig ≡ signing.signature bytes → (block : List ℕ)
-      → ((batches : List Batch) (signs : List ℕ → List ℕ) → sifted.encodings ≡ map encoded batches → sig ≡ signs bytes
-      → block ≡ spelled (block_pieces (signed_block signs bytes (still_in ran.fates batches)))) → (dropped : List Loss)
+  pub made_block : ((ids ≡ []) → ⊥) → (root : List ℕ) → root ≡ root_of_map hash (map_after before ran.changes) → (block : List ℕ)
+      → ((batches : List Batch) → sifted.encodings ≡ map encoded batches → block ≡ spelled (block_pieces (signed_block signing.signature
+      (spelled (block_header_pieces (header_with signing.key parent ids root))) (still_in ran.fates batches)))) → (dropped : List Loss)
       → dropped ≡ losses_from 0 (further sifted.fates ran.fates)
       → (0 < length draft.applied) × (block ≡ content_of hash signing parent draft) × (dropped ≡ losses_from 0 draft.fates)
-  made_block some root root_is header header_is bytes bytes_are sig sig_is block written dropped losses =
+  made_block some root root_is block written dropped losses =
+      let bytes : List ℕ = spelled (block_header_pieces (header_with signing.key parent ids root)) in
       let said : bytes ≡ spelled (block_header_pieces (header_of signing.key parent draft.applied (root_of_map hash draft.left))) =
-      bytes_are ∙ ap (λ header. spelled (block_header_pieces header)) (header_is
-      ∙ ap (λ ids. header_with signing.key parent ids root) applied_ids
+      ap (λ header. spelled (block_header_pieces header)) (ap (λ ids. header_with signing.key parent ids root) applied_ids
       ∙ ap (header_of signing.key parent draft.applied) (root_is ∙ ap (root_of_map hash) is.left)) in (
         some_applied some,
-        written is.roomy signing.signature is.encodings sig_is
+        written is.roomy is.encodings
             ∙ ap (λ applied. spelled (block_pieces (signed_block signing.signature bytes applied))) is.applied
             ∙ ap (λ bytes. spelled (block_pieces (signed_block signing.signature bytes draft.applied))) said,
         losses ∙ ap (losses_from 0) is.fates,

@@ -6,12 +6,12 @@ ghost use Rattle.saw_messages.specs.declared.batch.Batch.{Batch};
 ghost use Rattle.saw_wire.specs.Writing.{bytes_pieces, spelled};
 ghost use Rattle.saw_wire.specs.Written.{texts_pieces};
 ghost use Rattle.saw_publish.specs.Candidates.{header_with, number_behind, previous_of, signed_block};
-ghost use Rattle.saw_messages.specs.Blocks.{block_pieces};
+ghost use Rattle.saw_messages.specs.Blocks.{block_header_pieces, block_pieces};
 ghost use Rattle.saw_publish.specs.Fates.{still_in};
 ghost use Rattle.saw_publish.specs.Room.{encoded};
 
 use crate::fates::Fate;
-use saw_messages::{BlockHeader, TxBatch};
+use saw_messages::{BlockHeader, TxBatch, encode_block_header};
 use saw_node::NodeHash;
 use saw_receipts::Parent;
 use saw_verify::Signer;
@@ -102,8 +102,8 @@ fn put_batches(out: &mut Vec<u8>, fates: &[Fate], encodings: &[Bytes]) -> Result
     Ok(())
 }
 
-/// The bytes of a block with this header, its signature and the batches that stay in.
-pub(crate) fn block_bytes(
+// The bytes of a block with this header, its signature and the batches that stay in.
+fn block_bytes(
     alloc: Global,
     header: &[u8],
     signature: &[u8],
@@ -119,4 +119,26 @@ pub(crate) fn block_bytes(
     put_bytes(&mut out, 2, signature)?;
     put_batches(&mut out, fates, encodings)?;
     Ok(out)
+}
+
+/// The bytes of a signed block that leaves a map with this root, with the batches that stay in, whose ids these are.
+pub(crate) fn signed_bytes<G: Signer>(
+    alloc: Global,
+    signer: &G,
+    parent: Option<&Parent>,
+    ids: Items<Text>,
+    root: NodeHash,
+    fates: &[Fate],
+    encodings: &[Bytes],
+) -> Result<Vec<u8>, AllocError>
+    requires { IfSome (option_copied parent) (λ parent. parent.number + 1 < 2 ^ 64) }
+    ensures { let header = header_with (G.key_text signer.now) (option_copied parent.entry) ids root in
+        IfOk result (λ out. (batches : List Batch) → encodings.now ≡ map encoded batches
+        → out.items ≡ spelled (block_pieces (signed_block (G.signature signer.now)
+        (spelled (block_header_pieces header)) (still_in fates.now batches)))) }
+{
+    let header = header_of(alloc, signer, parent, ids, root)?;
+    let header = encode_block_header(alloc, &header)?;
+    let signature = signer.sign(&header);
+    block_bytes(alloc, &header, &signature, fates, encodings)
 }

@@ -14,7 +14,7 @@ ghost use Rattle.saw_publish.specs.Fates.{further, losses_from};
 ghost use Rattle.saw_publish.specs.Ran.{IsDraft};
 ghost use Rattle.saw_publish.specs.declared.fault.PublishFault.TheVariants.{NothingValid, OutOfMemory};
 
-use crate::block::{block_bytes, header_of, ids_of};
+use crate::block::{ids_of, signed_bytes};
 use crate::candidate::Candidate;
 use crate::fates::{Fate, losses, merged};
 use crate::fault::PublishFault;
@@ -22,7 +22,7 @@ use crate::run::{Ran, run};
 use crate::sift::{Sifted, sift};
 use saw_crew::workers_at;
 use saw_merkle::State;
-use saw_messages::{Batch, encode_block_header};
+use saw_messages::Batch;
 use saw_node::{NodeHash, NodeHasher, root_by};
 use saw_plan::Known;
 use saw_receipts::{Loss, Parent};
@@ -110,13 +110,12 @@ fn make<H: NodeHasher, T: Threads + Wait + Sync, G: Signer>(
         return Err(nothing_valid(alloc, fates, more));
     }
     let root = state.root_after(rt, before, changes.as_slice(), workers)?;
-    let header = header_of(alloc, signer, parent, ids, root)?;
-    let header = encode_block_header(alloc, &header)?;
-    let signature = signer.sign(&header);
-    let block = block_bytes(
+    let block = signed_bytes(
         alloc,
-        &header,
-        &signature,
+        signer,
+        parent,
+        ids,
+        root,
         more.as_slice(),
         encodings.as_slice(),
     )?;

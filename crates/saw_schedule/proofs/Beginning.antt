@@ -19,6 +19,7 @@ use Rattle.saw_ready.specs.Sets.{IsEmpty}
 use Rattle.saw_ready.specs.declared.edges.Edges.{Edges}
 use Rattle.saw_ready.specs.declared.mark.Mark.{Mark}
 use Rattle.saw_ready.specs.declared.mark.Mark.TheVariants as marks
+use Rattle.saw_schedule.specs.Begun.{AreNewSlotsOf, IsNewQueueOf}
 use Rattle.saw_schedule.specs.Histories.{begun, order_in, sizes_in, txs_in}
 use Rattle.saw_schedule.specs.Inside.{AreSlotsOf, IsScheduleOf, running_in}
 use Rattle.saw_schedule.specs.Lasts.{IsNothing}
@@ -159,25 +160,20 @@ module _ (plan : Plan) (txs : List (Arc Tx Global)) (few : length txs < 2 ^ 32) 
   pub total : length txs ≡ sum (sizes_in (begun plan))
   total = count ∙ sym (sum-sizes plan.batches)
 
-  pub begins : (batches : List BatchShape) (preds : Edges) (starts : List ℕ) (slots : Slots) → batches ≡ plan.batches
-      → AreEdges preds (length txs) → AreEarlier preds (length txs) → AreEdgesOf (precedes_in (shapes_of txs)) (is_edge preds)
-      → IsNew preds starts slots.queue → starts ≡ starts_of 0 (map length (txs_of batches)) → slots.ends.items ≡ ends_of 0 (map length (txs_of batches))
-      → (length slots.hits ≡ length txs) × IsEmpty slots.hits
-      → (length slots.kept.items ≡ length txs) × AllByRecursion (λ k. k.attempts ≡ 0) slots.kept.items
-      → slots.verdicts.items ≡ [] → length batches ≤ vec_capacity slots.verdicts
-      → Begins (order_in (begun plan)) (sizes_in (begun plan)) preds slots
-  begins batches preds starts slots batches_are edges earlier thin queue starts_are ends hits kept verdicts room = record {
-    queue = subst (λ (all : List ℕ). IsNew preds all slots.queue) (starts_are ∙ ap (λ (b : List BatchShape). starts_of 0 (map length (txs_of b))) batches_are) queue;
-    edges = subst (λ (n : ℕ). AreEdges preds n) total edges;
-    earlier = subst (λ (n : ℕ). AreEarlier preds n) total earlier;
-    thin = subst (λ (shapes : List TxShape). AreEdgesOf (precedes_in shapes) (is_edge preds)) are thin;
-    ends = ends ∙ ap (λ (b : List BatchShape). ends_of 0 (map length (txs_of b))) batches_are;
-    hits_long = hits.0 ∙ total;
-    idle = hits.1;
-    kept_long = kept.0 ∙ total;
-    untaken = kept.1;
-    verdicts = verdicts;
-    room = subst (λ (n : ℕ). n ≤ vec_capacity slots.verdicts) long room;
+  pub begins : (batches : List BatchShape) (slots : Slots) → batches ≡ plan.batches → AreNewSlotsOf batches txs slots
+      → Begins (order_in (begun plan)) (sizes_in (begun plan)) slots.queue.preds slots
+  begins batches slots batches_are new = record {
+    queue = subst (λ (b : List BatchShape). IsNew slots.queue.preds (starts_of 0 (map length (txs_of b))) slots.queue) batches_are new.queue.new;
+    edges = subst (λ (n : ℕ). AreEdges slots.queue.preds n) total new.queue.edges;
+    earlier = subst (λ (n : ℕ). AreEarlier slots.queue.preds n) total new.queue.earlier;
+    thin = subst (λ (shapes : List TxShape). AreEdgesOf (precedes_in shapes) (is_edge slots.queue.preds)) are new.queue.thin;
+    ends = new.ends ∙ ap (λ (b : List BatchShape). ends_of 0 (map length (txs_of b))) batches_are;
+    hits_long = new.hits_long ∙ total;
+    idle = new.idle;
+    kept_long = new.kept_long ∙ total;
+    untaken = new.untaken;
+    verdicts = new.verdicts;
+    room = subst (λ (n : ℕ). n ≤ vec_capacity slots.verdicts) long new.room;
     few = subst (λ (n : ℕ). n < 2 ^ 32) total few;
   }
     where
@@ -185,13 +181,27 @@ module _ (plan : Plan) (txs : List (Arc Tx Global)) (few : length txs < 2 ^ 32) 
       long = ap (λ (b : List BatchShape). length b) batches_are
           ∙ sym (length-map (txs_of plan.batches) (λ (txs : List TxShape). length txs) ∙ length-map plan.batches (λ (b : BatchShape). b.txs))
 
-  pub starts-right : (batches : List BatchShape) (starts : List ℕ) → batches ≡ plan.batches → starts ≡ starts_of 0 (map length (txs_of batches))
-      → (length txs ≡ length starts) × AreStarts starts
-  starts-right batches starts batches_are starts_are =
-      let is : starts ≡ starts_of 0 (sizes_in (begun plan)) = starts_are ∙ ap (λ (b : List BatchShape). starts_of 0 (map length (txs_of b))) batches_are in
-      (total ∙ sym (ap (λ (l : List ℕ). length l) is ∙ length-starts 0 (sizes_in (begun plan))), subst (λ (l : List ℕ). AreStarts l) (sym is) (starts-are (sizes_in (begun plan))))
-
   -- each transaction has its mark
-  pub long-queue : (batches : List BatchShape) (preds : Edges) (starts : List ℕ) (queue : Waits) → batches ≡ plan.batches → starts ≡ starts_of 0 (map length (txs_of batches))
-      → IsNew preds starts queue → length txs ≡ length queue.marks
-  long-queue batches preds starts queue batches_are starts_are new = (starts-right batches starts batches_are starts_are).0 ∙ sym new.long
+  pub long-marks : (batches : List BatchShape) (slots : Slots) → batches ≡ plan.batches → AreNewSlotsOf batches txs slots → length txs ≡ length slots.queue.marks
+  long-marks batches slots batches_are new =
+      let is : starts_of 0 (map length (txs_of batches)) ≡ starts_of 0 (sizes_in (begun plan)) = ap (λ (b : List BatchShape). starts_of 0 (map length (txs_of b))) batches_are in
+      total ∙ sym (new.queue.new.long ∙ (ap (λ (l : List ℕ). length l) is ∙ length-starts 0 (sizes_in (begun plan))))
+
+-- what the starts of the batches are
+pub starts-right : (batches : List BatchShape) (txs : List (Arc Tx Global)) (starts : List ℕ) → length txs ≡ transactions_in batches → starts ≡ starts_of 0 (map length (txs_of batches))
+    → (length txs ≡ length starts) × AreStarts starts
+starts-right batches txs starts count starts_are = (
+  count ∙ (sym (sum-sizes batches) ∙ sym (ap (λ (l : List ℕ). length l) starts_are ∙ length-starts 0 (map length (txs_of batches)))),
+  subst (λ (l : List ℕ). AreStarts l) (sym starts_are) (starts-are (map length (txs_of batches))),
+)
+
+-- a queue that was made of them
+pub new-queue : (batches : List BatchShape) (txs : List (Arc Tx Global)) (preds : Edges) (starts : List ℕ) (queue : Waits) → starts ≡ starts_of 0 (map length (txs_of batches))
+    → AreEdges preds (length txs) → AreEarlier preds (length txs) → AreEdgesOf (precedes_in (shapes_of txs)) (is_edge preds) → IsNew preds starts queue
+    → IsNewQueueOf batches txs queue
+new-queue batches txs preds starts queue starts_are edges earlier thin new = record {
+  new = record { preds_are = refl; starts_are = new.starts_are ∙ starts_are; long = new.long ∙ ap (λ (l : List ℕ). length l) starts_are; waiting = new.waiting; none_settled = new.none_settled };
+  edges = subst (λ (e : Edges). AreEdges e (length txs)) (sym new.preds_are) edges;
+  earlier = subst (λ (e : Edges). AreEarlier e (length txs)) (sym new.preds_are) earlier;
+  thin = subst (λ (e : Edges). AreEdgesOf (precedes_in (shapes_of txs)) (is_edge e)) (sym new.preds_are) thin;
+}

@@ -10,6 +10,7 @@ pub mod Settling
 pub mod Shown
 pub mod Layering
 pub mod Jobs
+pub mod Begun
 pub mod Places
 pub mod Laws
 pub mod ByIds

@@ -5,6 +5,7 @@ ghost use Rattle.saw_machine.specs.Machine.{State};
 ghost use Rattle.saw_machine.specs.Orders.{Order};
 ghost use Rattle.saw_messages.specs.declared.outcome.Outcome.{Outcome as Held};
 ghost use Rattle.saw_schedule.specs.Inside.{AreOutcomesAt, AreSlotsOf, outcome_in};
+ghost use Rattle.saw_schedule.specs.declared.step.Step.{Step as Move};
 ghost use Rattle.saw_schedule.specs.Places.{ArePlacesApart, ArePlacesBelow, IsNoPlace};
 
 use crate::kept::Kept;
@@ -65,6 +66,48 @@ fn move_outcomes(
     Ok(moved)
 }
 
+// What came of the settled batches, each in its place.
+fn results_of(
+    alloc: Global,
+    slots: &Slots,
+    outcomes: &mut Vec<Option<Outcome>>,
+) -> Result<Items<BatchResult>, AllocError>
+    requires { (order : Order) × (sizes : List ℕ) × (st : State) × (steps : List Move)
+        × AreSlotsOf order sizes st steps slots.now × (outcomes.old.items ≡ map outcome_in steps) }
+    ensures { (order : Order) (sizes : List ℕ) (st : State) (steps : List Move) → AreSlotsOf order sizes st steps slots.now
+        → outcomes.old.items ≡ map outcome_in steps → IfOk result (λ batches. batches ≡ st.results) }
+{
+    let mut batches = Items::new(alloc);
+    let mut from = 0;
+    for (batch, verdict) in slots.verdicts.iter().enumerate() {
+        let to = slots.ends[batch];
+        let result = match verdict {
+            Verdict::Applied => BatchResult::Applied {
+                outcomes: move_outcomes(alloc, &slots.kept, outcomes, from, to)?,
+            },
+            Verdict::Failed { t, reason } => BatchResult::Failed {
+                t: *t,
+                reason: *reason,
+            },
+        };
+        batches.push(result)?;
+        from = to;
+    }
+    Ok(batches)
+}
+
+// The same where the slots are kept.
+fn gather(alloc: Global, slots: &Slots, steps: Vec<Step>) -> Result<Results, AllocError>
+    requires { (order : Order) × (sizes : List ℕ) × (st : State) × AreSlotsOf order sizes st steps.items slots.now }
+    ensures { (order : Order) (sizes : List ℕ) (st : State) → AreSlotsOf order sizes st steps.items slots.now
+        → IfOk result (λ results. results.batches ≡ st.results) }
+{
+    let mut outcomes = outcomes_of(alloc, steps)?;
+    Ok(Results {
+        batches: results_of(alloc, slots, &mut outcomes)?,
+    })
+}
+
 /// What came of the batches: their verdicts, with the outcomes of those that were applied.
 pub(crate) fn gather_results(
     alloc: Global,
@@ -75,22 +118,5 @@ pub(crate) fn gather_results(
     ensures { (order : Order) (sizes : List ℕ) (st : State) → AreSlotsOf order sizes st steps.items slots
         → IfOk result (λ results. results.batches ≡ st.results) }
 {
-    let mut outcomes = outcomes_of(alloc, steps)?;
-    let mut batches = Items::new(alloc);
-    let mut from = 0;
-    for (batch, verdict) in slots.verdicts.iter().enumerate() {
-        let to = slots.ends[batch];
-        let result = match verdict {
-            Verdict::Applied => BatchResult::Applied {
-                outcomes: move_outcomes(alloc, &slots.kept, &mut outcomes, from, to)?,
-            },
-            Verdict::Failed { t, reason } => BatchResult::Failed {
-                t: *t,
-                reason: *reason,
-            },
-        };
-        batches.push(result)?;
-        from = to;
-    }
-    Ok(Results { batches })
+    gather(alloc, &slots, steps)
 }

@@ -2,6 +2,7 @@
 #![tactic(auto)]
 
 mod agreement;
+mod begun;
 mod changes;
 mod edges;
 mod ended;

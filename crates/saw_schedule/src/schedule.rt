@@ -16,12 +16,12 @@ ghost use Rattle.saw_schedule.specs.Shows.{is_closed_mark, is_edge, mark_by, tar
 ghost use Rattle.saw_schedule.specs.Histories.{Finishes, Gives, IsReplay, Takes, begun, is_over, order_in, sizes_in, state_of, txs_in};
 
 use crate::agreement::difference_kept;
-use crate::edges::{named, predecessors};
+use crate::begun::new_slots;
+use crate::edges::named;
 use crate::ended::{Finished, Given};
 use crate::gathering::gather_results;
 use crate::kept::Kept;
 use crate::lasts::Lasts;
-use crate::layout::{all_kept, ends_of, starts_of};
 use crate::results::Results;
 use crate::slots::{Slots, settle};
 use crate::step::Step;
@@ -220,20 +220,7 @@ fn begin(
     ensures idle { IfOk result (λ slots. slots.running ≡ 0) }
     ensures undone { IfOk result (λ slots. AreIdle slots.queue.marks undone.new) }
 {
-    let batches = plan.batches.as_slice();
-    let queue = Queue::new(
-        alloc,
-        predecessors(alloc, txs, named)?,
-        starts_of(alloc, batches)?,
-    )?;
-    let mut slots = Slots {
-        queue,
-        ends: ends_of(alloc, batches)?,
-        hits: ReadySet::new(alloc, txs.len())?,
-        kept: all_kept(alloc, txs.len())?,
-        verdicts: Vec::with_capacity(alloc, batches.len())?,
-        running: 0,
-    };
+    let mut slots = new_slots(alloc, plan.batches.as_slice(), txs, named)?;
     settle(&mut slots, undone, &[]);
     Ok(slots)
 }

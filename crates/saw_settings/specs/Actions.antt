@@ -58,12 +58,15 @@ id_of body = encode_lower (sha256 body)
 abbrev pub has_id : List ℕ → SettingCandidate → Bool
 has_id id candidate = bytes_eq candidate.proposal_id id
 
+abbrev pub vote_of : List ℕ → ℕ → VoteRecord
+vote_of signer vote = record { public_key = signer; vote = vote }
+
 -- a candidate that its proposer accepts
 abbrev pub new_candidate : List ℕ → List ℕ → SettingProposal → SettingCandidate
 new_candidate signer id proposal = record {
   proposal_id = id;
   proposal = proposal;
-  votes = record { public_key = signer; vote = accept_number } ∷ [];
+  votes = vote_of signer accept_number ∷ [];
 }
 
 -- 311 there is no candidate with the id
@@ -115,7 +118,7 @@ abbrev pub count_votes : ℕ → List VoteRecord → ℕ
 count_votes vote votes = length (filter (λ one. one.vote == vote) votes)
 
 abbrev pub with_vote : List ℕ → ℕ → SettingCandidate → SettingCandidate
-with_vote signer vote candidate = record candidate { votes = candidate.votes ++ record { public_key = signer; vote = vote } ∷ [] }
+with_vote signer vote candidate = record candidate { votes = candidate.votes ++ vote_of signer vote ∷ [] }
 
 -- enough accept: the proposal is carried out and the candidate taken out; or so many reject, or all have voted: it is
 -- taken out; else it stays with the vote

@@ -1,19 +1,19 @@
 //! A proposal: it is checked, and carried out at once or put to the vote.
 
-ghost use Rattle.std.specs.Prelude.{◌≡◌, IfOk};
+ghost use Rattle.std.specs.Prelude.{◌≡◌, IfOk, Some};
 ghost use Rattle.std.specs.List.{list_any};
 ghost use Rattle.saw_settings.specs.Actions.{add_to, has_id, has_none, id_of, is_reachable, new_candidate, proposal_fault, propose, propose_under, put_to_vote};
 ghost use Rattle.saw_settings.specs.Turns.{replies_from};
 ghost use Rattle.saw_settings.specs.Values.{candidates_of_value, keys_in, number_in};
 
 use crate::action::Asking;
-use crate::candidate::{SettingCandidate, VoteRecord};
+use crate::candidate::SettingCandidate;
 use crate::decoding::decode_setting_proposal;
 use crate::key::{APPROVAL_THRESHOLD, AUTHORIZED_KEYS, PROPOSALS};
 use crate::payload::SettingProposal;
 use crate::reply::{Told, UNREADABLE};
 use crate::value::{candidates_of_value, keys_in, number_in, threshold_of};
-use crate::vote::ACCEPT;
+use crate::vote::{ACCEPT, vote_of};
 use saw_messages::Action;
 use saw_wire::{Bytes, Items, MessageFault, Text};
 use sha2::{Digest, Sha256};
@@ -55,10 +55,7 @@ fn new_candidate(
     ensures { IfOk result (λ made. made ≡ new_candidate signer.now id proposal) }
 {
     let mut votes = Items::new(alloc);
-    votes.push(VoteRecord {
-        public_key: Text::from_str(alloc, signer)?,
-        vote: ACCEPT,
-    })?;
+    votes.push(vote_of(alloc, signer, ACCEPT)?)?;
     Ok(SettingCandidate {
         proposal_id: id,
         proposal,
@@ -187,9 +184,23 @@ impl Asking<'_> {
         ensures { IfOk result (λ action. action ≡ add_to self.now.signer.now (id_of body.now) proposal
             (replies_from at self.now.talk.turns.now) (candidates_of_value value)) }
     {
-        let Some(mut candidates) = candidates_of_value(self.talk.alloc, value)? else {
-            return Ok(Action::invalid(UNREADABLE));
-        };
+        match candidates_of_value(self.talk.alloc, value)? {
+            Some(candidates) => self.add_new(body, proposal, candidates, at),
+            None => Ok(Action::invalid(UNREADABLE)),
+        }
+    }
+
+    /// Adds the proposal to these candidates, unless there is one with its id.
+    fn add_new(
+        &self,
+        body: &[u8],
+        proposal: SettingProposal,
+        mut candidates: Items<SettingCandidate>,
+        at: usize,
+    ) -> Result<Action, AllocError>
+        ensures { IfOk result (λ action. action ≡ add_to self.now.signer.now (id_of body.now) proposal
+            (replies_from at self.now.talk.turns.now) (Some candidates)) }
+    {
         let id = id_of(self.talk.alloc, body)?;
         if is_known(id.as_str(), candidates.as_slice()) {
             return Ok(Action::invalid(KNOWN));

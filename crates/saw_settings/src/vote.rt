@@ -2,7 +2,7 @@
 
 ghost use Rattle.std.specs.Prelude.{◌≡◌, ◌==◌, ◌<◌, ◌≤◌, ◌||◌, nat_le, get_or, List, length, IfOk, Some};
 ghost use Rattle.std.specs.List.{position, remove};
-ghost use Rattle.saw_settings.specs.Actions.{accept_number, cast_vote, count_up, count_votes, has_id, has_voted, reject_number, vote_among, vote_for, vote_under, with_vote, write};
+ghost use Rattle.saw_settings.specs.Actions.{accept_number, cast_vote, count_up, count_votes, has_id, has_voted, reject_number, vote_among, vote_for, vote_of, vote_under, with_vote, write};
 ghost use Rattle.saw_settings.specs.Keys.{proposals};
 ghost use Rattle.saw_settings.specs.Replies.{then_do, written_to};
 ghost use Rattle.saw_settings.specs.Turns.{replies_from};
@@ -54,6 +54,16 @@ fn has_voted(signer: &str, candidate: &SettingCandidate) -> bool
         .any(|one| one.public_key.as_str() == signer)
 }
 
+/// A vote.
+pub(crate) fn vote_of(alloc: Global, signer: &str, vote: u32) -> Result<VoteRecord, AllocError>
+    ensures { IfOk result (λ made. made ≡ vote_of signer.now vote) }
+{
+    Ok(VoteRecord {
+        public_key: Text::from_str(alloc, signer)?,
+        vote,
+    })
+}
+
 /// The candidate with one more vote.
 fn with_vote(
     alloc: Global,
@@ -63,10 +73,7 @@ fn with_vote(
 ) -> Result<SettingCandidate, AllocError>
     ensures { IfOk result (λ voted. voted ≡ with_vote signer.now vote candidate) }
 {
-    candidate.votes.push(VoteRecord {
-        public_key: Text::from_str(alloc, signer)?,
-        vote,
-    })?;
+    candidate.votes.push(vote_of(alloc, signer, vote)?)?;
     Ok(candidate)
 }
 

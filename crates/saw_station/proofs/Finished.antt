@@ -1,5 +1,5 @@
 -- What a run comes to is a true result of its job.
-use Rattle.std.proofs.Common.{◌≡◌, ◌⊎◌, ◌∙◌, inl, Bool, true, false, List, Option, Some, None, Result, Ok, Err, IfOk, inr, refl, sym, ap, subst}
+use Rattle.std.proofs.Common.{◌≡◌, ◌⊎◌, ◌∙◌, inl, Bool, true, false, List, [], Option, Some, None, Result, Ok, Err, IfOk, inr, refl, sym, ap, subst}
 use Rattle.std.specs.Arc.{arc_value}
 use Rattle.std.specs.Prelude.{is_some}
 use Rattle.saw_address.specs.Maps.{StateMap}
@@ -28,7 +28,7 @@ use Rattle.saw_context.specs.declared.job.Job.{Job}
 use Rattle.saw_context.specs.declared.reads.Read.{Read}
 use Rattle.saw_context.proofs.OnTop.{seen_are_over}
 use Rattle.saw_context.proofs.Sound.{sound_comes}
-use Rattle.saw_station.specs.RunResults.{IsRefusal, IsResult, IsTalk}
+use Rattle.saw_station.specs.RunResults.{IsRefusal, IsResult, IsTalk, IsUnserved}
 use Rattle.saw_station.specs.Serving.{built_in_own, next_by, processors_at, serving, tells_by}
 use Rattle.saw_station.specs.Spoken.{IsSpoken}
 use Rattle.saw_station.specs.declared.conversation.Spoken.{Spoken}
@@ -42,6 +42,14 @@ use Rattle.saw_station.proofs.Conversed.{conversed_by_spoken}
 refusal_none : (processors : Processors) (tx : TxShape) → are_declared tx.header ≡ true
     → processors.serves tx.header.family_name tx.header.family_version ≡ true → refusal processors tx ≡ None
 refusal_none processors tx declared serves = rw (declared, serves) refl
+
+refusal_unserved : (processors : Processors) (tx : TxShape) → are_declared tx.header ≡ true
+    → processors.serves tx.header.family_name tx.header.family_version ≡ false → refusal processors tx ≡ Some NoProcessor
+refusal_unserved processors tx declared serves = rw (declared, serves) refl
+
+no_processor_fits : (failed : Bool) → fits_dependency failed (outcomes.Invalid NoProcessor) ≡ true
+no_processor_fits true = refl
+no_processor_fits false = refl
 
 own_not_failed : (reason : Reason) → is_own_reason reason ≡ true → fits_dependency false (outcomes.Invalid reason) ≡ true
 own_not_failed BadDeclared own = absurd cc
@@ -136,6 +144,37 @@ module _ (next : TxShape → List Turn → Action) (own : (tx : TxShape) (turns 
         spoken.done.events spoken.done.reads)
         layers_is is))
         talk
+
+    -- ---- a refusal
+
+    refused_job : (job : Job) (reason : Reason) (done : Done) → IsRefusal job reason done
+        → fits_dependency job.dependency_failed (outcomes.Invalid reason) ≡ true
+        → IsSound (processors_at next tells offers) (arc_value job.tx) [] [] (outcomes.Invalid reason)
+        → IsResult (processors_at next tells offers) base job done
+    refused_job job reason done refused fits sound = record {
+      ticket = refused.ticket;
+      sound = subst (λ (shape : TxShape). IsSound (processors_at next tells offers) shape done.talk.turns done.reads done.outcome) (sym refused.tx)
+          (rw (refused.turns, refused.reads, refused.outcome) sound);
+      agrees = record { tx = refused.tx; dependency = rw refused.outcome fits; seen = rw refused.reads tt };
+      of_base = rw refused.reads tt;
+    }
+
+    -- a result without a conversation, by who serves
+    pub refused_result : (job : Job) (reason : Reason) (done : Done) (by : Option Served) → are_declared (arc_value job.tx).header ≡ true
+        → serving offers (arc_value job.tx).header.family_name (arc_value job.tx).header.family_version ≡ by
+        → IsUnserved by job.dependency_failed reason → IsRefusal job reason done → IsResult (processors_at next tells offers) base job done
+    refused_result job reason done None declared serves why refused =
+        let tx : TxShape = arc_value job.tx in
+        let processors : Processors = processors_at next tells offers in
+        refused_job job NoProcessor done (subst (λ (r : Reason). IsRefusal job r done) why refused) (no_processor_fits job.dependency_failed)
+        (subst (IsSoundBy processors tx [] [] (outcomes.Invalid NoProcessor)) (sym (refusal_unserved processors tx declared (ap is_some serves)))
+        (record { no_turns = refl; no_reads = refl; refused = refl }))
+    refused_result job reason done (Some by) declared serves why refused =
+        let tx : TxShape = arc_value job.tx in
+        let processors : Processors = processors_at next tells offers in
+        refused_job job DependencyFailed done (subst (λ (r : Reason). IsRefusal job r done) why.0 refused) (rw why.1 refl)
+        (subst (IsSoundBy processors tx [] [] (outcomes.Invalid DependencyFailed)) (sym (refusal_none processors tx declared (ap is_some serves)))
+        (inl (record { no_turns = refl; no_reads = refl; refused = refl })))
 
 -- ---- the outcome
 

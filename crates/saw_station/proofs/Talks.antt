@@ -1,5 +1,5 @@
 -- How a conversation with a station goes on and ends.
-use Rattle.std.proofs.Common.{◌≡◌, ◌⊎◌, inl, inr, ℕ, zero, suc, Bool, true, false, List, [], ◌∷◌, ◌++◌, map, Option, Some, None, refl, sym, ap, ◌∙◌}
+use Rattle.std.proofs.Common.{◌≡◌, ◌⊎◌, inl, inr, ℕ, zero, suc, Bool, true, false, List, [], ◌∷◌, ◌++◌, map, Option, Some, None, Result, Ok, Err, IfOk, refl, sym, ap, ◌∙◌}
 use Rattle.std.proofs.lemmas.Bool.{eq-eqb}
 use Rattle.std.proofs.lemmas.List.{length-map, map-append}
 use Rattle.std.specs.List.{AllByRecursion}
@@ -172,3 +172,12 @@ module _ (tells : Bool) (next : List Turn → Action) (header : TransactionHeade
       seen = rw (recorded, ← so_far.layers_is) so_far.seen;
       of_base = rw (recorded, ← so_far.base_is) so_far.of_base;
     }
+
+  -- the same of the action that a step came to, behind the last request
+  pub spoken_step : {E : Type 0} (turns : List Turn) (access : Access) (left : ℕ) (result : Result Action E)
+      → IfOk result (λ action. has_own_reason action ≡ true) → (tells ≡ true → IfOk result (λ action. action ≡ next turns)) → left ≡ 0
+      → IsSoFar tells next header base layers left turns access
+      → IfOk result (λ last. IsSpoken tells next header base layers turns last (changes_of access.own) access.events access.reads)
+  spoken_step turns access left (Ok action) own told none so_far =
+      spoken_whole turns access action own told left (changes_of access.own) access.events access.reads (inr none) so_far refl refl refl
+  spoken_step turns access left (Err fault) own told none so_far = own

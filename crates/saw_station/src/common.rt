@@ -1,7 +1,7 @@
 //! What several processors elsewhere all offer.
 
 ghost use Rattle.std.specs.Prelude.{◌≡◌, map, IfOk};
-ghost use Rattle.std.specs.List.{list_all};
+ghost use Rattle.std.specs.List.{filter, list_all};
 ghost use Rattle.saw_station.specs.CommonOffers.{common, is_common};
 ghost use Rattle.saw_station.specs.Serving.{is_offered};
 
@@ -35,14 +35,25 @@ fn is_common<R: Station>(remotes: &[R], offer: &Offer) -> bool
 pub fn common_offers<R: Station>(alloc: Global, remotes: &[R]) -> Result<Vec<Offer>, AllocError>
     ensures { IfOk result (λ offers. offers.items ≡ common (map R.offered remotes.now)) }
 {
-    let mut offers = Vec::new(alloc);
-    let Some((first, others)) = remotes.split_first() else {
-        return Ok(offers);
-    };
-    for offer in first.offers() {
+    match remotes.split_first() {
+        Some((first, others)) => offers_in_common(alloc, first.offers(), others),
+        None => Ok(Vec::new(alloc)),
+    }
+}
+
+// Those of these offers that each of the others has, in their order.
+fn offers_in_common<R: Station>(
+    alloc: Global,
+    offers: &[Offer],
+    others: &[R],
+) -> Result<Vec<Offer>, AllocError>
+    ensures { IfOk result (λ kept. kept.items ≡ filter (is_common (map R.offered others.now)) offers.now) }
+{
+    let mut kept = Vec::new(alloc);
+    for offer in offers {
         if is_common(others, offer) {
-            offers.push(offer.try_clone(alloc)?)?;
+            kept.push(offer.try_clone(alloc)?)?;
         }
     }
-    Ok(offers)
+    Ok(kept)
 }

@@ -1,10 +1,12 @@
 //! The conversation of a transaction with a station.
 
-ghost use Rattle.std.specs.Prelude.{◌≡◌, ◌≤◌, false, true, IfOk, IsErrOf, OnOk};
-ghost use Rattle.saw_context.specs.Access.{no_access};
+ghost use Rattle.std.specs.Prelude.{◌≡◌, ◌≤◌, [], ◌∷◌, ◌++◌, false, true, IfOk, IsErrOf, OnOk};
+ghost use Rattle.saw_context.specs.Access.{access_after, map_of_access, no_access};
+ghost use Rattle.saw_context.specs.Conversation.{reply_to};
 ghost use Rattle.saw_context.specs.Outcome.{changes_of, is_request};
 ghost use Rattle.saw_faults.specs.Counts.{Rose};
 ghost use Rattle.saw_station.specs.Spoken.{IsSpoken};
+ghost use Rattle.saw_station.specs.TalkSteps.{KeepsStep};
 
 use crate::answer::answer;
 use crate::fault::StationFault;
@@ -61,19 +63,85 @@ pub(crate) fn converse<S: Station, B: Base>(
     let mut talk = Transcript {
         turns: Items::new(alloc),
     };
-    'requests: for _ in 0..MAX_REQUESTS {
-        let action = station.step(alloc, tx, &talk)?;
-        if !is_request(&action) {
-            return Ok(ended(context, talk, action)?);
-        }
-        let reply = answer(alloc, &mut context, &action)?;
-        talk.turns.push(Turn { action, reply })?;
-    }
-    let action = station.step(alloc, tx, &talk)?;
+    let last = last_action(alloc, station, tx, &mut context, &mut talk)?;
+    Ok(ended(context, talk, last)?)
+}
+
+// The action behind the requests, with no conversation open.
+fn last_action<S: Station, B: Base>(
+    alloc: Global,
+    station: &mut S,
+    tx: &Tx,
+    context: &mut Context<'_, B>,
+    talk: &mut Transcript,
+) -> Result<Action, StationFault>
+    requires begun { S.begun station.old ≡ true }
+    requires none { talk.old.turns ≡ [] }
+    requires fresh { context.old ≡ no_access tx.now.header context.old.base context.old.layers }
+    ensures spoken { IfOk result
+        (λ last. IsSpoken S.tells (S.next tx.now) tx.now.header context.old.base context.old.layers
+        talk.new.turns last (changes_of context.new.own) context.new.events context.new.reads) }
+    ensures closed { OnOk result (S.talking station.new ≡ false) }
+    ensures begun { S.begun station.new ≡ true }
+    ensures offers { S.offered station.new ≡ S.offered station.old }
+    ensures later { S.faults station.old ≤ S.faults station.new }
+    ensures cause { IsErrOf result StationFault.PeerFailed
+        → Rose (S.faults station.old) (S.faults station.new) }
+{
+    let action = follow(alloc, station, tx, context, talk)?;
     if is_request(&action) {
-        station.close(alloc, tx, &talk)?;
+        station.close(alloc, tx, talk)?;
     }
-    Ok(ended(context, talk, action)?)
+    Ok(action)
+}
+
+// Answers the requests of a transaction, and gives the action behind them: an end, or one request too many.
+fn follow<S: Station, B: Base>(
+    alloc: Global,
+    station: &mut S,
+    tx: &Tx,
+    context: &mut Context<'_, B>,
+    talk: &mut Transcript,
+) -> Result<Action, StationFault>
+    requires begun { S.begun station.old ≡ true }
+    requires none { talk.old.turns ≡ [] }
+    requires fresh { context.old ≡ no_access tx.now.header context.old.base context.old.layers }
+    ensures spoken { IfOk result
+        (λ last. IsSpoken S.tells (S.next tx.now) tx.now.header context.old.base context.old.layers
+        talk.new.turns last (changes_of context.new.own) context.new.events context.new.reads) }
+    ensures keeps { IfOk result (KeepsStep (S.last station.new) tx.now talk.new.turns) }
+    ensures talking { IfOk result (λ last. S.talking station.new ≡ true → is_request last ≡ true) }
+    ensures begun { S.begun station.new ≡ true }
+    ensures offers { S.offered station.new ≡ S.offered station.old }
+    ensures later { S.faults station.old ≤ S.faults station.new }
+    ensures cause { IsErrOf result StationFault.PeerFailed
+        → Rose (S.faults station.old) (S.faults station.new) }
+{
+    'requests: for _ in 0..MAX_REQUESTS {
+        let action = station.step(alloc, tx, talk)?;
+        if !is_request(&action) {
+            return Ok(action);
+        }
+        add_turn(alloc, context, talk, action)?;
+    }
+    station.step(alloc, tx, talk)
+}
+
+// Answers a request, and adds it with its reply. An `Err` may leave it answered and not added.
+fn add_turn<B: Base>(
+    alloc: Global,
+    context: &mut Context<'_, B>,
+    talk: &mut Transcript,
+    action: Action,
+) -> Result<(), AllocError>
+    ensures turns { let reply = reply_to context.old.header
+        (map_of_access context.old) context.old.own action in
+        OnOk result (talk.new.turns ≡ talk.old.turns ++ record { action = action; reply = reply } ∷ []) }
+    ensures after { OnOk result (context.new ≡ access_after context.old action) }
+{
+    let reply = answer(alloc, context, &action)?;
+    talk.turns.push(Turn { action, reply })?;
+    Ok(())
 }
 
 fn ended<B: Base>(

@@ -1,6 +1,6 @@
 //! One transaction, run at a desk.
 
-ghost use Rattle.std.specs.Prelude.{◌≡◌, ◌≤◌, false, true, is_some, IfOk, IsErrOf, OnOk};
+ghost use Rattle.std.specs.Prelude.{◌≡◌, ◌≤◌, false, true, is_some, IfOk, IfErr, IsErrOf, OnOk};
 ghost use Rattle.std.specs.Arc.{arc_value};
 ghost use Rattle.std.specs.List.{AllByRecursion};
 ghost use Rattle.saw_context.specs.Access.{no_access};
@@ -11,7 +11,7 @@ ghost use Rattle.saw_context.specs.SoundResults.{Agrees, IsOfBase, IsSoundDone};
 ghost use Rattle.saw_context.specs.Views.{layers_of, over};
 ghost use Rattle.saw_faults.specs.Counts.{Rose};
 ghost use Rattle.saw_station.specs.DeskPlaces.{faults_by, offered_by, talking_by};
-ghost use Rattle.saw_station.specs.RunResults.{IsRefusal, IsResult, IsTalk};
+ghost use Rattle.saw_station.specs.RunResults.{IsRefusal, IsResult, IsTalk, IsUnserved};
 ghost use Rattle.saw_station.specs.Serving.{next_by, processors_at, serving, tells_by};
 ghost use Rattle.saw_station.specs.Spoken.{IsSpoken};
 
@@ -81,17 +81,59 @@ fn run_in<R: Station, B: Base>(
     ensures cause { IsErrOf result StationFault.PeerFailed
         → Rose (faults_by R.faults desk.old.remote) (faults_by R.faults desk.new.remote) }
 {
+    match who_serves(desk, job) {
+        Ok(served) => run_served(alloc, desk, served, job, context),
+        Err(reason) => Ok(refused(alloc, job, reason)?),
+    }
+}
+
+// Who serves it, or why it is refused before any conversation.
+fn who_serves<R: Station>(desk: &Desk<R>, job: &Job) -> Result<Served, Reason>
+    ensures served { let header = (arc_value job.now.tx).header in
+        IfOk result (λ served. Some served
+        ≡ serving desk.now.offers header.family_name header.family_version) }
+    ensures ready { OnOk result (job.now.dependency_failed ≡ false) }
+    ensures refused { let header = (arc_value job.now.tx).header in
+        IfErr result (IsUnserved (serving desk.now.offers header.family_name header.family_version)
+        job.now.dependency_failed) }
+{
     let header = &job.tx.header;
-    let Some(served) = serving(
+    match serving(
         &desk.offers,
         header.family_name.as_str(),
         header.family_version.as_str(),
-    ) else {
-        return Ok(refused(alloc, job, Reason::NoProcessor)?);
-    };
-    if job.dependency_failed {
-        return Ok(refused(alloc, job, Reason::DependencyFailed)?);
+    ) {
+        None => Err(Reason::NoProcessor),
+        Some(_) if job.dependency_failed => Err(Reason::DependencyFailed),
+        Some(served) => Ok(served),
     }
+}
+
+// Runs it by conversation with who serves it.
+fn run_served<R: Station, B: Base>(
+    alloc: Global,
+    desk: &mut Desk<R>,
+    served: Served,
+    job: &Job,
+    context: Context<'_, B>,
+) -> Result<Done, StationFault>
+    requires served { Some served
+        ≡ serving desk.old.offers (arc_value job.now.tx).header.family_name (arc_value job.now.tx).header.family_version }
+    requires ready { job.now.dependency_failed ≡ false }
+    requires fresh { context
+        ≡ no_access (arc_value job.now.tx).header context.base (layers_of (arc_value job.now.view)) }
+    requires declared { are_declared (arc_value job.now.tx).header ≡ true }
+    ensures done { IfOk result
+        (IsResult (processors_at R.next R.tells desk.old.offers) context.entry.base job.now) }
+    ensures offers { desk.new.offers ≡ desk.old.offers }
+    ensures own_offers { offered_by R.offered desk.new.remote ≡ offered_by R.offered desk.old.remote }
+    ensures remote { is_some desk.new.remote ≡ is_some desk.old.remote }
+    ensures closed { OnOk result
+        (talking_by R.talking desk.old.remote ≡ false → talking_by R.talking desk.new.remote ≡ false) }
+    ensures later { faults_by R.faults desk.old.remote ≤ faults_by R.faults desk.new.remote }
+    ensures cause { IsErrOf result StationFault.PeerFailed
+        → Rose (faults_by R.faults desk.old.remote) (faults_by R.faults desk.new.remote) }
+{
     let spoken = speak(alloc, desk, served, &job.tx, context)?;
     Ok(done_of(job, spoken)?)
 }

@@ -46,8 +46,8 @@ impl<H> NodeStore<H> {
         self.nodes.get(hash)
     }
 
-    /// The node that is kept under a hash, and at which place it lies. Where that is the place at hand, nothing is searched
-    /// for.
+    /// The node that is kept under a hash, and a place to look at first for its like. Where the node lies at the place that
+    /// is handed in, nothing is searched for; no clause promises the place.
     pub fn find(&self, hash: &NodeHash, near: usize) -> Option<(usize, &Node)>
         ensures { option_map (λ found. shape_of found.1.now) result ≡ kept_at self.now hash.now }
     {

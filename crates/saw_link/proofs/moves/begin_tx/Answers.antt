@@ -1,8 +1,8 @@
-use Rattle.std.proofs.Common.{◌≡◌, ◌+◌, rules, List, Some, sym, ap, ◌∙◌, subst}
+use Rattle.std.proofs.Common.{◌≡◌, ◌+◌, rules, List, Some, refl, sym, ◌∙◌, subst}
+use Rattle.std.specs.Fmt.{decimal}
 use Rattle.saw_messages.specs.declared.talk.Turn.{Turn}
 use Rattle.saw_messages.specs.declared.transaction.Transaction.{Transaction}
 use Rattle.saw_link.specs.LinkConversation.{Begins, Moved, acted}
-use Rattle.saw_link.specs.SentFrames.{process_request}
 use Rattle.saw_link.proofs.Steps.{ok_map, begins_moved, begins_acts}
 use Rattle.saw_link.specs.Troubles.{Troubled}
 use Rattle.saw_link.proofs.Stops.{err_map, begins_asking, none_begins, said_at_count, sent_begins, unacted_troubled, unasked_troubled}
@@ -15,14 +15,11 @@ returns-clause-moved g c =
     let kept = c.in_ok-kept.kept in
     let L = g.L.Link in
     let P : List Turn → Type 0 = λ turns. acted s kept turns c.in-Some.count said.said.heard ≡ Some c.act.new.standing in
-    let Q : Transaction → Type 0 = λ tx. Moved (L.told c.args.link.now) s (Begins tx) (L.told c.ask.new.link) c.act.new.standing in
+    let Q : Transaction → Type 0 = λ tx. Moved (L.told c.args.link.now) s (Begins tx) (L.told c.ask_about.new.link) c.act.new.standing in
     ok_map c.act.result (λ legal.
     subst Q c.in_ok-kept.ensures.kept
-    (begins_moved _ _ s _ c.as_str.result.now c.deref.result.now _ _ said.said.heard c.limit_of-limit.ensures said.ensures.heard said.ensures.adds
-    said.ensures.within
-    kept c.in-Some.count (search (rules, c.in-Some.ensures)) (c.as_str.ensures ∙ c.in_ok-context.ensures)
-    (c.deref.ensures.value ∙ c.in_ok-sent.ensures ∙ ap (λ x. process_request s.version x kept) (sym c.as_str.ensures))
-    (subst P c.new.ensures legal) c.requires.due))
+    (begins_moved _ _ s _ _ _ said.said.frame _ said.said.heard refl said.ensures.heard said.ensures.adds said.ensures.within
+    kept c.in-Some.count (search (rules, c.in-Some.ensures)) refl refl (subst P c.new.ensures legal) c.requires.due))
     c.act.ensures.acted
 
 pub returns-clause-acts : goal.returns-clause-acts
@@ -33,11 +30,8 @@ returns-clause-acts g c tells =
     let L = g.L.Link in
     let P : List Turn → Type 0 = λ turns. acted s kept turns c.in-Some.count said.said.heard ≡ Some c.act.new.standing in
     ok_map c.act.result (λ legal spelled.
-    begins_acts _ (L.told c.ask.new.link) s _ c.as_str.result.now c.deref.result.now _ _ said.said.heard c.limit_of-limit.ensures said.ensures.heard
-    said.ensures.adds said.ensures.within
-    kept c.in-Some.count (search (rules, c.in-Some.ensures)) (c.as_str.ensures ∙ c.in_ok-context.ensures)
-    (c.deref.ensures.value ∙ c.in_ok-sent.ensures ∙ ap (λ x. process_request s.version x kept) (sym c.as_str.ensures))
-    (subst P c.new.ensures legal) c.requires.due
+    begins_acts _ (L.told c.ask_about.new.link) s _ _ _ said.said.frame _ said.said.heard refl said.ensures.heard said.ensures.adds said.ensures.within
+    kept c.in-Some.count (search (rules, c.in-Some.ensures)) refl refl (subst P c.new.ensures legal) c.requires.due
     L.next (said.ensures.whole tells) (said.ensures.obeys tells) spelled)
     c.act.ensures.acted
 
@@ -46,12 +40,10 @@ returns-in-Err-clause-troubled g c =
     let s = c.args.standing.now in
     let kept = c.in_ok-kept.kept in
     let L = g.L.Link in
-    let Q : Transaction → Type 0 = λ tx. Troubled c.in-Err.trouble (L.told c.args.link.now) s (Begins tx) (L.told c.ask.new.link) in
+    let Q : Transaction → Type 0 = λ tx. Troubled c.in-Err.trouble (L.told c.args.link.now) s (Begins tx) (L.told c.ask_about.new.link) in
     subst Q c.in_ok-kept.ensures.kept
-    (unasked_troubled (Begins kept) (begins_asking kept) _ _ s c.deref.result.now
-    (sent_begins s kept c.in-Some.count c.as_str.result.now c.deref.result.now (search (rules, c.in-Some.ensures)) (c.as_str.ensures ∙ c.in_ok-context.ensures)
-    (c.deref.ensures.value ∙ c.in_ok-sent.ensures ∙ ap (λ x. process_request s.version x kept) (sym c.as_str.ensures)))
-    c.in-Err.trouble _ c.limit_of-limit.ensures c.in-Err.ensures.unasked)
+    (unasked_troubled (Begins kept) (begins_asking kept) _ _ s _
+    (sent_begins s kept c.in-Some.count (decimal c.in-Some.count) _ (search (rules, c.in-Some.ensures)) refl refl) c.in-Err.trouble _ refl c.in-Err.ensures.unasked)
 
 pub returns-clause-troubled : goal.returns-clause-troubled
 returns-clause-troubled g c =
@@ -59,14 +51,13 @@ returns-clause-troubled g c =
     let s = c.args.standing.now in
     let kept = c.in_ok-kept.kept in
     let L = g.L.Link in
-    let heard_here = said_at_count s _ c.as_str.result.now said.said.frame said.said.heard c.in-Some.count (s.count + 1) c.limit_of-limit.ensures
-    said.ensures.heard (c.as_str.ensures ∙ c.in_ok-context.ensures) (search (rules, c.in-Some.ensures)) in
+    let heard_here = said_at_count s _ (decimal c.in-Some.count) said.said.frame said.said.heard c.in-Some.count (s.count + 1) refl said.ensures.heard refl
+    (search (rules, c.in-Some.ensures)) in
     err_map c.act.result (λ trouble unacted.
-    let Q : Transaction → Type 0 = λ tx. Troubled trouble (L.told c.args.link.now) s (Begins tx) (L.told c.ask.new.link) in
+    let Q : Transaction → Type 0 = λ tx. Troubled trouble (L.told c.args.link.now) s (Begins tx) (L.told c.ask_about.new.link) in
     subst Q c.in_ok-kept.ensures.kept
-    (unacted_troubled (Begins kept) (begins_asking kept) _ _ s c.deref.result.now
-    (sent_begins s kept c.in-Some.count c.as_str.result.now c.deref.result.now (search (rules, c.in-Some.ensures)) (c.as_str.ensures ∙ c.in_ok-context.ensures)
-    (c.deref.ensures.value ∙ c.in_ok-sent.ensures ∙ ap (λ x. process_request s.version x kept) (sym c.as_str.ensures)))
+    (unacted_troubled (Begins kept) (begins_asking kept) _ _ s _
+    (sent_begins s kept c.in-Some.count (decimal c.in-Some.count) _ (search (rules, c.in-Some.ensures)) refl refl)
     trouble said.said.heard said.said.frame (λ e. sym heard_here ∙ e) (none_begins s kept said.said.frame said.said.heard heard_here)
     said.ensures.adds unacted))
     c.act.ensures.unacted

@@ -5,7 +5,7 @@ use Rattle.saw_link.proofs.written.entries_of.Goals as goal
 pub loop-i-preserved : goal.loop-i-preserved
 loop-i-preserved c =
     let so_far = c.loop-i.invariant in
-    rw (add-one, c.in_ok-push.ensures.ok, so_far, c.in_ok-try_clone.ensures, c.in_ok-try_clone-2.ensures)
+    rw (add-one, c.in_ok-push.ensures.ok, so_far, c.in_ok-entry_of.ensures)
     (entries_push c.args.texts.now c.args.bodies.now c.loop-i.i _ _ (omega arith) (omega arith) c.index-texts-i.is c.index-bodies-i.is)
 
 pub returns : goal.returns

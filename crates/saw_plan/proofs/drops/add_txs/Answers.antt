@@ -1,4 +1,4 @@
-use Rattle.std.proofs.Common.{◌≡◌, ◌++◌, List, append-nil, sym, subst, take, ◌∙◌}
+use Rattle.std.proofs.Common.{List, append-nil, subst, take, ◌∙◌}
 use Rattle.std.proofs.lemmas.List.{take_all}
 use Rattle.saw_plan.specs.BatchShapes.{shapes_of, ids_of}
 use Rattle.saw_plan.specs.StaticRules.{Ids, with_transactions}

@@ -46,10 +46,8 @@ returns-clause-answers g c =
     let ids_are = c.in_ok-ids.ensures
     ∙ ap (λ fates. still_in fates (map (λ (batch : BatchShape). batch.id) c.as_slice-2.result.now)) c.as_slice.ensures
     ∙ ap (λ (batches : List BatchShape). still_in c.args.ran.fates (map (λ (batch : BatchShape). batch.id) batches)) c.as_slice-2.ensures in
-    let written = rw (c.deref-2.ensures.value, c.as_slice-4.ensures, c.as_slice-5.ensures) at c.in_ok-block.ensures in
+    let written = rw (c.as_slice-4.ensures, c.as_slice-5.ensures) at c.in_ok-block.ensures in
     made_block hash signing c.args.state.now (option_copied c.args.parent) before c.args.sifted c.args.ran draft is c.in_ok-ids.ids ids_are
     (some_are c.in_ok-ids.ids c.is_empty.result c.is_empty.ensures c.if-is_empty.false) c.in_ok-root.root
-    (c.in_ok-root.ensures.ok ∙ ap (λ changes. root_of_map hash (map_after before changes)) c.as_slice-3.ensures) c.in_ok-header.header
-    c.in_ok-header.ensures c.in_ok-header-2.header.items c.in_ok-header-2.ensures c.sign-signature.result
-    (c.sign-signature.ensures.is ∙ ap (g.G.Signer.signature c.args.signer.now) c.deref.ensures.value) c.in_ok-block.block.items written
+    (c.in_ok-root.ensures.ok ∙ ap (λ changes. root_of_map hash (map_after before changes)) c.as_slice-3.ensures) c.in_ok-block.block.items written
     c.in_ok-losses_of.field-0 c.in_ok-losses_of.ensures

@@ -1,4 +1,5 @@
-use Rattle.std.proofs.Common.{◌∙◌}
+use Rattle.std.proofs.Common.{◌∙◌, arith, rules}
+use Rattle.std.proofs.lemmas.Grind.{common_steps}
 use Rattle.saw_ready.proofs.Batches.{start-after}
 use Rattle.saw_ready.proofs.Lowering.{lowest-closed}
 use Rattle.saw_ready.proofs.Renewals.{renew-start}
@@ -30,3 +31,12 @@ returns-clause-undone c =
     (rw c.note_hits.ensures.same at c.renew.ensures.waits)
     (rw c.note_hits.ensures.same at c.renew.ensures.others)
     (rw c.deref.ensures.value at c.note_members.ensures) (rw c.deref-2.ensures.value at c.note_hits.ensures.noted)
+
+pub note_hits-requires-clause-late : goal.note_hits-requires-clause-late
+note_hits-requires-clause-late c = grind (arith, common_steps)
+
+pub renew-requires-clause-late : goal.renew-requires-clause-late
+renew-requires-clause-late c = grind (arith, common_steps)
+
+pub returns-clause-failed : goal.returns-clause-failed
+returns-clause-failed c = search rules

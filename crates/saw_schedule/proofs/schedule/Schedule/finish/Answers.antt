@@ -1,4 +1,4 @@
-use Rattle.std.proofs.Common.{◌≡◌, ◌-◌, ℕ, List, Some, None, refl, sym, ap, subst, ◌∙◌, vec_capacity}
+use Rattle.std.proofs.Common.{◌≡◌, ◌-◌, ℕ, List, Some, None, refl, sym, ap, subst, ◌∙◌, vec_capacity, arith}
 use Rattle.std.specs.Arc.{arc_value}
 use Rattle.saw_plan.specs.BatchShapes.{txs_of}
 use Rattle.saw_machine.specs.Machine.{State}
@@ -10,7 +10,7 @@ use Rattle.saw_schedule.specs.Histories.{History, RunsIn, difference_in, state_o
 use Rattle.saw_schedule.specs.declared.step.Step.{Step}
 use Rattle.saw_schedule.specs.declared.step.Step.TheVariants.{Finish}
 use Rattle.saw_schedule.proofs.Finishing.{accepted, found-code, kept-at, mid-long, mid-state, refused, tx-at, tx-inside}
-use Rattle.saw_schedule.proofs.GivingBack.{has-room, running-some, task-so}
+use Rattle.saw_schedule.proofs.GivingBack.{has-room, inside, running-some, task-so}
 use Rattle.saw_schedule.proofs.ScheduleSteps.{runs-iff}
 use Rattle.saw_schedule.proofs.schedule.Schedule.finish.Goals as goal
 
@@ -67,3 +67,33 @@ returns c = (
   subst (λ (h : History). RunsIn (state_of h) c.args.done.ticket) c.self.view_is (task-so _ c.self.inside.txs c.self.inside.named c.self.inside.slots c.self.inside.lasts (vec_capacity c.self.inside.steps) c.self.invariant c.args.done.ticket (c.if-not-runs.ensures.yes refl)),
   subst (λ (h : History). difference_in (txs_in h) (state_of h) c.args.done ≡ None) c.self.view_is (sym (found-code _ c.self.inside.txs c.self.inside.named c.self.inside.slots c.self.inside.lasts (vec_capacity c.self.inside.steps) c.self.invariant c.args.done (c.if-not-runs.ensures.yes refl) c.difference_kept-found.result c.index-as_slice-k.result c.index.result.now c.deref.result.now (tx-at _ c.self.inside.txs c.self.inside.named c.self.inside.slots c.self.inside.lasts (vec_capacity c.self.inside.steps) c.self.invariant c.args.done (c.if-not-runs.ensures.yes refl) c.as_slice.result.now c.index-as_slice-k.result c.as_slice.ensures c.index-as_slice-k.is) (kept-at _ c.self.inside.txs c.self.inside.named c.self.inside.slots c.self.inside.lasts (vec_capacity c.self.inside.steps) c.self.invariant c.args.done (c.if-not-runs.ensures.yes refl) c.index.result.now c.index.ensures) c.deref.ensures c.difference_kept-found.ensures) ∙ c.in_default.is),
 )
+
+pub runs-requires : goal.runs-requires
+runs-requires c = c.self.invariant.slots_are.kept_long
+
+pub index-requires : goal.index-requires
+index-requires c =
+    let inner = inside _ c.self.inside.txs c.self.inside.named c.self.inside.slots c.self.inside.lasts (vec_capacity c.self.inside.steps) c.self.invariant c.args.done.ticket (c.if-not-runs.ensures.yes refl) in
+    let long = c.self.invariant.slots_are.kept_long in
+    let len = c.self.inside.slots.kept.ok.0 in
+    omega (arith, inner, long, len)
+
+pub place_result-requires : goal.place_result-requires
+place_result-requires c =
+    let inner = inside _ c.self.inside.txs c.self.inside.named c.self.inside.slots c.self.inside.lasts (vec_capacity c.self.inside.steps) c.self.invariant c.args.done.ticket (c.if-not-runs.ensures.yes refl) in
+    let long = c.self.invariant.slots_are.kept_long in
+    omega (arith, inner, long)
+
+pub back-requires-clause-inside : goal.back-requires-clause-inside
+back-requires-clause-inside c =
+    inside _ c.self.inside.txs c.self.inside.named c.self.inside.slots c.self.inside.lasts (vec_capacity c.self.inside.steps) c.self.invariant c.args.done.ticket (c.if-not-runs.ensures.yes refl)
+
+pub back-requires-clause-runs : goal.back-requires-clause-runs
+back-requires-clause-runs c = (c.if-not-runs.ensures.yes refl).mark
+
+pub hold-requires-clause-inside : goal.hold-requires-clause-inside
+hold-requires-clause-inside c =
+    inside _ c.self.inside.txs c.self.inside.named c.self.inside.slots c.self.inside.lasts (vec_capacity c.self.inside.steps) c.self.invariant c.args.done.ticket (c.if-not-runs.ensures.yes refl)
+
+pub hold-requires-clause-runs : goal.hold-requires-clause-runs
+hold-requires-clause-runs c = (c.if-not-runs.ensures.yes refl).mark

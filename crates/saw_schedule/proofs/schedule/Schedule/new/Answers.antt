@@ -1,4 +1,4 @@
-use Rattle.std.proofs.Common.{◌≡◌, ◌<◌, ◌^◌, ℕ, List, [], length, vec_capacity, sym, subst}
+use Rattle.std.proofs.Common.{◌≡◌, ◌<◌, ◌^◌, ℕ, List, [], length, vec_capacity, sym, ap, subst, ◌∙◌}
 use Rattle.std.specs.Arc.{arc_value}
 use Rattle.std.specs.Global.{Global}
 use Rattle.std.specs.declared.sync.Arc.{Arc}
@@ -34,3 +34,47 @@ invariant_of-result c =
     (subst (λ (xs : List (Arc Tx Global)). (i j : ℕ) → j < i → is_edge c.in_ok-named.named j i ≡ names_in (shapes_of xs) i j) c.as_slice.ensures c.in_ok-named.ensures.names)
     are c.in_ok-slots.ensures.idle
     (subst (λ (n : ℕ). IsNothing n c.in_ok-lasts.lasts) c.len.ensures c.in_ok-lasts.ensures) c.in_ok-slots.ensures.undone)
+
+pub named-requires : goal.named-requires
+named-requires c =
+    let count : length c.in_ok-txs.txs ≡ transactions_in (arc_value c.args.plan).batches =
+    subst (λ (p : Plan). length c.in_ok-txs.txs ≡ transactions_in p.batches) c.deref.ensures c.in_ok-txs.ensures.count in
+    record { few = subst (λ (xs : List (Arc Tx Global)). length xs < 2 ^ 32) (sym c.as_slice.ensures) (subst (λ (n : ℕ). n < 2 ^ 32) (sym count) c.requires) }
+
+pub begin-requires-clause-few : goal.begin-requires-clause-few
+begin-requires-clause-few c =
+    let count : length c.in_ok-txs.txs ≡ transactions_in (arc_value c.args.plan).batches =
+    subst (λ (p : Plan). length c.in_ok-txs.txs ≡ transactions_in p.batches) c.deref.ensures c.in_ok-txs.ensures.count in
+    subst (λ (xs : List (Arc Tx Global)). length xs < 2 ^ 32) (sym c.as_slice-2.ensures) (subst (λ (n : ℕ). n < 2 ^ 32) (sym count) c.requires)
+
+pub begin-requires-clause-edges : goal.begin-requires-clause-edges
+begin-requires-clause-edges c =
+    subst (λ (xs : List (Arc Tx Global)). AreEdges c.in_ok-named.named (length xs)) (c.as_slice.ensures ∙ sym c.as_slice-2.ensures) c.in_ok-named.ensures.edges
+
+pub begin-requires-clause-earlier : goal.begin-requires-clause-earlier
+begin-requires-clause-earlier c =
+    subst (λ (xs : List (Arc Tx Global)). AreEarlier c.in_ok-named.named (length xs)) (c.as_slice.ensures ∙ sym c.as_slice-2.ensures) c.in_ok-named.ensures.earlier
+
+pub begin-requires-clause-names : goal.begin-requires-clause-names
+begin-requires-clause-names c =
+    subst (λ (xs : List (Arc Tx Global)). (i j : ℕ) → j < i → is_edge c.in_ok-named.named j i ≡ names_in (shapes_of xs) i j)
+    (c.as_slice.ensures ∙ sym c.as_slice-2.ensures) c.in_ok-named.ensures.names
+
+pub begin-requires-clause-are : goal.begin-requires-clause-are
+begin-requires-clause-are c =
+    ap (λ (xs : List (Arc Tx Global)). shapes_of xs) c.as_slice-2.ensures
+    ∙ subst (λ (p : Plan). shapes_of c.in_ok-txs.txs ≡ all_txs (txs_of p.batches)) (c.deref.ensures ∙ sym c.deref-2.ensures) c.in_ok-txs.ensures.txs
+
+pub begin-requires-clause-count : goal.begin-requires-clause-count
+begin-requires-clause-count c =
+    ap (λ (xs : List (Arc Tx Global)). length xs) c.as_slice-2.ensures
+    ∙ subst (λ (p : Plan). length c.in_ok-txs.txs ≡ transactions_in p.batches) (c.deref.ensures ∙ sym c.deref-2.ensures) c.in_ok-txs.ensures.count
+
+pub begin-requires-clause-long : goal.begin-requires-clause-long
+begin-requires-clause-long c = c.in_ok-lasts.ensures.long ∙ (c.len.ensures ∙ sym (ap (λ (xs : List (Arc Tx Global)). length xs) c.as_slice-2.ensures))
+
+pub begin-requires-clause-empty : goal.begin-requires-clause-empty
+begin-requires-clause-empty c = c.in_ok-lasts.ensures.idle
+
+pub returns : goal.returns
+returns c = ap (λ (steps : List Step). record { batches = txs_of (arc_value c.args.plan).batches; steps = steps }) c.new-2.ensures.items

@@ -1,4 +1,4 @@
-use Rattle.std.proofs.Common.{◌+◌, ◌<◌, ◌≤◌, ◌++◌, ◌∷◌, [], ℕ, List, length, length-set, vec_capacity, refl, sym, ap, subst, ◌∙◌, arith}
+use Rattle.std.proofs.Common.{◌+◌, ◌<◌, ◌≤◌, ◌++◌, ◌∷◌, [], ℕ, List, length, length-set, vec_capacity, Result, Ok, Err, OnErr, refl, sym, ap, subst, ◌∙◌, arith}
 use Rattle.std.specs.Arc.{arc_value}
 use Rattle.saw_plan.specs.BatchShapes.{txs_of}
 use Rattle.std.specs.Global.{Global}
@@ -100,3 +100,107 @@ returns-clause-ok c =
     (ap (λ (h : History). with_step h (Take c.in-Ok.job.ticket)) (sym c.self.view_is)
     ∙ sym (ap (λ (all : List Step). record { batches = txs_of (arc_value c.self.inside.plan).batches; steps = all }) (c.add_step.ensures.more ∙ ap (λ (all : List Step). all ++ Take c.in-Ok.job.ticket ∷ []) c.reserve.ensures.items)))
     (subst (λ (h : History). IsTake h (with_step h (Take c.in-Ok.job.ticket)) c.in-Ok.job) c.self.view_is (is-take (record { batches = txs_of (arc_value c.self.inside.plan).batches; steps = c.self.inside.steps.items }) c.self.inside.txs c.self.inside.named c.self.inside.slots c.refresh.new.self (vec_capacity c.self.inside.steps) is c.in-Some.k c.in-Some.ensures.taken.1 (record { queue = c.take.new.self; ends = c.self.inside.slots.ends; hits = c.self.inside.slots.hits; kept = c.self.inside.slots.kept; verdicts = c.self.inside.slots.verdicts; running = c.self.inside.slots.running }) c.in-Some.ensures.taken.0 refl c.in-Ok.job c.in-Ok.view job shown))
+
+on_err : {T E : Type 0} (r : Result T E) (P : Type 0) → P → OnErr r P
+on_err (Ok x) P p = tt
+on_err (Err e) P p = p
+
+pub invariant_of-self : goal.invariant_of-self
+invariant_of-self c =
+    kept-on _ c.self.inside.txs c.self.inside.named c.self.inside.slots c.self.inside.lasts c.self.inside.lasts (vec_capacity c.self.inside.steps) (vec_capacity c.reserve.new.self)
+    c.self.inside.slots.queue c.reserve.new.self.items c.self.invariant c.self.invariant.lasts_are
+    (let more = c.reserve.ensures.capacity in let room = c.self.invariant.room in omega (arith, more, room)) refl c.reserve.ensures.items
+
+pub returns-in_err-reserve-clause-err : goal.returns-in_err-reserve-clause-err
+returns-in_err-reserve-clause-err c = on_err c.from_residual.result _
+    (ap (λ (steps : List Step). record { batches = txs_of (arc_value c.self.inside.plan).batches; steps = steps }) c.reserve.ensures.items ∙ c.self.view_is)
+
+pub absorb-requires-clause-long : goal.absorb-requires-clause-long
+absorb-requires-clause-long c = c.self.invariant.slots_are.kept_long
+
+pub absorb-requires-clause-so : goal.absorb-requires-clause-so
+absorb-requires-clause-so c =
+    subst (λ (all : List Step). AreLastsOf all c.self.inside.slots c.self.inside.lasts) (sym (c.deref.ensures.value ∙ c.reserve.ensures.items)) c.self.invariant.lasts_are
+
+pub invariant_of-self-in_err-absorb : goal.invariant_of-self-in_err-absorb
+invariant_of-self-in_err-absorb c =
+    kept-on _ c.self.inside.txs c.self.inside.named c.self.inside.slots c.self.inside.lasts c.absorb.new.self (vec_capacity c.self.inside.steps) (vec_capacity c.reserve.new.self)
+    c.self.inside.slots.queue c.reserve.new.self.items c.self.invariant
+    (subst (λ (all : List Step). AreLastsOf all c.self.inside.slots c.absorb.new.self) (c.deref.ensures.value ∙ c.reserve.ensures.items) c.absorb.ensures.so)
+    (let more = c.reserve.ensures.capacity in let room = c.self.invariant.room in omega (arith, more, room)) refl c.reserve.ensures.items
+
+pub returns-in_err-absorb-clause-err : goal.returns-in_err-absorb-clause-err
+returns-in_err-absorb-clause-err c = on_err c.from_residual-in_err-absorb.result _
+    (ap (λ (steps : List Step). record { batches = txs_of (arc_value c.self.inside.plan).batches; steps = steps }) c.reserve.ensures.items ∙ c.self.view_is)
+
+pub refresh-requires-clause-long : goal.refresh-requires-clause-long
+refresh-requires-clause-long c = c.self.invariant.slots_are.kept_long
+
+pub refresh-requires-clause-so : goal.refresh-requires-clause-so
+refresh-requires-clause-so c =
+    subst (λ (all : List Step). AreLastsOf all c.self.inside.slots c.absorb.new.self) (c.deref.ensures.value ∙ sym c.deref-2.ensures.value) c.absorb.ensures.so
+
+pub invariant_of-self-in_err-refresh : goal.invariant_of-self-in_err-refresh
+invariant_of-self-in_err-refresh c =
+    kept-on _ c.self.inside.txs c.self.inside.named c.self.inside.slots c.self.inside.lasts c.refresh.new.self (vec_capacity c.self.inside.steps) (vec_capacity c.reserve.new.self)
+    c.self.inside.slots.queue c.reserve.new.self.items c.self.invariant
+    (subst (λ (all : List Step). AreLastsOf all c.self.inside.slots c.refresh.new.self) (c.deref-2.ensures.value ∙ c.reserve.ensures.items) c.refresh.ensures.so)
+    (let more = c.reserve.ensures.capacity in let room = c.self.invariant.room in omega (arith, more, room)) refl c.reserve.ensures.items
+
+pub returns-in_err-refresh-clause-err : goal.returns-in_err-refresh-clause-err
+returns-in_err-refresh-clause-err c = on_err c.from_residual-in_err-refresh.result _
+    (ap (λ (steps : List Step). record { batches = txs_of (arc_value c.self.inside.plan).batches; steps = steps }) c.reserve.ensures.items ∙ c.self.view_is)
+
+pub returns-in_default-clause-err : goal.returns-in_default-clause-err
+returns-in_default-clause-err c = tt
+
+pub job_of-found-requires-clause-long : goal.job_of-found-requires-clause-long
+job_of-found-requires-clause-long c =
+    c.self.invariant.slots_are.kept_long ∙ sym (ap (λ (q : Waits). length q.marks) c.in-Some.ensures.taken.0 ∙ length-set c.self.inside.slots.queue.marks c.in-Some.k marks.Running)
+
+pub job_of-found-requires-clause-inside : goal.job_of-found-requires-clause-inside
+job_of-found-requires-clause-inside c =
+    subst (λ (n : ℕ). c.in-Some.k < n)
+    (sym (ap (λ (q : Waits). length q.marks) c.in-Some.ensures.taken.0 ∙ length-set c.self.inside.slots.queue.marks c.in-Some.k marks.Running)) c.in-Some.ensures.taken.1.inside
+
+pub job_of-found-requires-clause-few : goal.job_of-found-requires-clause-few
+job_of-found-requires-clause-few c =
+    let inside = c.in-Some.ensures.taken.1.inside in
+    let few = c.self.invariant.slots_are.few in
+    omega (arith, inside, few)
+
+pub back-requires-clause-inside : goal.back-requires-clause-inside
+back-requires-clause-inside c =
+    subst (λ (n : ℕ). c.in-Some.k < n)
+    (sym (ap (λ (q : Waits). length q.marks) c.in-Some.ensures.taken.0 ∙ length-set c.self.inside.slots.queue.marks c.in-Some.k marks.Running)) c.in-Some.ensures.taken.1.inside
+
+pub returns-in_default-found-clause-ok : goal.returns-in_default-found-clause-ok
+returns-in_default-found-clause-ok c = tt
+
+pub returns-in_default-found-clause-err : goal.returns-in_default-found-clause-err
+returns-in_default-found-clause-err c =
+    ap (λ (steps : List Step). record { batches = txs_of (arc_value c.self.inside.plan).batches; steps = steps }) c.reserve.ensures.items ∙ c.self.view_is
+
+pub keep_job-requires-clause-inside : goal.keep_job-requires-clause-inside
+keep_job-requires-clause-inside c =
+    let inside = c.in-Some.ensures.taken.1.inside in
+    let long = c.self.invariant.slots_are.kept_long in
+    omega (arith, inside, long)
+
+pub overflow_add-self : goal.overflow_add-self
+overflow_add-self c =
+    let few = c.self.invariant.few in
+    let long = c.self.inside.steps.ok.0 in
+    let small = c.self.inside.steps.small in
+    omega (arith, few, long, small)
+
+pub add_step-requires : goal.add_step-requires
+add_step-requires c =
+    let more = c.in_ok-reserve.ensures.ok in
+    let was = c.self.inside.steps.ok.0 in
+    let now = c.reserve.new.self.ok.0 in
+    let items = ap (λ (all : List Step). length all) c.reserve.ensures.items in
+    omega (arith, more, was, now, items)
+
+pub returns-clause-err : goal.returns-clause-err
+returns-clause-err c = tt

@@ -2,7 +2,7 @@ use Rattle.std.proofs.Common.{◌≡◌, ◌≤◌, ◌-◌, true}
 use Rattle.saw_context.specs.Outcome.{max_requests}
 use Rattle.saw_station.specs.TalkSteps.{MayFollow}
 use Rattle.saw_station.proofs.Talks.{IsSoFar}
-use Rattle.saw_station.proofs.conversation.converse.Given as goal
+use Rattle.saw_station.proofs.conversation.follow.Given as goal
 
 abbrev pub invariant-requests : goal.invariant-requests
 invariant-requests g l = record {
