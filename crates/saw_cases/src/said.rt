@@ -19,12 +19,23 @@ use std::thread::Threads;
 const KEY: &str = "020000000000000000000000000000000000000000000000000000000000000000";
 
 /// Output, notes and status of a run, and what was sent to a processor elsewhere.
-#[derive(Drop)]
 pub(crate) struct Said {
     pub(crate) output: Vec<u8>,
     pub(crate) notes: Vec<u8>,
     pub(crate) status: String,
     pub(crate) sent: Vec<u8>,
+}
+
+// One step of a proof wherever one ends.
+impl Drop for Said {
+    fn drop(self) {
+        let Said {
+            output: _output,
+            notes: _notes,
+            status: _status,
+            sent: _sent,
+        } = self;
+    }
 }
 
 /// An output as it is stored.
@@ -49,12 +60,23 @@ impl Output {
 }
 
 /// What a run is to say.
-#[derive(Drop)]
 pub(crate) struct Stored {
     pub(crate) output: Output,
     pub(crate) notes: Vec<u8>,
     pub(crate) status: String,
     pub(crate) sent: Option<Vec<u8>>,
+}
+
+// One step of a proof wherever one ends.
+impl Drop for Stored {
+    fn drop(self) {
+        let Stored {
+            output: _output,
+            notes: _notes,
+            status: _status,
+            sent: _sent,
+        } = self;
+    }
 }
 
 impl Said {

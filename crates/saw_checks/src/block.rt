@@ -80,7 +80,7 @@ pub fn check_block<T: Threads + Sync, V: Verifier>(
     let batches = check_all(rt, alloc, block.batches.as_slice(), verifier, workers)?;
     test_signature(&block, &header, verifier)?;
     Ok(CheckedBlock {
-        id: block.header_signature,
+        id: block.into_id(),
         header,
         batches,
     })

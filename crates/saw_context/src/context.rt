@@ -22,7 +22,6 @@ use std::sync::Arc;
 
 /// What a transaction may reach over a view and a base, and what it has done so far. An entry is copied only when it
 /// is written.
-#[derive(Drop)]
 pub struct Context<'a, B: Base> {
     alloc: Global,
     header: &'a TransactionHeader,
@@ -31,6 +30,21 @@ pub struct Context<'a, B: Base> {
     own: Overlay,
     events: Items<Event>,
     reads: Vec<Read>,
+}
+
+// One step of a proof wherever one ends.
+impl<B: Base> Drop for Context<'_, B> {
+    fn drop(self) {
+        let Context {
+            alloc: _,
+            header: _,
+            view: _view,
+            base: _,
+            own: _own,
+            events: _events,
+            reads: _reads,
+        } = self;
+    }
 }
 
 impl<'a, B: Base> Model for Context<'a, B> {
@@ -133,11 +147,20 @@ impl<'a, B: Base> Context<'a, B> {
         ensures events { IfOk result (λ done. done.events ≡ self.entry.events) }
         ensures reads { IfOk result (λ done. done.reads ≡ self.entry.reads) }
     {
-        let changes = self.own.into_changes(self.alloc)?;
+        let Context {
+            alloc,
+            header: _,
+            view: _view,
+            base: _,
+            own,
+            events,
+            reads,
+        } = self;
+        let changes = own.into_changes(alloc)?;
         Ok(Changes {
             changes,
-            events: self.events,
-            reads: Items::from_vec(self.reads),
+            events,
+            reads: Items::from_vec(reads),
         })
     }
 

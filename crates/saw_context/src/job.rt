@@ -18,7 +18,6 @@ pub struct Ticket {
 }
 
 /// A transaction to be run.
-#[derive(Drop)]
 pub struct Job {
     pub ticket: Ticket,
     pub tx: Arc<Tx>,
@@ -28,8 +27,19 @@ pub struct Job {
     pub dependency_failed: bool,
 }
 
+// One step of a proof wherever one ends.
+impl Drop for Job {
+    fn drop(self) {
+        let Job {
+            ticket: _,
+            tx: _tx,
+            view: _view,
+            dependency_failed: _,
+        } = self;
+    }
+}
+
 /// What came of a job. It changes only addresses that an output of its transaction covers.
-#[derive(Drop)]
 pub struct Done {
     pub ticket: Ticket,
     pub tx: Arc<Tx>,
@@ -38,4 +48,33 @@ pub struct Done {
     pub reads: Items<Read>,
     pub outcome: Outcome,
     ghost covered: { are_changes_covered (arc_value tx).header.outputs outcome ≡ true },
+}
+
+// One step of a proof wherever one ends.
+impl Drop for Done {
+    fn drop(self) {
+        let Done {
+            ticket: _,
+            tx: _tx,
+            talk: _talk,
+            reads: _reads,
+            outcome: _outcome,
+        } = self;
+    }
+}
+
+impl Done {
+    /// How it ended.
+    pub fn into_outcome(self) -> Outcome
+        ensures { result ≡ self.outcome }
+    {
+        let Done {
+            ticket: _,
+            tx: _tx,
+            talk: _talk,
+            reads: _reads,
+            outcome,
+        } = self;
+        outcome
+    }
 }

@@ -20,12 +20,21 @@ pub struct ViewEntry {
 }
 
 /// What earlier transactions left at the addresses that a transaction may read.
-#[derive(Drop)]
 pub struct View {
     /// What they left anywhere.
     pub layers: Layers,
     /// What the transaction may read.
     pub inputs: Vec<Prefix>,
+}
+
+// One step of a proof wherever one ends.
+impl Drop for View {
+    fn drop(self) {
+        let View {
+            layers: _layers,
+            inputs: _inputs,
+        } = self;
+    }
 }
 
 impl View {

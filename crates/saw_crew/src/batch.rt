@@ -64,7 +64,7 @@ fn run_tx<B: Base, R: Station>(
         view: Arc::new(alloc, view)?,
         dependency_failed: names_one(tx, failed),
     };
-    Ok(run_one(alloc, desk, &job, base)?.outcome)
+    Ok(run_one(alloc, desk, &job, base)?.into_outcome())
 }
 
 /// Runs a batch over the base. Its changes are kept apart, so that a failed batch leaves nothing.

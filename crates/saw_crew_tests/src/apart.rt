@@ -3,7 +3,7 @@
 use saw_messages::{TransactionHeader, Tx, TxBatch, encode_transaction_header};
 use saw_plan::Plan;
 use saw_station::Offer;
-use saw_wire::{Bytes, Items, Text};
+use saw_wire::{Bytes, Items, Message, Text};
 use std::alloc::{AllocError, Global};
 use std::sync::Arc;
 use std::test::Fail;
@@ -43,17 +43,13 @@ fn header(
     inputs: Items<Text>,
     outputs: Items<Text>,
 ) -> Result<TransactionHeader, AllocError> {
-    Ok(TransactionHeader {
-        batcher_public_key: Text::new(alloc),
-        dependencies: Items::new(alloc),
-        family_name: Text::from_str(alloc, FAMILY)?,
-        family_version: Text::from_str(alloc, "1.0")?,
-        inputs,
-        nonce: Text::new(alloc),
-        outputs,
-        payload_sha512: Text::new(alloc),
-        signer_public_key: Text::from_str(alloc, "K")?,
-    })
+    let mut header = TransactionHeader::empty(alloc);
+    header.family_name = Text::from_str(alloc, FAMILY)?;
+    header.family_version = Text::from_str(alloc, "1.0")?;
+    header.inputs = inputs;
+    header.outputs = outputs;
+    header.signer_public_key = Text::from_str(alloc, "K")?;
+    Ok(header)
 }
 
 /// A batch of one transaction, which declares these.

@@ -16,7 +16,7 @@ ghost use Rattle.saw_generate.specs.Signed.{declared, header_of, nonce_at, trans
 use saw_intkey::{Payload, address_of, encode_payload};
 use saw_messages::{Transaction, TransactionHeader, Tx, encode_transaction_header};
 use saw_verify::Signer;
-use saw_wire::{Bytes, Items, Text};
+use saw_wire::{Bytes, Items, Message, Text};
 use sha2::{Digest, Sha512};
 use std::alloc::{AllocError, Global};
 
@@ -71,17 +71,17 @@ fn header_of(
     requires { bytes.now ≡ payload_bytes payload.now }
     ensures { IfOk result (λ header. header ≡ header_of key.now nonce payload.now) }
 {
-    Ok(TransactionHeader {
-        batcher_public_key: Text::from_str(alloc, key)?,
-        dependencies: Items::new(alloc),
-        family_name: Text::from_str(alloc, "intkey")?,
-        family_version: Text::from_str(alloc, "1.0")?,
-        inputs: declared(alloc, payload)?,
-        nonce,
-        outputs: declared(alloc, payload)?,
-        payload_sha512: digest_of(alloc, bytes)?,
-        signer_public_key: Text::from_str(alloc, key)?,
-    })
+    let mut header = TransactionHeader::empty(alloc);
+    header.batcher_public_key = Text::from_str(alloc, key)?;
+    header.dependencies = Items::new(alloc);
+    header.family_name = Text::from_str(alloc, "intkey")?;
+    header.family_version = Text::from_str(alloc, "1.0")?;
+    header.inputs = declared(alloc, payload)?;
+    header.nonce = nonce;
+    header.outputs = declared(alloc, payload)?;
+    header.payload_sha512 = digest_of(alloc, bytes)?;
+    header.signer_public_key = Text::from_str(alloc, key)?;
+    Ok(header)
 }
 
 fn is_text(text: &Text)

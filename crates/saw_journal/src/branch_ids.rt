@@ -13,10 +13,19 @@ use saw_wire::Text;
 use std::alloc::{AllocError, Global};
 
 /// The ids of the batches and of the transactions of a branch.
-#[derive(Drop)]
 pub(crate) struct BranchIds {
     batches: IdSet,
     transactions: IdSet,
+}
+
+// One step of a proof wherever one ends.
+impl Drop for BranchIds {
+    fn drop(self) {
+        let BranchIds {
+            batches: _batches,
+            transactions: _transactions,
+        } = self;
+    }
 }
 
 impl KnownIds for BranchIds {

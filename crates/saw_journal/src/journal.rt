@@ -42,7 +42,6 @@ use std::sync::Wait;
 use std::thread::Threads;
 
 /// The accepted blocks, the ids of the branch of each, the maps that they leave, and the head.
-#[derive(Drop)]
 pub struct Journal<H: NodeHasher> {
     alloc: Global,
     blocks: BlockMap,
@@ -50,6 +49,20 @@ pub struct Journal<H: NodeHasher> {
     head: Option<usize>,
     state: State<H>,
     limit: u32,
+}
+
+// One step of a proof wherever one ends.
+impl<H: NodeHasher> Drop for Journal<H> {
+    fn drop(self) {
+        let Journal {
+            alloc: _,
+            blocks: _blocks,
+            ids: _ids,
+            head: _,
+            state: _state,
+            limit: _,
+        } = self;
+    }
 }
 
 impl<H: NodeHasher> Model for Journal<H> {

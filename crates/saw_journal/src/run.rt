@@ -94,16 +94,14 @@ fn record_of(
     }) }
 {
     let batches = batch_records(alloc, checked.batches.as_slice(), results)?;
-    let CheckedBlock {
-        id,
-        header,
-        batches: _,
-    } = checked;
+    let (id, header) = checked.into_names();
+    let number = header.block_num;
+    let (previous, signer) = header.into_names();
     Ok(BlockRecord {
         id,
-        number: header.block_num,
-        previous: header.previous_block_id,
-        signer: header.signer_public_key,
+        number,
+        previous,
+        signer,
         root,
         batches,
     })

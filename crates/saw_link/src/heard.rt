@@ -39,12 +39,22 @@ pub enum Kind {
 }
 
 /// A request that waits for its answer.
-#[derive(Drop)]
 pub struct Asked {
     pub kind: Kind,
     pub correlation: Text,
     /// The texts of its addresses.
     pub texts: Items<Text>,
+}
+
+// One step of a proof wherever one ends.
+impl Drop for Asked {
+    fn drop(self) {
+        let Asked {
+            kind: _,
+            correlation: _correlation,
+            texts: _texts,
+        } = self;
+    }
 }
 
 /// How the peer ended a transaction.

@@ -14,7 +14,6 @@ use std::alloc::{AllocError, Global};
 
 /// A link to nobody: it receives the listed frames in order, and then the end. The calls are counted from 0, sending and
 /// receiving together.
-#[derive(Drop)]
 pub struct MemoryPeer {
     frames: Vec<Vec<u8>>,
     at: usize,
@@ -23,6 +22,20 @@ pub struct MemoryPeer {
     calls: u64,
     faults: u64,
     ghost within: { at ≤ length frames.items },
+}
+
+// One step of a proof wherever one ends.
+impl Drop for MemoryPeer {
+    fn drop(self) {
+        let MemoryPeer {
+            frames: _frames,
+            at: _,
+            passed: _passed,
+            fail: _fail,
+            calls: _,
+            faults: _,
+        } = self;
+    }
 }
 
 impl MemoryPeer {

@@ -15,11 +15,21 @@ use std::alloc::Global;
 const LIMIT: u32 = 8_388_608;
 
 /// A link over a source and a sink of bytes. Its frames have four bytes of length, highest first.
-#[derive(Drop)]
 pub struct StreamLink<S, K> {
     source: S,
     sink: K,
     faults: u64,
+}
+
+// One step of a proof wherever one ends.
+impl<S: Drop, K: Drop> Drop for StreamLink<S, K> {
+    fn drop(self) {
+        let StreamLink {
+            source: _source,
+            sink: _sink,
+            faults: _,
+        } = self;
+    }
 }
 
 impl<S: Source, K: Sink> StreamLink<S, K> {
@@ -41,7 +51,12 @@ impl<S: Source, K: Sink> StreamLink<S, K> {
         ensures source { result.0 ≡ self.source }
         ensures sink { result.1 ≡ self.sink }
     {
-        (self.source, self.sink)
+        let StreamLink {
+            source,
+            sink,
+            faults: _,
+        } = self;
+        (source, sink)
     }
 }
 

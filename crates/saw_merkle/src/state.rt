@@ -31,7 +31,6 @@ use std::thread::Threads;
 ///
 /// The maps share their nodes, and an update adds those along the paths of the changed addresses. The whole map of one
 /// root, as a rule the latest, lies beside them for fast reads.
-#[derive(Drop)]
 pub struct State<H: NodeHasher> {
     alloc: Global,
     store: NodeStore<H>,
@@ -39,6 +38,20 @@ pub struct State<H: NodeHasher> {
     empty: NodeHash,
     flat: Option<Flat>,
     of: PhantomData<H>,
+}
+
+// One step of a proof wherever one ends.
+impl<H: NodeHasher> Drop for State<H> {
+    fn drop(self) {
+        let State {
+            alloc: _,
+            store: _store,
+            roots: _roots,
+            empty: _,
+            flat: _flat,
+            of: _,
+        } = self;
+    }
 }
 
 impl<H: NodeHasher> Model for State<H> {

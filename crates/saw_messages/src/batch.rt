@@ -10,12 +10,23 @@ use saw_wire::{
 use std::alloc::{AllocError, Global};
 
 /// A batch of transactions with its header as it was signed. `trace` is kept and not acted on.
-#[derive(Drop)]
 pub struct Batch {
     pub header: Bytes,
     pub header_signature: Text,
     pub transactions: Items<Transaction>,
     pub trace: bool,
+}
+
+// One step of a proof wherever one ends.
+impl Drop for Batch {
+    fn drop(self) {
+        let Batch {
+            header: _header,
+            header_signature: _header_signature,
+            transactions: _transactions,
+            trace: _,
+        } = self;
+    }
 }
 
 impl Message for Batch {

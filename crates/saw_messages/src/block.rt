@@ -10,11 +10,35 @@ use saw_wire::{
 use std::alloc::{AllocError, Global};
 
 /// A block with its header as it was signed. Its id is the signature.
-#[derive(Drop)]
 pub struct Block {
     pub header: Bytes,
     pub header_signature: Text,
     pub batches: Items<Batch>,
+}
+
+// One step of a proof wherever one ends.
+impl Drop for Block {
+    fn drop(self) {
+        let Block {
+            header: _header,
+            header_signature: _header_signature,
+            batches: _batches,
+        } = self;
+    }
+}
+
+impl Block {
+    /// Its id; the rest is given up.
+    pub fn into_id(self) -> Text
+        ensures { result ≡ self.header_signature }
+    {
+        let Block {
+            header: _header,
+            header_signature,
+            batches: _batches,
+        } = self;
+        header_signature
+    }
 }
 
 impl Message for Block {
@@ -51,7 +75,6 @@ impl Message for Block {
 }
 
 /// What a block says of itself.
-#[derive(Drop)]
 pub struct BlockHeader {
     pub block_num: u64,
     pub previous_block_id: Text,
@@ -59,6 +82,37 @@ pub struct BlockHeader {
     pub batch_ids: Items<Text>,
     pub consensus: Bytes,
     pub state_root_hash: Text,
+}
+
+// One step of a proof wherever one ends.
+impl Drop for BlockHeader {
+    fn drop(self) {
+        let BlockHeader {
+            block_num: _,
+            previous_block_id: _previous_block_id,
+            signer_public_key: _signer_public_key,
+            batch_ids: _batch_ids,
+            consensus: _consensus,
+            state_root_hash: _state_root_hash,
+        } = self;
+    }
+}
+
+impl BlockHeader {
+    /// The id of the block before it and the key of its signer; the rest is given up.
+    pub fn into_names(self) -> (Text, Text)
+        ensures { result ≡ (self.previous_block_id, self.signer_public_key) }
+    {
+        let BlockHeader {
+            block_num: _,
+            previous_block_id,
+            signer_public_key,
+            batch_ids: _batch_ids,
+            consensus: _consensus,
+            state_root_hash: _state_root_hash,
+        } = self;
+        (previous_block_id, signer_public_key)
+    }
 }
 
 impl Message for BlockHeader {

@@ -9,12 +9,23 @@ use saw_wire::{
 use std::alloc::{AllocError, Global};
 
 /// What a transaction did, under its id.
-#[derive(Drop)]
 pub struct Receipt {
     pub state_changes: Items<StateChange>,
     pub events: Items<Event>,
     pub body: Items<Bytes>,
     pub transaction_id: Text,
+}
+
+// One step of a proof wherever one ends.
+impl Drop for Receipt {
+    fn drop(self) {
+        let Receipt {
+            state_changes: _state_changes,
+            events: _events,
+            body: _body,
+            transaction_id: _transaction_id,
+        } = self;
+    }
 }
 
 impl Message for Receipt {
@@ -95,11 +106,21 @@ impl Message for StateChange {
 }
 
 /// An event that a transaction added.
-#[derive(Drop)]
 pub struct Event {
     pub event_type: Text,
     pub attributes: Items<Attribute>,
     pub body: Bytes,
+}
+
+// One step of a proof wherever one ends.
+impl Drop for Event {
+    fn drop(self) {
+        let Event {
+            event_type: _event_type,
+            attributes: _attributes,
+            body: _body,
+        } = self;
+    }
 }
 
 impl Message for Event {

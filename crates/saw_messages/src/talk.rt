@@ -90,10 +90,19 @@ pub enum Reply {
 }
 
 /// One request with its reply.
-#[derive(Drop)]
 pub struct Turn {
     pub action: Action,
     pub reply: Reply,
+}
+
+// One step of a proof wherever one ends.
+impl Drop for Turn {
+    fn drop(self) {
+        let Turn {
+            action: _action,
+            reply: _reply,
+        } = self;
+    }
 }
 
 /// The requests so far, with their replies.

@@ -9,11 +9,21 @@ use saw_wire::{
 use std::alloc::{AllocError, Global};
 
 /// A transaction with its header as it was signed.
-#[derive(Drop)]
 pub struct Transaction {
     pub header: Bytes,
     pub header_signature: Text,
     pub payload: Bytes,
+}
+
+// One step of a proof wherever one ends.
+impl Drop for Transaction {
+    fn drop(self) {
+        let Transaction {
+            header: _header,
+            header_signature: _header_signature,
+            payload: _payload,
+        } = self;
+    }
 }
 
 impl Message for Transaction {
@@ -50,7 +60,6 @@ impl Message for Transaction {
 }
 
 /// What a transaction says of itself.
-#[derive(Drop)]
 pub struct TransactionHeader {
     pub batcher_public_key: Text,
     pub dependencies: Items<Text>,
@@ -61,6 +70,23 @@ pub struct TransactionHeader {
     pub outputs: Items<Text>,
     pub payload_sha512: Text,
     pub signer_public_key: Text,
+}
+
+// One step of a proof wherever one ends.
+impl Drop for TransactionHeader {
+    fn drop(self) {
+        let TransactionHeader {
+            batcher_public_key: _batcher_public_key,
+            dependencies: _dependencies,
+            family_name: _family_name,
+            family_version: _family_version,
+            inputs: _inputs,
+            nonce: _nonce,
+            outputs: _outputs,
+            payload_sha512: _payload_sha512,
+            signer_public_key: _signer_public_key,
+        } = self;
+    }
 }
 
 impl Message for TransactionHeader {

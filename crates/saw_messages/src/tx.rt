@@ -12,13 +12,24 @@ use std::marker::Model;
 use std::sync::Arc;
 
 /// A transaction whose header has been read from its bytes.
-#[derive(Drop)]
 pub struct Tx {
     /// Its signature's text.
     pub id: Text,
     pub header: TransactionHeader,
     pub header_bytes: Bytes,
     pub payload: Bytes,
+}
+
+// One step of a proof wherever one ends.
+impl Drop for Tx {
+    fn drop(self) {
+        let Tx {
+            id: _id,
+            header: _header,
+            header_bytes: _header_bytes,
+            payload: _payload,
+        } = self;
+    }
 }
 
 impl Model for Tx {
@@ -68,13 +79,23 @@ impl Tx {
 }
 
 /// A batch whose transactions have been read.
-#[derive(Drop)]
 pub struct TxBatch {
     /// Its signature's text.
     pub id: Text,
     /// The key of its signer.
     pub signer: Text,
     pub txs: Items<Arc<Tx>>,
+}
+
+// One step of a proof wherever one ends.
+impl Drop for TxBatch {
+    fn drop(self) {
+        let TxBatch {
+            id: _id,
+            signer: _signer,
+            txs: _txs,
+        } = self;
+    }
 }
 
 impl Model for TxBatch {

@@ -20,11 +20,21 @@ use std::sync::{Arc, Wait};
 use std::thread::Threads;
 
 /// The ids that are there, the batches, and the transactions of the next one.
-#[derive(Drop)]
 pub(crate) struct Planning {
     known: Known,
     batches: Vec<TxBatch>,
     txs: Items<Arc<Tx>>,
+}
+
+// One step of a proof wherever one ends.
+impl Drop for Planning {
+    fn drop(self) {
+        let Planning {
+            known: _known,
+            batches: _batches,
+            txs: _txs,
+        } = self;
+    }
 }
 
 impl Planning {

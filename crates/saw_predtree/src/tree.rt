@@ -16,7 +16,6 @@ use std::alloc::{AllocError, Global};
 use std::collections::BTreeMap;
 
 /// Who has written last at each prefix, and who has read there since.
-#[derive(Drop)]
 pub struct PredecessorTree {
     places: BTreeMap<Key, Place>,
     /// Which lengths the keys of the places have had.
@@ -27,6 +26,19 @@ pub struct PredecessorTree {
     next: u64,
     /// Memory was refused, so that the rest is of no use.
     failed: bool,
+}
+
+// One step of a proof wherever one ends.
+impl Drop for PredecessorTree {
+    fn drop(self) {
+        let PredecessorTree {
+            places: _places,
+            lengths: _lengths,
+            reaches: _reaches,
+            next: _,
+            failed: _,
+        } = self;
+    }
 }
 
 // Adds a number with the prefixes that it reads and those that it writes.

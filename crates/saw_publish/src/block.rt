@@ -15,7 +15,7 @@ use saw_messages::{BlockHeader, TxBatch, encode_block_header};
 use saw_node::NodeHash;
 use saw_receipts::Parent;
 use saw_verify::Signer;
-use saw_wire::{Bytes, Items, Text, put_bytes, put_item};
+use saw_wire::{Bytes, Items, Message, Text, put_bytes, put_item};
 use std::alloc::{AllocError, Global};
 
 /// What a first block states as the id of the block before it.
@@ -62,14 +62,14 @@ pub fn header_of<G: Signer>(
     ensures { IfOk result (λ header.
         header ≡ header_with (G.key_text signer.now) (option_copied parent.entry) ids root) }
 {
-    Ok(BlockHeader {
-        block_num: number_behind(parent),
-        previous_block_id: previous_of(alloc, parent)?,
-        signer_public_key: Text::from_str(alloc, signer.key())?,
-        batch_ids: ids,
-        consensus: Bytes::from_slice(alloc, DEVMODE)?,
-        state_root_hash: digits_of(alloc, root)?,
-    })
+    let mut header = BlockHeader::empty(alloc);
+    header.block_num = number_behind(parent);
+    header.previous_block_id = previous_of(alloc, parent)?;
+    header.signer_public_key = Text::from_str(alloc, signer.key())?;
+    header.batch_ids = ids;
+    header.consensus = Bytes::from_slice(alloc, DEVMODE)?;
+    header.state_root_hash = digits_of(alloc, root)?;
+    Ok(header)
 }
 
 /// The ids of the batches that stay in.

@@ -6,7 +6,6 @@ use saw_node::NodeHash;
 use saw_wire::{Items, Text};
 
 /// An accepted block.
-#[derive(Drop)]
 pub struct BlockRecord {
     /// Its signature's 128 hex digits.
     pub id: Text,
@@ -18,6 +17,20 @@ pub struct BlockRecord {
     /// The root of the state that it leaves.
     pub root: NodeHash,
     pub batches: Items<BatchRecord>,
+}
+
+// One step of a proof wherever one ends.
+impl Drop for BlockRecord {
+    fn drop(self) {
+        let BlockRecord {
+            id: _id,
+            number: _,
+            previous: _previous,
+            signer: _signer,
+            root: _,
+            batches: _batches,
+        } = self;
+    }
 }
 
 /// A batch of an accepted block.

@@ -25,7 +25,7 @@ fn outcomes_of(alloc: Global, steps: Vec<Step>) -> Result<Vec<Option<Outcome>>, 
     let mut outcomes = Vec::new(alloc);
     for step in steps {
         let outcome = match step {
-            Step::Finish(done) => Some(done.outcome),
+            Step::Finish(done) => Some(done.into_outcome()),
             _other => None,
         };
         outcomes.push(outcome)?;

@@ -22,7 +22,6 @@ pub(crate) struct Left {
 }
 
 /// The changes of the results that stand before a place among the steps, and the first few of that one.
-#[derive(Drop)]
 pub(crate) struct Lasts {
     /// For each address, in the order in which they came, those that were held.
     pub(crate) lists: BTreeMap<Address, Vec<Left>>,
@@ -32,6 +31,19 @@ pub(crate) struct Lasts {
     pub(crate) undone: ReadySet,
     pub(crate) place: usize,
     pub(crate) change: usize,
+}
+
+// One step of a proof wherever one ends.
+impl Drop for Lasts {
+    fn drop(self) {
+        let Lasts {
+            lists: _lists,
+            layers: _layers,
+            undone: _undone,
+            place: _,
+            change: _,
+        } = self;
+    }
 }
 
 /// The change of a result at a place among the steps.

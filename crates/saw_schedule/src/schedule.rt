@@ -36,7 +36,6 @@ use std::marker::Model;
 use std::sync::Arc;
 
 /// Which transactions of a plan run, are held and are settled: always what the steps so far make of it.
-#[derive(Drop)]
 pub struct Schedule {
     plan: Arc<Plan>,
     /// The transactions, numbered through.
@@ -46,6 +45,20 @@ pub struct Schedule {
     slots: Slots,
     lasts: Lasts,
     steps: Vec<Step>,
+}
+
+// One step of a proof wherever one ends.
+impl Drop for Schedule {
+    fn drop(self) {
+        let Schedule {
+            plan: _plan,
+            txs: _txs,
+            named: _named,
+            slots: _slots,
+            lasts: _lasts,
+            steps: _steps,
+        } = self;
+    }
 }
 
 impl Model for Schedule {
@@ -336,7 +349,14 @@ impl Schedule {
         requires { (state_of self).rest ≡ [] }
         ensures { IfOk result (λ results. results.batches ≡ (state_of self).results) }
     {
-        let Schedule { slots, steps, .. } = self;
+        let Schedule {
+            plan: _plan,
+            txs: _txs,
+            named: _named,
+            slots,
+            lasts: _lasts,
+            steps,
+        } = self;
         gather_results(alloc, slots, steps)
     }
 }

@@ -15,7 +15,6 @@ use saw_messages::{Outcome, Reason};
 use saw_ready::{Front, Queue, ReadySet};
 
 /// What each transaction holds by its number, and the verdicts of the settled batches.
-#[derive(Drop)]
 pub(crate) struct Slots {
     pub(crate) queue: Queue,
     /// The number after the last transaction of each batch.
@@ -26,6 +25,20 @@ pub(crate) struct Slots {
     pub(crate) verdicts: Vec<Verdict>,
     /// At least as many as run.
     pub(crate) running: usize,
+}
+
+// One step of a proof wherever one ends.
+impl Drop for Slots {
+    fn drop(self) {
+        let Slots {
+            queue: _queue,
+            ends: _ends,
+            hits: _hits,
+            kept: _kept,
+            verdicts: _verdicts,
+            running: _,
+        } = self;
+    }
 }
 
 // The reason of the invalid result at a place of the steps.

@@ -3,11 +3,21 @@
 use std::{fs, io};
 
 /// The calls of a script, and the lines that they are to say.
-#[derive(Drop)]
 pub struct Script {
     pub name: String,
     pub calls: String,
     pub wanted: Vec<u8>,
+}
+
+// One step of a proof wherever one ends.
+impl Drop for Script {
+    fn drop(self) {
+        let Script {
+            name: _name,
+            calls: _calls,
+            wanted: _wanted,
+        } = self;
+    }
 }
 
 fn script_of(host: &HostRuntime, kind: &str, name: &str) -> io::Result<Script> {

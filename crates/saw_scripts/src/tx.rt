@@ -3,7 +3,7 @@
 use crate::ScriptFault;
 use crate::words::{bytes_of, texts_of};
 use saw_messages::{TransactionHeader, Tx, encode_transaction_header};
-use saw_wire::{Bytes, Items, Text};
+use saw_wire::{Bytes, Message, Text};
 use std::alloc::{AllocError, Global};
 
 /// The words that make a transaction. The signer is `K`.
@@ -28,17 +28,14 @@ pub const NO_WORDS: Words<'static> = Words {
 };
 
 fn header_of(alloc: Global, words: Words<'_>) -> Result<TransactionHeader, AllocError> {
-    Ok(TransactionHeader {
-        batcher_public_key: Text::new(alloc),
-        dependencies: texts_of(alloc, words.dependencies)?,
-        family_name: Text::from_str(alloc, words.family)?,
-        family_version: Text::from_str(alloc, "1.0")?,
-        inputs: texts_of(alloc, words.inputs)?,
-        nonce: Text::new(alloc),
-        outputs: texts_of(alloc, words.outputs)?,
-        payload_sha512: Text::new(alloc),
-        signer_public_key: Text::from_str(alloc, "K")?,
-    })
+    let mut header = TransactionHeader::empty(alloc);
+    header.dependencies = texts_of(alloc, words.dependencies)?;
+    header.family_name = Text::from_str(alloc, words.family)?;
+    header.family_version = Text::from_str(alloc, "1.0")?;
+    header.inputs = texts_of(alloc, words.inputs)?;
+    header.outputs = texts_of(alloc, words.outputs)?;
+    header.signer_public_key = Text::from_str(alloc, "K")?;
+    Ok(header)
 }
 
 fn header_bytes(alloc: Global, words: Words<'_>) -> Result<Bytes, AllocError> {

@@ -47,11 +47,21 @@ impl Message for VoteRecord {
 }
 
 /// A proposal under its id, with the votes on it in the order in which they came.
-#[derive(Drop)]
 pub struct SettingCandidate {
     pub proposal_id: Text,
     pub proposal: SettingProposal,
     pub votes: Items<VoteRecord>,
+}
+
+// One step of a proof wherever one ends.
+impl Drop for SettingCandidate {
+    fn drop(self) {
+        let SettingCandidate {
+            proposal_id: _proposal_id,
+            proposal: _proposal,
+            votes: _votes,
+        } = self;
+    }
 }
 
 impl Message for SettingCandidate {

@@ -46,11 +46,21 @@ impl Message for SettingsPayload {
 }
 
 /// A value that a setting is to get. The nonce makes its id another one.
-#[derive(Drop)]
 pub struct SettingProposal {
     pub setting: Text,
     pub value: Text,
     pub nonce: Text,
+}
+
+// One step of a proof wherever one ends.
+impl Drop for SettingProposal {
+    fn drop(self) {
+        let SettingProposal {
+            setting: _setting,
+            value: _value,
+            nonce: _nonce,
+        } = self;
+    }
 }
 
 impl Message for SettingProposal {

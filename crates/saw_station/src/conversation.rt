@@ -21,11 +21,31 @@ use std::alloc::{AllocError, Global};
 const MAX_REQUESTS: u32 = 1_000;
 
 /// What a conversation came to: its turns, the action behind them, and what was done.
-#[derive(Drop)]
 pub(crate) struct Spoken {
     pub(crate) talk: Transcript,
     pub(crate) last: Action,
     pub(crate) done: Changes,
+}
+
+// One step of a proof wherever one ends.
+impl Drop for Spoken {
+    fn drop(self) {
+        let Spoken {
+            talk: _talk,
+            last: _last,
+            done: _done,
+        } = self;
+    }
+}
+
+impl Spoken {
+    /// Its parts.
+    pub(crate) fn parts(self) -> (Transcript, Action, Changes)
+        ensures { result ≡ (self.talk, self.last, self.done) }
+    {
+        let Spoken { talk, last, done } = self;
+        (talk, last, done)
+    }
 }
 
 fn is_request(action: &Action) -> bool

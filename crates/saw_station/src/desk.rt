@@ -12,10 +12,19 @@ use std::sync::Arc;
 
 /// Serves the built-in families, and what its remote offers where it has one. A built-in family is always served by
 /// the built-in processor.
-#[derive(Drop)]
 pub struct Desk<R: Station> {
     pub(crate) remote: Option<R>,
     pub(crate) offers: Arc<Vec<Offer>>,
+}
+
+// One step of a proof wherever one ends.
+impl<R: Station> Drop for Desk<R> {
+    fn drop(self) {
+        let Desk {
+            remote: _remote,
+            offers: _offers,
+        } = self;
+    }
 }
 
 impl<R: Station> Model for Desk<R> {
@@ -43,7 +52,11 @@ impl<R: Station> Desk<R> {
     pub fn into_remote(self) -> Option<R>
         ensures { result ≡ self.remote }
     {
-        self.remote
+        let Desk {
+            remote,
+            offers: _offers,
+        } = self;
+        remote
     }
 
     /// What its remote offers.

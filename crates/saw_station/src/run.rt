@@ -190,7 +190,7 @@ fn done_of(job: &Job, spoken: Spoken) -> Result<Done, AllocError>
         (outcome_at spoken.last spoken.done.changes spoken.done.events) ≡ true }
     ensures { IfOk result (IsTalk job.now spoken) }
 {
-    let Spoken { talk, last, done } = spoken;
+    let (talk, last, done) = spoken.parts();
     let Changes {
         changes,
         events,

@@ -1,4 +1,4 @@
-use Rattle.std.proofs.Common.{Some, None, refl, inr}
+use Rattle.std.proofs.Common.{Some, None, inr}
 use Rattle.std.proofs.lemmas.Result.{err_from_is_err_and}
 use Rattle.saw_checks.proofs.BlockRuns.{no_block, no_header, at_tests, at_ids, at_batches, at_signature}
 use Rattle.saw_checks.proofs.block.check_block.Goals as goal
@@ -50,7 +50,7 @@ returns g c =
       record {
         read = c.in_ok-block.block;
         decoded = c.in_ok-block.ensures;
-        id = refl;
+        id = c.into_id.ensures;
         header = read;
         batches = checked.1;
       },

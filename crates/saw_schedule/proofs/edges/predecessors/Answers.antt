@@ -21,10 +21,10 @@ loop-k-preserved c =
     (c.in_ok-extend_from_slice.ensures.items ∙ ap (λ (more : List ℕ). c.loop-k.to.items ++ more) c.deref-in-loop-k.ensures.value))
     (c.in_ok-place_of.ensures ∙ ap length c.deref-in-loop-k-2.ensures.value) c.in_ok-push-2.ensures.items
 
-abbrev made : goal.After-drop-tree-4 → Edges
+abbrev made : goal.After-drop-tree-2 → Edges
 made c = record { from = c.loop-k.from; to = c.loop-k.to }
 
-all-added : (c : goal.After-drop-tree-4) → AreAdded (shapes_of c.args.txs.now) c.args.named.now (tree_of c.loop-k.tree) c.loop-k.from.items c.loop-k.to.items (length c.args.txs.now)
+all-added : (c : goal.After-drop-tree-2) → AreAdded (shapes_of c.args.txs.now) c.args.named.now (tree_of c.loop-k.tree) c.loop-k.from.items c.loop-k.to.items (length c.args.txs.now)
 all-added c =
     let end : c.loop-k.k ≡ length c.args.txs.now = omega (arith, c.loop-k.auto.k-end, c.loop-k-test.false) in
     subst (λ (n : ℕ). AreAdded (shapes_of c.args.txs.now) c.args.named.now (tree_of c.loop-k.tree) c.loop-k.from.items c.loop-k.to.items n) end c.loop-k.invariant
