@@ -1,23 +1,19 @@
 //! What a case gives to a run.
 
+use crate::ends::Ends;
 use crate::said::Output;
-use saw_io::{MemorySource, read_frame};
+use saw_io::{MemoryShelf, MemorySink, MemorySource, read_frame};
 use saw_wire::Text;
 use std::alloc::{AllocError, Global};
 use std::collections::BTreeMap;
 use std::io::{Error, ErrorKind};
 use std::{fs, io};
 
-/// Words, stream and files of a run, and the numbers of its calls that fail.
+/// What a run is given.
 #[derive(Drop)]
 pub(crate) struct Given {
     pub(crate) words: Vec<String>,
-    pub(crate) input: Vec<u8>,
-    pub(crate) files: BTreeMap<Text, Vec<u8>>,
-    pub(crate) reads: Vec<u64>,
-    pub(crate) writes: Vec<u64>,
-    pub(crate) notes: Vec<u64>,
-    pub(crate) fetches: Vec<u64>,
+    pub(crate) ends: Ends,
     /// The frames of the processor elsewhere, where there is one.
     pub(crate) peer: Option<Vec<Vec<u8>>>,
 }
@@ -195,20 +191,29 @@ pub(crate) fn applied_of(rt: &HostRuntime, case: &str) -> io::Result<Option<Vec<
     bytes_of(rt, format!(in rt.alloc(); "cases/{case}/applied")?.as_str())
 }
 
+/// The ends of a case, with the numbers of their calls that fail.
+fn ends_of(rt: &HostRuntime, case: &str, words: &[String]) -> io::Result<Ends> {
+    let alloc = rt.alloc();
+    Ok(Ends {
+        input: MemorySource::new(stream_of(rt, case)?, numbers_of(rt, case, "fail_reads")?),
+        output: MemorySink::new(alloc, numbers_of(rt, case, "fail_writes")?),
+        notes: MemorySink::new(alloc, numbers_of(rt, case, "fail_notes")?),
+        files: MemoryShelf::new(
+            files_of(rt, case, words)?,
+            numbers_of(rt, case, "fail_fetches")?,
+        ),
+    })
+}
+
 /// What the case of this name gives.
 pub(crate) fn given_of(rt: &HostRuntime, case: &str) -> io::Result<Given> {
     let alloc = rt.alloc();
     let lines = fs::read_to_string(rt, format!(in alloc; "cases/{case}/words")?.as_str())?;
     let words = words_of(alloc, lines.as_str())?;
-    let files = files_of(rt, case, &words)?;
+    let ends = ends_of(rt, case, &words)?;
     Ok(Given {
         words,
-        input: stream_of(rt, case)?,
-        files,
-        reads: numbers_of(rt, case, "fail_reads")?,
-        writes: numbers_of(rt, case, "fail_writes")?,
-        notes: numbers_of(rt, case, "fail_notes")?,
-        fetches: numbers_of(rt, case, "fail_fetches")?,
+        ends,
         peer: peer_of(rt, case)?,
     })
 }

@@ -1,6 +1,7 @@
 //! Runs the cases from outside that lie in the folder `data`, and tells which differ.
 #![tactic(auto)]
 
+mod ends;
 mod given;
 mod said;
 

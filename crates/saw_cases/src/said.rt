@@ -2,16 +2,16 @@
 
 ghost use Rattle.std.specs.Prelude.{◌≡◌, false, All, IfOk};
 
+use crate::ends::Ends;
 use crate::given::Given;
-use saw_io::{MemoryShelf, MemorySink, MemorySource, write_frame};
+use saw_io::{MemorySink, write_frame};
 use saw_link::{MemoryPeer, Passed, RemoteStation};
 use saw_station::Station;
-use saw_top::run;
+use saw_top::{Status, run};
 use saw_verify::{DevSigner, DevVerifier};
 use saw_wire::Text;
 use sha2::{Digest, Sha512};
 use std::alloc::{AllocError, Global};
-use std::collections::BTreeMap;
 use std::sync::Wait;
 use std::thread::Threads;
 
@@ -153,6 +153,48 @@ fn sent_to(alloc: Global, remotes: &[RemoteStation<MemoryPeer>]) -> Result<Vec<u
     sent.bytes().to_vec(alloc)
 }
 
+/// The status of a run over these ends.
+fn status_of<T: Threads + Wait + Sync>(
+    rt: &T,
+    alloc: Global,
+    words: &[String],
+    ends: &mut Ends,
+    remotes: &mut Vec<RemoteStation<MemoryPeer>>,
+) -> Result<Status, AllocError>
+    requires { All
+        (λ remote. ⟦<RemoteStation<MemoryPeer> as Station>⟧.begun remote ≡ false) remotes.old.items }
+{
+    Ok(run(
+        rt,
+        alloc,
+        words,
+        &mut ends.input,
+        &mut ends.output,
+        &mut ends.notes,
+        &mut ends.files,
+        &DevVerifier,
+        &signer(alloc)?,
+        remotes,
+    ))
+}
+
+fn said_by(
+    alloc: Global,
+    status: Status,
+    ends: &Ends,
+    remotes: &[RemoteStation<MemoryPeer>],
+) -> Result<Said, AllocError> {
+    let mut said = Said {
+        output: Vec::new(alloc),
+        notes: Vec::new(alloc),
+        status: status.code().to_string(alloc)?,
+        sent: sent_to(alloc, remotes)?,
+    };
+    said.output.extend_from_slice(ends.output.bytes())?;
+    said.notes.extend_from_slice(ends.notes.bytes())?;
+    Ok(said)
+}
+
 /// What a run says to what is given.
 pub(crate) fn said_to<T: Threads + Wait + Sync>(
     rt: &T,
@@ -161,38 +203,12 @@ pub(crate) fn said_to<T: Threads + Wait + Sync>(
 ) -> Result<Said, AllocError> {
     let Given {
         words,
-        input,
-        files,
-        reads,
-        writes,
-        notes,
-        fetches,
+        mut ends,
         peer,
     } = given;
-    let signer = signer(alloc)?;
-    let mut source = MemorySource::new(input, reads);
-    let mut output = MemorySink::new(alloc, writes);
-    let mut notes = MemorySink::new(alloc, notes);
-    let mut shelf = MemoryShelf::new(files, fetches);
     let mut remotes = remotes_of(alloc, peer)?;
-    let status = run(
-        rt,
-        alloc,
-        &words,
-        &mut source,
-        &mut output,
-        &mut notes,
-        &mut shelf,
-        &DevVerifier,
-        &signer,
-        &mut remotes,
-    );
-    Ok(Said {
-        output: output.bytes().to_vec(alloc)?,
-        notes: notes.bytes().to_vec(alloc)?,
-        status: status.code().to_string(alloc)?,
-        sent: sent_to(alloc, &remotes)?,
-    })
+    let status = status_of(rt, alloc, &words, &mut ends, &mut remotes)?;
+    said_by(alloc, status, &ends, &remotes)
 }
 
 /// What `apply` says to a stream, by this number of workers.
@@ -202,6 +218,7 @@ pub(crate) fn said_to_stream<T: Threads + Wait + Sync>(
     input: Vec<u8>,
     workers: &str,
 ) -> Result<Said, AllocError> {
+    let ends = Ends::of_stream(alloc, input);
     let mut words = Vec::new(alloc);
     for word in ["apply", "--workers", workers] {
         words.push(String::from_str(alloc, word)?)?;
@@ -211,12 +228,7 @@ pub(crate) fn said_to_stream<T: Threads + Wait + Sync>(
         alloc,
         Given {
             words,
-            input,
-            files: BTreeMap::new(alloc),
-            reads: Vec::new(alloc),
-            writes: Vec::new(alloc),
-            notes: Vec::new(alloc),
-            fetches: Vec::new(alloc),
+            ends,
             peer: None,
         },
     )
@@ -228,17 +240,13 @@ pub(crate) fn said_to_words<T: Threads + Wait + Sync>(
     alloc: Global,
     words: Vec<String>,
 ) -> Result<Said, AllocError> {
+    let ends = Ends::that_fail(alloc)?;
     said_to(
         rt,
         alloc,
         Given {
             words,
-            input: Vec::new(alloc),
-            files: BTreeMap::new(alloc),
-            reads: [0].to_vec(alloc)?,
-            writes: [0].to_vec(alloc)?,
-            notes: Vec::new(alloc),
-            fetches: [0].to_vec(alloc)?,
+            ends,
             peer: None,
         },
     )

@@ -52,7 +52,7 @@ fn conversation(
     let mut context = Context::new(alloc, tx, view, base)?;
     let mut out = Vec::new(alloc);
     for line in lines {
-        ask(alloc, &mut context, line, &mut out)?;
+        ask(alloc, &mut context, &words_of(alloc, line)?, &mut out)?;
     }
     put_receipt(alloc, &mut out, &context.finish()?)?;
     Ok(out)
@@ -61,10 +61,10 @@ fn conversation(
 fn ask(
     alloc: Global,
     context: &mut Context<'_, PlainBase>,
-    line: &str,
+    words: &[&str],
     out: &mut Vec<u8>,
 ) -> anyhow::Result<()> {
-    match words_of(alloc, line)?.as_slice() {
+    match words {
         ["get", words @ ..] => get(alloc, context, words, out),
         ["set", words @ ..] => set(alloc, context, words, out),
         ["delete", words @ ..] => delete(alloc, context, words, out),

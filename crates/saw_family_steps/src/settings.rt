@@ -7,14 +7,14 @@ use std::alloc::Global;
 pub(crate) fn lines(alloc: Global, script: &str) -> anyhow::Result<Vec<u8>> {
     let mut out = Vec::new(alloc);
     for line in script.lines() {
-        call(alloc, line, &mut out)?;
+        call(alloc, &words_of(alloc, line)?, &mut out)?;
         out.push(b'\n')?;
     }
     Ok(out)
 }
 
-fn call(alloc: Global, line: &str, out: &mut Vec<u8>) -> anyhow::Result<()> {
-    match words_of(alloc, line)?.as_slice() {
+fn call(alloc: Global, words: &[&str], out: &mut Vec<u8>) -> anyhow::Result<()> {
+    match words {
         ["address", key] => Ok(put_word(out, address_of(key).to_hex().as_slice())?),
         ["value", key, entries @ ..] => put_value(alloc, key, entries, out),
         [kind, word] => put_again(alloc, kind, bytes_of(alloc, word)?.as_slice(), out),

@@ -41,9 +41,9 @@ const REFUSED: [&[u8]; 7] = [
     b"\xbf\x61\x61\x01\xff",
 ];
 
-fn rewritten(alloc: Global, bytes: &[u8]) -> Result<Vec<u8>, Fail> {
+fn is_kept(alloc: Global, bytes: &[u8]) -> Result<bool, Fail> {
     let item = decode(alloc, bytes, 4)?;
-    Ok(encode(alloc, &item)?)
+    Ok(encode(alloc, &item)?.as_slice() == bytes)
 }
 
 fn fault(alloc: Global, bytes: &[u8]) -> Option<CborFault> {
@@ -53,7 +53,7 @@ fn fault(alloc: Global, bytes: &[u8]) -> Option<CborFault> {
 #[test]
 fn examples_of_the_profile_are_read_and_written(rt: HostRuntime) -> Result<(), Fail> {
     for bytes in READ {
-        assert_eq!(rt; rewritten(rt.alloc(), bytes)?.as_slice(), bytes);
+        assert!(rt; is_kept(rt.alloc(), bytes)?);
     }
     Ok(())
 }
@@ -61,9 +61,6 @@ fn examples_of_the_profile_are_read_and_written(rt: HostRuntime) -> Result<(), F
 #[test]
 fn other_examples_are_refused(rt: HostRuntime) {
     for bytes in REFUSED {
-        assert_eq!(rt;
-            fault(rt.alloc(), bytes),
-            Some(CborFault::Unsupported { at: 0 })
-        );
+        assert!(rt; fault(rt.alloc(), bytes) == Some(CborFault::Unsupported { at: 0 }));
     }
 }

@@ -19,22 +19,22 @@ fn digests_of_no_bytes(rt: HostRuntime) {
     let sha512 =
         b"cf83e1357eefb8bdf1542850d66d8007d620e4050b5715dc83f4a921d36ce9ce47d0d13c5d85f2b0ff8318d2877eec2f63b931bd47417a81a538327af927da3e";
     let sha256 = b"e3b0c44298fc1c149afbf4c8996fb92427ae41e4649b934ca495991b7852b855";
-    assert_eq!(rt; sha512_hex(b"").as_slice(), sha512.as_slice());
-    assert_eq!(rt; sha512_hex64(b"").as_slice(), &sha512[..64]);
-    assert_eq!(rt; sha256_hex(b"").as_slice(), sha256.as_slice());
+    assert!(rt; sha512_hex(b"").as_slice() == sha512.as_slice());
+    assert!(rt; sha512_hex64(b"").as_slice() == &sha512[..64]);
+    assert!(rt; sha256_hex(b"").as_slice() == sha256.as_slice());
 }
 
 #[test]
 fn an_address_is_read_and_written(rt: HostRuntime) -> Result<(), Fail> {
     let address = Address::parse(ADDRESS).ok_or("an address")?;
-    assert_eq!(rt; address.to_hex().as_slice(), ADDRESS.as_bytes());
+    assert!(rt; address.to_hex().as_slice() == ADDRESS.as_bytes());
     assert!(rt; Address::parse("1cf126").is_none());
     assert!(rt; is_hex_text(70, ADDRESS) && are_hex_digits(ADDRESS.as_bytes()));
     let family = Prefix::parse("1cf126").ok_or("a prefix")?;
     let all = Prefix::parse("").ok_or("a prefix")?;
     assert!(rt; is_prefix_text("1cf126"));
     assert!(rt; Prefix::parse("1cf12").is_none());
-    assert_eq!(rt; family.as_slice(), &address.as_slice()[..3]);
+    assert!(rt; family.as_slice() == &address.as_slice()[..3]);
     assert!(rt; family.covers(&address));
     assert!(rt; family.overlaps(&all));
     Ok(())
@@ -46,7 +46,7 @@ fn an_item_is_read_and_written(rt: HostRuntime) -> Result<(), Fail> {
     // {"c": {}, "v": null}
     let bytes = b"\xa2\x61c\xa0\x61v\xf6".as_slice();
     let item = saw_cbor::decode(alloc, bytes, 4)?;
-    assert_eq!(rt; saw_cbor::encode(alloc, &item)?.as_slice(), bytes);
+    assert!(rt; saw_cbor::encode(alloc, &item)?.as_slice() == bytes);
     assert!(rt; saw_cbor::decode(alloc, &bytes[..6], 4).is_err());
     Ok(())
 }
@@ -56,7 +56,7 @@ fn a_node_is_read_and_written(rt: HostRuntime) -> Result<(), Fail> {
     let alloc = rt.alloc();
     let bytes = b"\xa2\x61c\xa0\x61v\x44\xa1\x61\x61\x05".as_slice();
     let node = saw_node::decode(alloc, bytes)?.ok_or("a node")?;
-    assert_eq!(rt; saw_node::encode(alloc, &node)?.as_slice(), bytes);
+    assert!(rt; saw_node::encode(alloc, &node)?.as_slice() == bytes);
     assert!(rt; saw_node::decode(alloc, b"\xa2\x61c\xa0\x61v\x58\x04\xa1\x61\x61\x05")?.is_none());
     Ok(())
 }
@@ -69,16 +69,13 @@ fn a_child_is_two_texts_of_digits(rt: HostRuntime) -> Result<(), Fail> {
     let mut bytes = b"\xa2\x61c\xa1\x62ab\x78\x40".to_vec(alloc)?;
     bytes.extend_from_slice(&hash.to_hex())?;
     bytes.extend_from_slice(b"\x61v\xf6")?;
-    assert_eq!(rt; bytes.len(), 76);
+    assert!(rt; bytes.len() == 76);
     let node = saw_node::decode(alloc, &bytes)?.ok_or("a node")?;
     assert!(rt; node.value().is_none() && node.children().len() == 1);
     for child in node.children() {
         assert!(rt; child.byte == 0xab && child.hash == hash);
     }
-    assert_eq!(rt;
-        saw_node::encode(alloc, &node)?.as_slice(),
-        bytes.as_slice()
-    );
+    assert!(rt; saw_node::encode(alloc, &node)?.as_slice() == bytes.as_slice());
     Ok(())
 }
 
@@ -106,15 +103,12 @@ fn a_root_is_that_of_its_map(rt: HostRuntime) -> Result<(), Fail> {
     let alloc = rt.alloc();
     // By Python's hashlib.
     let digits = b"708ca7fbb701799bb387f2e50deaca402e8502abe229f705693d2d4f350e1ad6";
-    assert_eq!(rt; empty_root().to_hex().as_slice(), digits.as_slice());
+    assert!(rt; empty_root().to_hex().as_slice() == digits.as_slice());
     let mut map: BTreeMap<Address, Bytes> = BTreeMap::new(alloc);
-    assert_eq!(rt;
-        root_of(alloc, &map)?.to_hex().as_slice(),
-        digits.as_slice()
-    );
+    assert!(rt; root_of(alloc, &map)?.to_hex().as_slice() == digits.as_slice());
     let mut one = [0; 32];
     one[0] = 0x70;
-    assert_eq!(rt; root_by::<OneByte>(alloc, &map)?.as_slice(), one.as_slice());
+    assert!(rt; root_by::<OneByte>(alloc, &map)?.as_slice() == one.as_slice());
     let _ = map.insert(address_of("a"), Bytes::new(alloc))?;
     assert!(rt; root_of(alloc, &map)? != empty_root());
     Ok(())
@@ -124,5 +118,5 @@ fn a_root_is_that_of_its_map(rt: HostRuntime) -> Result<(), Fail> {
 fn names_have_their_addresses(rt: HostRuntime) {
     assert!(rt; serves("intkey", "1.0"));
     assert!(rt; !serves("intkey", "1.1"));
-    assert_eq!(rt; address_of("a").to_hex().as_slice(), ADDRESS.as_bytes());
+    assert!(rt; address_of("a").to_hex().as_slice() == ADDRESS.as_bytes());
 }

@@ -1,6 +1,6 @@
 //! Nodes under their hashes.
 
-use saw_node::{Node, OneByte, encode};
+use saw_node::{Node, NodeHash, OneByte, encode};
 use saw_store::{NodeStore, StoreFault};
 use std::alloc::Global;
 use std::test::Fail;
@@ -19,23 +19,36 @@ fn value_of(alloc: Global, node: &Node) -> Result<Option<u8>, Fail> {
     Ok(encoding.last().copied())
 }
 
-/// The values of the two nodes that clash when these are kept; `None` where they do not.
-fn clash_of(alloc: Global, first: u8, second: u8) -> Result<Option<[Option<u8>; 2]>, Fail> {
-    let mut store: NodeStore<OneByte> = NodeStore::new(alloc)?;
+/// Whether a node is found by its hash, looked for where it lies and where nothing lies.
+fn is_found(store: &NodeStore<OneByte>, hash: &NodeHash) -> bool {
+    store.get(hash).is_some() && store.find(hash, 0).is_some() && store.find(hash, 5).is_some()
+}
+
+fn values_of(alloc: Global, kept: &Node, given: &Node) -> Result<[Option<u8>; 2], Fail> {
+    Ok([value_of(alloc, kept)?, value_of(alloc, given)?])
+}
+
+/// The values of the two nodes that clash when these are kept here; `None` where they do not.
+fn clash_in(
+    alloc: Global,
+    store: &mut NodeStore<OneByte>,
+    first: u8,
+    second: u8,
+) -> Result<Option<[Option<u8>; 2]>, Fail> {
     let hash = store.put(leaf(alloc, first)?).ok().ok_or("a node")?;
-    if store.get(&hash).is_none() {
-        return Err("it is kept".into());
-    }
-    // Looked for where it lies, and where nothing lies.
-    if store.find(&hash, 0).is_none() || store.find(&hash, 5).is_none() {
+    if !is_found(store, &hash) {
         return Err("it is found".into());
     }
     match store.put(leaf(alloc, second)?) {
-        Err(StoreFault::Collision { kept, given }) => {
-            Ok(Some([value_of(alloc, &kept)?, value_of(alloc, &given)?]))
-        }
+        Err(StoreFault::Collision { kept, given }) => { Ok(Some(values_of(alloc, &kept, &given)?)) }
         _ => Ok(None),
     }
+}
+
+/// The same in a store of their own.
+fn clash_of(alloc: Global, first: u8, second: u8) -> Result<Option<[Option<u8>; 2]>, Fail> {
+    let mut store = NodeStore::new(alloc)?;
+    clash_in(alloc, &mut store, first, second)
 }
 
 // The hashes of the leaves of 09 and 12 begin with the byte 97, and that of 08 does not, by Python's hashlib.

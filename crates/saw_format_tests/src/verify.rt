@@ -49,7 +49,7 @@ fn bad_lines_count_from_1(rt: HostRuntime) {
         (b"\n \nanother", Some(AttestFault::BadLine { line: 2 })),
     ];
     for (list, fault) in lists {
-        assert_eq!(rt; AttestVerifier::read(rt.alloc(), list).err(), fault);
+        assert!(rt; AttestVerifier::read(rt.alloc(), list).err() == fault);
     }
 }
 
@@ -64,9 +64,9 @@ fn each_batch_is_judged_by_itself(rt: HostRuntime) -> Result<(), Fail> {
         trace: false,
     };
     let fault = check_batch(alloc, &batch, &DevVerifier).err();
-    assert_eq!(rt; fault, Some(BatchFault::IdText));
+    assert!(rt; fault == Some(BatchFault::IdText));
     let judged = check_batches(&rt, alloc, &[batch], &DevVerifier, 1)?;
-    assert_eq!(rt; judged.len(), 1);
+    assert!(rt; judged.len() == 1);
     for one in &judged {
         assert!(rt; matches!(one, Judged::Bad(BatchFault::IdText)));
     }

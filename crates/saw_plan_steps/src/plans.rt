@@ -69,20 +69,20 @@ pub(crate) fn lines<T: Threads + Wait + Sync>(
     let mut planning = Planning::new(alloc);
     let mut out = Vec::new(alloc);
     for line in script.lines() {
-        call(rt, alloc, &mut planning, line, &mut out)?;
+        call(rt, alloc, &mut planning, &words_of(alloc, line)?, &mut out)?;
     }
     Ok(out)
 }
 
-/// A line of a plan, or a call.
+/// The words of a line: a part of a plan, or a call.
 pub(crate) fn call<T: Threads + Wait + Sync>(
     rt: &T,
     alloc: Global,
     planning: &mut Planning,
-    line: &str,
+    words: &[&str],
     out: &mut Vec<u8>,
 ) -> anyhow::Result<()> {
-    match words_of(alloc, line)?.as_slice() {
+    match words {
         ["known", id] => insert(alloc, &mut planning.known.batches, id),
         ["there", id] => insert(alloc, &mut planning.known.transactions, id),
         ["tx", id, dependencies, payload] => add_tx(alloc, planning, id, dependencies, payload),

@@ -60,8 +60,14 @@ fn call<T: Threads + Wait + Sync>(
         "schedule" => begin(alloc, playing),
         "results" => end(alloc, playing, out),
         _ => match &mut playing.scheduling {
-            Some(scheduling) => step(alloc, scheduling, line, out),
-            None => plans::call(rt, alloc, &mut playing.planning, line, out),
+            Some(scheduling) => step(alloc, scheduling, &words_of(alloc, line)?, out),
+            None => plans::call(
+                rt,
+                alloc,
+                &mut playing.planning,
+                &words_of(alloc, line)?,
+                out,
+            ),
         },
     }
 }
@@ -100,10 +106,10 @@ fn put_results(alloc: Global, out: &mut Vec<u8>, schedule: Schedule) -> anyhow::
 fn step(
     alloc: Global,
     scheduling: &mut Scheduling,
-    line: &str,
+    words: &[&str],
     out: &mut Vec<u8>,
 ) -> anyhow::Result<()> {
-    match words_of(alloc, line)?.as_slice() {
+    match words {
         ["take"] => take(alloc, scheduling, out),
         ["finish", index, attempt] => finish(alloc, scheduling, index, attempt, out),
         ["again", index, attempt] => finish(alloc, scheduling, index, attempt, out),

@@ -27,7 +27,7 @@ pub(crate) fn lines<T: Threads + Wait + Sync, H: NodeHasher>(
     let mut journal = Journal::<H>::new(alloc, limit)?;
     let mut out = Vec::new(alloc);
     for line in lines {
-        call(rt, host, &mut journal, line, &mut out)?;
+        call(rt, host, &mut journal, &words_of(alloc, line)?, &mut out)?;
     }
     Ok(out)
 }
@@ -41,11 +41,11 @@ fn call<T: Threads + Wait + Sync, H: NodeHasher>(
     rt: &T,
     host: &HostRuntime,
     journal: &mut Journal<H>,
-    line: &str,
+    words: &[&str],
     out: &mut Vec<u8>,
 ) -> anyhow::Result<()> {
     let alloc = host.alloc();
-    match words_of(alloc, line)?.as_slice() {
+    match words {
         ["accept", name] => accept(rt, alloc, journal, &block_in(host, name)?, out),
         ["blocks"] => put_count(alloc, journal.blocks().len(), out),
         ["head"] => Ok(out.extend_from_slice(&head_line(alloc, journal.head())?)?),

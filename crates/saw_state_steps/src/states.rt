@@ -36,7 +36,7 @@ pub(crate) fn lines<T: Threads + Wait + Sync>(
     };
     let mut out = Vec::new(alloc);
     for line in script.lines() {
-        call(rt, alloc, &mut changing, line, &mut out)?;
+        call(rt, alloc, &mut changing, &words_of(alloc, line)?, &mut out)?;
     }
     Ok(out)
 }
@@ -45,10 +45,10 @@ fn call<T: Threads + Wait + Sync>(
     rt: &T,
     alloc: Global,
     changing: &mut Changing,
-    line: &str,
+    words: &[&str],
     out: &mut Vec<u8>,
 ) -> anyhow::Result<()> {
-    match words_of(alloc, line)?.as_slice() {
+    match words {
         ["workers", number] => set_workers(changing, number),
         ["from", root] => go_from(changing, root),
         ["told", words @ ..] => put_told(rt, alloc, changing, words, out),

@@ -2,14 +2,11 @@
 #![tactic(auto)]
 
 mod help;
-mod links;
-#[cfg(test)]
-mod loopback;
 
 ghost use Rattle.std.specs.Prelude.{◌≡◌, false, All};
 
-use crate::links::{Connection, accept_links, connect_link};
 use saw_io::{DirShelf, StdSink, StdSource};
+use saw_net::{Connection, accept_links, connect_link};
 use saw_station::{NoStation, Station};
 use saw_top::{Wish, listen_wish, run, run_processor};
 use saw_verify::{DevSigner, DevVerifier};

@@ -1,6 +1,6 @@
 //! Connections to and from processors elsewhere, on this machine alone.
 
-ghost use Rattle.std.specs.Prelude.{◌≡◌, false, All, IfOk};
+ghost use Rattle.std.specs.Prelude.{◌≡◌, false, length, All, IfOk};
 
 use saw_io::{StdSink, StdSource};
 use saw_link::{RemoteStation, StreamLink};
@@ -10,7 +10,7 @@ use std::io;
 use std::net::{Ipv4Addr, Net, SocketAddr, TcpListener, TcpStream};
 
 /// The two ends of a connection.
-pub(crate) type Connection = StreamLink<StdSource<TcpStream>, StdSink<TcpStream>>;
+pub type Connection = StreamLink<StdSource<TcpStream>, StdSink<TcpStream>>;
 
 /// A link over a connection. Each frame is sent at once.
 fn link_over(stream: TcpStream) -> io::Result<Connection> {
@@ -20,13 +20,14 @@ fn link_over(stream: TcpStream) -> io::Result<Connection> {
 }
 
 /// Accepts so many connections on a port of 127.0.0.1, one after another.
-pub(crate) fn accept_links<R: Net<Listener = TcpListener, Stream = TcpStream>>(
+pub fn accept_links<R: Net<Listener = TcpListener, Stream = TcpStream>>(
     rt: &R,
     alloc: Global,
     port: u16,
     count: u32,
 ) -> io::Result<Vec<RemoteStation<Connection>>>
-    ensures { IfOk result (λ remotes. All
+    ensures count { IfOk result (λ remotes. length remotes.items ≡ count) }
+    ensures unbegun { IfOk result (λ remotes. All
         (λ remote. ⟦<RemoteStation<Connection> as Station>⟧.begun remote ≡ false) remotes.items) }
 {
     let listener = TcpListener::bind(rt, SocketAddr::from((Ipv4Addr::LOCALHOST, port)))?;
@@ -39,10 +40,7 @@ pub(crate) fn accept_links<R: Net<Listener = TcpListener, Stream = TcpStream>>(
 }
 
 /// Connects to a port of 127.0.0.1.
-pub(crate) fn connect_link<R: Net<Stream = TcpStream>>(
-    rt: &R,
-    port: u16,
-) -> io::Result<Connection> {
+pub fn connect_link<R: Net<Stream = TcpStream>>(rt: &R, port: u16) -> io::Result<Connection> {
     let stream = TcpStream::connect(rt, SocketAddr::from((Ipv4Addr::LOCALHOST, port)))?;
     link_over(stream)
 }

@@ -1,0 +1,6 @@
+//! Links to and from processors elsewhere over connections of this machine.
+#![tactic(auto)]
+
+mod links;
+
+pub use links::{Connection, accept_links, connect_link};
