@@ -13,10 +13,13 @@ const BYTES: [u8; 9] = [0, 0, 0, 2, 104, 105, 0, 0, 0];
 #[test]
 fn frames_are_read_until_the_source_ends(rt: HostRuntime) -> Result<(), Fail> {
     let alloc = rt.alloc();
-    let mut source = MemorySource::new(BYTES[..6].to_vec(alloc)?, vec![in alloc; 2]?);
+    let mut source = MemorySource::new(BYTES.to_vec(alloc)?, vec![in alloc; 2]?);
     let content = read_frame(alloc, &mut source, 2)?.ok_or("a frame")?;
     assert!(rt; content.as_slice() == b"hi".as_slice());
     assert!(rt; read_frame(alloc, &mut source, 2) == Err(FrameFault::ReadFailed));
+    // A failed read takes nothing, so the rest is read.
+    let cut = FrameFault::Truncated { have: 3, want: 4 };
+    assert!(rt; read_frame(alloc, &mut source, 2) == Err(cut));
     assert!(rt; read_frame(alloc, &mut source, 2) == Ok(None));
     Ok(())
 }
