@@ -1,5 +1,5 @@
 -- What is left of a desk by one call after another.
-use Rattle.std.proofs.Common.{◌≡◌, ◌≤◌, ◌<◌, ℕ, suc, List, [], ◌∷◌, length, get_or, set, inl, inr, refl, sym, ◌∙◌, arith}
+use Rattle.std.proofs.Common.{◌≡◌, ◌≤◌, ◌<◌, ℕ, suc, List, [], ◌∷◌, length, get_or, set, refl, sym, ◌∙◌, arith}
 use Rattle.std.specs.List.{AllByRecursion}
 use Rattle.saw_faults.specs.Counts.{Rose}
 use Rattle.saw_station.specs.DeskPlaces.{Place, faults_by}
@@ -61,12 +61,12 @@ module _ {R : Type 0} (faults : R → ℕ) (offered : R → List Offer) where
   first_offers (old ∷ olds) [] d some kept = absurd kept
   first_offers (old ∷ olds) (mid ∷ news) d some kept = kept.0.offers
 
-  -- a count that rose at the first desk rose at some desk
+  -- a count that rose behind an earlier call rose since before it
   pub first_failed : (olds news : List (Place R)) (d new : Place R) → 0 < length olds → KeepsDesks faults offered olds news
       → Rose (faults_by faults (get_or news 0 d).remote) (faults_by faults new.remote) → Failed faults olds (set news 0 new)
   first_failed [] news d new some kept rose = absurd (omega arith)
   first_failed (old ∷ olds) [] d new some kept rose = absurd kept
-  first_failed (old ∷ olds) (mid ∷ news) d new some kept rose = inl (rose_later (faults_by faults old.remote) (faults_by faults mid.remote) (faults_by faults new.remote) kept.0.later rose)
+  first_failed (old ∷ olds) (mid ∷ news) d new some kept rose = rose_later (faults_by faults old.remote) (faults_by faults mid.remote) (faults_by faults new.remote) kept.0.later rose
 
 -- ---- what stays of a list of desks by one call after another
 
@@ -111,8 +111,5 @@ module _ {R : Type 0} (faults : R → ℕ) (offered : R → List Offer) where
   failed_since [] (desk ∷ desks) after keeps failed = absurd keeps
   failed_since (desk ∷ desks) [] after keeps failed = absurd failed
   failed_since (desk ∷ desks) (other ∷ others) [] keeps failed = absurd failed
-  failed_since (desk ∷ desks) (other ∷ others) (last ∷ lasts) keeps (inl rose) =
-      let later : faults_by faults desk.remote ≤ faults_by faults other.remote = keeps.0.later in
-      let rise : Rose (faults_by faults other.remote) (faults_by faults last.remote) = rose in
-      inl (omega (arith, later, rise))
-  failed_since (desk ∷ desks) (other ∷ others) (last ∷ lasts) keeps (inr failed) = inr (failed_since desks others lasts keeps.1 failed)
+  failed_since (desk ∷ desks) (other ∷ others) (last ∷ lasts) keeps rose =
+      rose_later (faults_by faults desk.remote) (faults_by faults other.remote) (faults_by faults last.remote) keeps.0.later rose

@@ -38,11 +38,11 @@ module _ {R : Type 0} (faults : R → ℕ) (offered : R → List Offer) where
   KeepsDesks (old ∷ olds) (new ∷ news) = KeepsDesk old new × KeepsDesks olds news
 
 module _ {R : Type 0} (faults : R → ℕ) where
-  -- the count of some desk's remote rose
+  -- the count of the first desk's remote rose
   abbrev pub Failed : List (Place R) → List (Place R) → Type 0
   Failed [] news = ⊥
   Failed (old ∷ olds) [] = ⊥
-  Failed (old ∷ olds) (new ∷ news) = Rose (faults_by faults old.remote) (faults_by faults new.remote) ⊎ Failed olds news
+  Failed (old ∷ olds) (new ∷ news) = Rose (faults_by faults old.remote) (faults_by faults new.remote)
 
 -- what a call leaves of a desk, and that it failed by the processor only where that is counted
 pub record Leaves {R : Type 0} (faults : R → ℕ) (offered : R → List Offer) (old new : Place R) (failed : Type 0) : Type 0 where

@@ -1,5 +1,5 @@
 -- Desks of the built-in processors alone do not fail.
-use Rattle.std.proofs.Common.{◌≡◌, inl, inr, ℕ, List, [], ◌∷◌, Option, Some, None, refl, arith}
+use Rattle.std.proofs.Common.{◌≡◌, ℕ, List, [], ◌∷◌, Option, Some, None, refl, arith}
 use Rattle.saw_crew.specs.Desks.{Failed}
 use Rattle.saw_station.specs.DeskPlaces.{Place, faults_by}
 
@@ -11,5 +11,4 @@ module _ {R : Type 0} (faults : R → ℕ) (none : (r : R) → faults r ≡ 0) w
   pub none_fails : (olds news : List (Place R)) → Failed faults olds news → ⊥
   none_fails [] news failed = failed
   none_fails (old ∷ olds) [] failed = failed
-  none_fails (old ∷ olds) (new ∷ news) (inl rose) = let a = no_faults old.remote in let b = no_faults new.remote in absurd (omega (arith, a, b, rose))
-  none_fails (old ∷ olds) (new ∷ news) (inr failed) = none_fails olds news failed
+  none_fails (old ∷ olds) (new ∷ news) rose = let a = no_faults old.remote in let b = no_faults new.remote in absurd (omega (arith, a, b, rose))

@@ -1,7 +1,6 @@
 -- The blocks of a stream where their signatures are accepted: they have no structure fault, each fits in a frame, the static
 -- rules drop no batch, and none fails.
 use Rattle.std.proofs.Common.{◌≡◌, ◌<◌, ◌≤◌, ◌+◌, ℕ, zero, suc, Bool, true, List, [], ◌∷◌, length, map, Option, Some, None, Ok, refl, arith}
-use Rattle.std.specs.Prelude.{IfSome}
 use Rattle.std.specs.List.{AllByRecursion, range_with_len}
 use Rattle.std.proofs.lemmas.List.{length-map}
 use Rattle.std.proofs.lemmas.List.Elements.{All-from_recursion}
@@ -17,16 +16,16 @@ use Rattle.saw_context.specs.declared.batch_result.BatchResult.{BatchResult}
 use Rattle.saw_context.specs.declared.batch_result.BatchResult.TheVariants.{Applied, Failed}
 use Rattle.saw_messages.specs.Batches.{batch_pieces}
 use Rattle.saw_messages.specs.Blocks.{block, block_header}
-use Rattle.saw_messages.specs.ReadBack.{IsBatch, IsText}
+use Rattle.saw_messages.specs.ReadBack.{IsBatch}
 use Rattle.saw_messages.specs.declared.batch.Batch.{Batch}
 use Rattle.saw_node.specs.Hashes.{IsHash, first_half, first_half_is}
 use Rattle.saw_publish.proofs.Applied.{AreFit}
-use Rattle.saw_publish.proofs.GoodBlocks.{good_block}
-use Rattle.saw_publish.proofs.HexTexts.{hex_text, length-hex_text}
-use Rattle.saw_publish.specs.Candidates.{Signing, header_of, number_behind, previous_of}
+use Rattle.saw_publish.proofs.GoodBlocks.{good_block, previous_short}
+use Rattle.saw_publish.proofs.HexTexts.{length-hex_text}
+use Rattle.saw_publish.proofs.Sizes.{block_header_short}
+use Rattle.saw_publish.specs.Candidates.{Signing, header_of, number_behind}
 use Rattle.saw_publish.specs.Drafts.{Draft}
-use Rattle.saw_publish.specs.Laws.{IsSignable}
-use Rattle.saw_receipts.specs.declared.block.Parent.{Parent}
+use Rattle.saw_publish.specs.Laws.{HasIdBefore, IsSignable}
 use Rattle.saw_schedule.specs.BatchResults.{first_failure}
 use Rattle.saw_wire.specs.Writing.{spelled}
 use Rattle.saw_generate.specs.Laws.{IsApplied}
@@ -39,7 +38,7 @@ use Rattle.saw_generate.proofs.FineBatches.{AreVouched, DoDiffer, IsFineBatch, I
 use Rattle.saw_generate.proofs.FreshIds.{IsFree}
 use Rattle.saw_generate.proofs.Places.{all_mapped, all_places, at_place}
 use Rattle.saw_generate.proofs.Reading.{is_for, is_nonce}
-use Rattle.saw_generate.proofs.Sizes.{block_header_short, block_short}
+use Rattle.saw_generate.proofs.Sizes.{block_short}
 
 -- ---- the block before
 
@@ -47,18 +46,6 @@ pub number_is : (signing : Signing) (wish : GenerateWish) (b : ℕ) → number_b
 unfolding parent_after
 number_is signing wish zero = refl
 number_is signing wish (suc b) = omega arith
-
--- the id of a parent has the right form
-abbrev HasForm : Option Parent → Type 0
-HasForm parent = IfSome parent (λ parent. is_hex_text 128 parent.id ≡ true)
-
-text_behind : (parent : Option Parent) → HasForm parent → IfSome parent (λ parent. IsText parent.id)
-text_behind None form = tt
-text_behind (Some parent) form = hex_text 128 parent.id form
-
-previous_short : (parent : Option Parent) → HasForm parent → length (previous_of parent) ≤ 128
-previous_short None form = omega arith
-previous_short (Some parent) form = id_short parent.id form
 
 -- ---- results
 
@@ -92,7 +79,7 @@ module _ (signing : Signing) (wish : GenerateWish) (key : is_hex_text 66 signing
       (all_places (λ k. IsFree (batch_at signing wish b k)) wish.batches (λ k small. batch_free b k low small))
 
   module _ (accepts : List ℕ → List ℕ → List ℕ → Bool) (signed : (b : ℕ) → b < wish.blocks → IsSigned accepts signing wish b) where
-    parent_form : (b : ℕ) → b ≤ wish.blocks → HasForm (parent_after signing wish b)
+    parent_form : (b : ℕ) → b ≤ wish.blocks → HasIdBefore (parent_after signing wish b)
     unfolding parent_after
     parent_form zero low = tt
     parent_form (suc b) low = (signed b (omega (arith, low))).header.form
@@ -139,13 +126,14 @@ module _ (signing : Signing) (wish : GenerateWish) (key : is_hex_text 66 signing
           let root : IsHash (root_at signing wish b) = first_half_is _ in
           let ids = map (λ (batch : Batch). batch.header_signature) batches in
           let many : length ids ≡ length batches = length-map batches (λ (batch : Batch). batch.header_signature) in
-          block_header_short (header_of signing.key (parent_after signing wish b) batches (root_at signing wish b))
+          let short = block_header_short (header_of signing.key (parent_after signing wish b) batches (root_at signing wish b)) 5000
           (omega (arith, number_is signing wish b, few, low))
           (previous_short (parent_after signing wish b) (parent_form b (omega (arith, low)))) (omega (arith, length-hex_text 66 signing.key key))
           (omega (arith, many, count, narrow))
           (all_map (λ (batch : Batch). batch.header_signature) (λ id. length id ≤ 128) batches
           (each (λ batch. length batch.header_signature ≤ 128) (λ batch fine. id_short batch.header_signature fine.good.id)))
-          (omega arith) (omega (arith, length-encode_with lower_digits (root_at signing wish b), root.size))
+          (omega arith) (omega (arith, length-encode_with lower_digits (root_at signing wish b), root.size)) in
+          omega (arith, short)
 
       -- its batches, and the map that they leave
       abbrev draft : Draft
@@ -157,16 +145,14 @@ module _ (signing : Signing) (wish : GenerateWish) (key : is_hex_text 66 signing
         key = key;
         form = (signed b low).header.form;
         signed = (signed b low).header.signed;
-        text = text_behind (parent_after signing wish b) (parent_form b (omega (arith, low)));
         number = number_fits signing wish b (parent_after signing wish b) refl (omega (arith, few, low));
-        small = omega (arith, header_small);
       }
 
       -- it is read back, and has no structure fault
       pub block_good : (block (content_at signing wish b) ≡ Ok (block_at signing wish b))
           × (block_header (block_at signing wish b).header ≡ Ok (header_of signing.key (parent_after signing wish b) batches (root_at signing wish b)))
           × (structure_fault accepts (content_at signing wish b) ≡ None)
-      block_good = good_block first_half accepts signing (parent_after signing wish b) draft fit signable
+      block_good = good_block first_half accepts signing (parent_after signing wish b) draft fit (parent_form b (omega (arith, low))) signable
 
       pub content_small : length (content_at signing wish b) ≤ 16777216
       content_small =

@@ -37,7 +37,7 @@ module _ (rules : Rules) (old : Ledger) (content : List ℕ) (kept : Kept) (fine
   may_join =
       let record_is = is.block ∙ ap (λ (kept : Kept). kept.block) (sym made_of.made) in
       record {
-        behind = stands old.blocks made_of.parts.id made_of.parts.header placed made_of.named new.block
+        behind = stands old.blocks made_of.parts.id made_of.parts.header placed made_of.form new.block
             (ap (λ (block : BlockRecord). block.id) record_is) (ap (λ (block : BlockRecord). block.previous) record_is)
             (ap (λ (block : BlockRecord). block.number) record_is);
         known = is.known;

@@ -13,6 +13,7 @@ use Rattle.saw_receipts.specs.Branches.{block_at, branch_back, branch_of, has_bl
 use Rattle.saw_journal.specs.Judgement.{Kept}
 use Rattle.saw_journal.specs.Linked.{AreChained, AreLinked, IsChainTo, StandsBehind}
 use Rattle.saw_journal.proofs.Ids.{walk}
+use Rattle.saw_journal.proofs.Named.{hex_names}
 use Rattle.saw_journal.proofs.Linking.{AreBack, all_push, are_back, block_at-last, block_at-more, block_at-other, holds_at, latest_last}
 
 -- a block that is found by its id
@@ -52,7 +53,7 @@ not_previous before latest block stands knows false is = refl
 not_previous before latest block stands knows true is =
     let there : (bytes_eq latest.id no_block || has_block before latest.id) ≡ true =
     subst (λ (id : List ℕ). (bytes_eq id no_block || has_block before id) ≡ true) (same_text block.previous latest.id (sym is)) knows in
-    let named = stands.named in
+    let named = hex_names latest.id stands.form in
     let fresh = stands.fresh in
     absurd (grind (arith, there, named, fresh))
 
@@ -89,7 +90,7 @@ module _ (latest : BlockRecord) (earlier : List BlockRecord) (are : AreBack (lat
 
 pub no_walk : (back : List BlockRecord) → AreBack back → walk back no_block ≡ []
 no_walk [] are = refl
-no_walk (latest ∷ earlier) are = ap (λ b. if b then walk earlier latest.previous ++ latest ∷ [] else walk earlier no_block) are.0.named ∙ no_walk earlier are.1
+no_walk (latest ∷ earlier) are = ap (λ b. if b then walk earlier latest.previous ++ latest ∷ [] else walk earlier no_block) (hex_names latest.id are.0.form) ∙ no_walk earlier are.1
 
 chained_push : (previous : List ℕ) (front : List BlockRecord) (last new : BlockRecord) → AreChained previous (front ++ last ∷ [])
     → new.previous ≡ last.id → AreChained previous ((front ++ last ∷ []) ++ new ∷ [])

@@ -1,7 +1,7 @@
 -- What is judged of the bytes of a block: a structure fault, or the parts that they have.
-use Rattle.std.proofs.Common.{◌≡◌, ◌⊎◌, inl, inr, ℕ, false, List, Option, Some, None, Ok, Err, Result, refl, sym, ap, ◌∙◌}
-use Rattle.std.specs.Str.{bytes_eq}
+use Rattle.std.proofs.Common.{◌≡◌, ◌⊎◌, inl, inr, ℕ, true, List, Option, Some, None, Ok, Err, Result, refl, sym, ap, ◌∙◌}
 use Rattle.saw_address.specs.Maps.{StateMap}
+use Rattle.saw_address.specs.Texts.{is_hex_text}
 use Rattle.saw_checks.specs.StructureFaults.{structure_fault, structure_fault_by}
 use Rattle.saw_checks.specs.declared.fault.StructureFault.{StructureFault}
 use Rattle.saw_checks.specs.declared.fault.StructureFault.TheVariants.{Undecodable}
@@ -13,11 +13,10 @@ use Rattle.saw_receipts.specs.declared.block.BlockRecord.{BlockRecord}
 use Rattle.saw_receipts.specs.declared.verdict.BlockFault.TheVariants.{Structure}
 use Rattle.saw_wire.specs.declared.fault.MessageFault.{MessageFault}
 use Rattle.saw_journal.specs.BlockFaults.{fault_by, parent_of}
-use Rattle.saw_receipts.specs.Branches.{no_block}
 use Rattle.saw_journal.specs.Judgement.{Kept, Rules, judged, judged_parts, judged_with, kept_of, left_parts, would_leave}
 use Rattle.saw_journal.specs.BlockShapes.{Parts, parts_of}
 use Rattle.saw_journal.proofs.Judging.{unless_ok}
-use Rattle.saw_journal.proofs.Named.{named_of}
+use Rattle.saw_journal.proofs.Named.{form_of}
 
 module _ (rules : Rules) (content : List ℕ) where
   -- the bytes have a structure fault, whatever stands before them
@@ -28,7 +27,7 @@ module _ (rules : Rules) (content : List ℕ) where
   -- or these parts, whatever stands before them
   pub record HasParts : Type 0 where
     pub parts : Parts
-    pub named : bytes_eq parts.id no_block ≡ false
+    pub form : is_hex_text 128 parts.id ≡ true
     pub judged_as : (f : Option BlockRecord → StateMap) (blocks : List BlockRecord)
         → judged rules f blocks content ≡ judged_parts rules.hash rules.runs f blocks parts
     pub leaves : (f : Option BlockRecord → StateMap) (blocks : List BlockRecord) → would_leave rules f blocks content ≡ left_parts rules.runs f blocks parts
@@ -44,7 +43,7 @@ module _ (rules : Rules) (content : List ℕ) where
   by_header b decoded sound (Err e) is = inl (record { fault = Undecodable e; judged_as = λ f blocks. rw (sound, decoded, is) refl })
   by_header b decoded sound (Ok header) is = inr (record {
     parts = parts_of b header;
-    named = named_of rules.accepts b header (sym (tests_are b header decoded is) ∙ sound);
+    form = form_of rules.accepts b header (sym (tests_are b header decoded is) ∙ sound);
     judged_as = λ f blocks. rw (sound, decoded, is) refl;
     leaves = λ f blocks. rw (sound, decoded, is) refl;
   })
@@ -78,7 +77,7 @@ module _ (rules : Rules) (content : List ℕ) where
     -- what a block without fault is made of
     pub record IsFine : Type 0 where
       pub parts : Parts
-      pub named : bytes_eq parts.id no_block ≡ false
+      pub form : is_hex_text 128 parts.id ≡ true
       pub faultless : let before = f (parent_of blocks parts.header) in
           fault_by rules.hash blocks before (rules.runs before (txs_of parts.batches)) parts ≡ None
       pub made : let before = f (parent_of blocks parts.header) in kept_of rules.hash parts before (rules.runs before (txs_of parts.batches)) ≡ kept
@@ -91,5 +90,5 @@ module _ (rules : Rules) (content : List ℕ) where
           let results = rules.runs before (txs_of is.parts.batches) in
           let split = unless_ok (fault_by rules.hash blocks before results is.parts) (kept_of rules.hash is.parts before results) kept
           (sym (is.judged_as f blocks) ∙ fine) in
-          record { parts = is.parts; named = is.named; faultless = split.0; made = split.1 }
+          record { parts = is.parts; form = is.form; faultless = split.0; made = split.1 }
     ]

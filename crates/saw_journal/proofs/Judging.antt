@@ -7,6 +7,7 @@ use Rattle.std.specs.Cmp.{eq_by_cmp_equiv}
 use Rattle.std.specs.Cmp.Lexicographic.{nat_list_cmp_total}
 use Rattle.std.proofs.lemmas.Bool.{eqb-true}
 use Rattle.saw_address.specs.Maps.{StateMap, no_entries}
+use Rattle.saw_address.specs.Texts.{is_hex_text}
 use Rattle.saw_checks.specs.Tests.{first_of, ◌<|>◌}
 use Rattle.saw_context.specs.Serial.{left_after}
 use Rattle.saw_context.specs.declared.batch_result.BatchResult.{BatchResult}
@@ -112,10 +113,10 @@ module _ (blocks : List BlockRecord) (id : List ℕ) (header : BlockHeader) (pla
       (first_not (not (header.block_num == due_behind (parent_of blocks header))) _ _ numbered))
 
   -- a block with this id and header stands behind the others
-  pub stands : bytes_eq id no_block ≡ false → (block : BlockRecord) → block.id ≡ id → block.previous ≡ header.previous_block_id
+  pub stands : is_hex_text 128 id ≡ true → (block : BlockRecord) → block.id ≡ id → block.previous ≡ header.previous_block_id
       → block.number ≡ header.block_num → StandsBehind blocks block
-  stands named block id_is previous number = record {
-    named = ap (λ id. bytes_eq id no_block) id_is ∙ named;
+  stands form block id_is previous number = record {
+    form = ap (is_hex_text 128) id_is ∙ form;
     fresh = ap (has_block blocks) id_is ∙ is_fresh;
     known = ap (λ previous. bytes_eq previous no_block || has_block blocks previous) previous
         ∙ either_true (is_first header) (has_block blocks header.previous_block_id) previous_known;

@@ -2,6 +2,7 @@
 use Rattle.std.specs.Prelude.{◌≡◌, ◌&&◌, ◌||◌, false, true, List, [], ◌∷◌, ◌++◌, map, ℕ, Option, Some, None, if◌then◌else◌}
 use Rattle.std.specs.List.{AllByRecursion}
 use Rattle.std.specs.Str.{bytes_eq}
+use Rattle.saw_address.specs.Texts.{is_hex_text}
 use Rattle.saw_receipts.specs.declared.block.BlockRecord.{BlockRecord}
 use Rattle.saw_journal.specs.BlockFaults.{due_behind}
 use Rattle.saw_receipts.specs.Branches.{block_at, branch_of, has_block, has_first, no_block}
@@ -11,10 +12,10 @@ use Rattle.saw_journal.specs.Judgement.{Kept}
 abbrev pub parent_in : List BlockRecord → List ℕ → Option BlockRecord
 parent_in blocks previous = if bytes_eq previous no_block then None else block_at blocks previous
 
--- A block that may stand behind these: its id is new, it is the one first block or the block before it is among them, and
--- it has the number behind that block's.
+-- A block that may stand behind these: its id is a new one of 128 hex digits, it is the one first block or the block before it
+-- is among them, and it has the number behind that block's.
 pub record StandsBehind (before : List BlockRecord) (block : BlockRecord) : Type 0 where
-  pub named : bytes_eq block.id no_block ≡ false
+  pub form : is_hex_text 128 block.id ≡ true
   pub fresh : has_block before block.id ≡ false
   pub known : (bytes_eq block.previous no_block || has_block before block.previous) ≡ true
   pub once : (bytes_eq block.previous no_block && has_first before) ≡ false

@@ -12,6 +12,7 @@ mod Putting
 mod Roomy
 mod RulesAgain
 mod SerialAgain
+pub mod Sizes
 mod Staying
 mod Taking
 mod Written

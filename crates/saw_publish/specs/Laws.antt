@@ -1,5 +1,5 @@
 -- What is true of candidates.
-use Rattle.std.specs.Prelude.{◌≡◌, ◌<◌, ◌+◌, ◌^◌, ℕ, Bool, true, List, [], length, map, Option, None, Ok, IfSome}
+use Rattle.std.specs.Prelude.{◌≡◌, ◌<◌, ◌+◌, ◌^◌, ℕ, Bool, true, List, [], map, Option, None, Ok, IfSome}
 use Rattle.std.specs.List.{AllByRecursion}
 use Rattle.saw_address.specs.Maps.{StateMap}
 use Rattle.saw_address.specs.Texts.{is_hex_text}
@@ -7,7 +7,7 @@ use Rattle.saw_checks.specs.StructureFaults.{structure_fault}
 use Rattle.saw_context.specs.Outcome.{Processors}
 use Rattle.saw_context.specs.Serial.{left_after, serial}
 use Rattle.saw_messages.specs.Blocks.{block, block_header, block_header_pieces}
-use Rattle.saw_messages.specs.ReadBack.{IsBatch, IsText}
+use Rattle.saw_messages.specs.ReadBack.{IsBatch}
 use Rattle.saw_messages.specs.declared.batch.Batch.{Batch}
 use Rattle.saw_node.specs.Hashes.{IsHash}
 use Rattle.saw_node.specs.Trees.{root_of_map}
@@ -27,24 +27,26 @@ abbrev pub header_bytes : (List ℕ → List ℕ) → Signing → Option Parent 
 header_bytes hash signing parent draft =
     spelled (block_header_pieces (header_of signing.key parent draft.applied (root_of_map hash draft.left)))
 
--- A draft whose block may be signed: who signs has a key and signatures of the right form, and is vouched for; and the
--- parent's id is a text, and number and header fit.
+-- A draft whose block may be signed: who signs has a key and signatures of the right form, and is vouched for; and the number
+-- behind the parent's fits.
 pub record IsSignable (hash : List ℕ → List ℕ) (accepts : List ℕ → List ℕ → List ℕ → Bool) (signing : Signing) (parent : Option Parent)
     (draft : Draft) : Type 0 where
   pub hashes : (bytes : List ℕ) → IsHash (hash bytes)
   pub key : is_hex_text 66 signing.key ≡ true
   pub form : is_hex_text 128 (signing.signature (header_bytes hash signing parent draft)) ≡ true
   pub signed : accepts signing.key (header_bytes hash signing parent draft) (signing.signature (header_bytes hash signing parent draft)) ≡ true
-  pub text : IfSome parent (λ parent. IsText parent.id)
   pub number : IfSome parent (λ parent. parent.number + 1 < 2 ^ 64)
-  pub small : length (header_bytes hash signing parent draft) < 2 ^ 64
+
+-- a block before is named by the id of an accepted block: 128 hex digits
+abbrev pub HasIdBefore : Option Parent → Type 0
+HasIdBefore parent = IfSome parent (λ parent. is_hex_text 128 parent.id ≡ true)
 
 -- The block of a draft is read back from its bytes, and its structure has no fault.
 abbrev pub CandidateIsGood : Type 0
 CandidateIsGood =
     (hash : List ℕ → List ℕ) (accepts : List ℕ → List ℕ → List ℕ → Bool) (signing : Signing) (parent : Option Parent)
     (runs : Runs) (before : StateMap) (there : Ids) (batches : List Batch)
-    → AllByRecursion IsBatch batches → IsSignable hash accepts signing parent (draft_of accepts runs before there batches)
+    → AllByRecursion IsBatch batches → HasIdBefore parent → IsSignable hash accepts signing parent (draft_of accepts runs before there batches)
     → (let draft = draft_of accepts runs before there batches in
     (block (content_of hash signing parent draft) ≡ Ok (block_of hash signing parent draft))
     × (block_header (header_bytes hash signing parent draft)

@@ -1,6 +1,6 @@
 //! A worker's place: the built-in processors, and maybe a remote one.
 
-ghost use Rattle.std.specs.Prelude.{◌≡◌, IfOk};
+ghost use Rattle.std.specs.Prelude.{◌≡◌, true, IfOk, IfSome};
 ghost use Rattle.std.specs.Arc.{arc_value};
 ghost use Rattle.saw_station.specs.DeskPlaces.{IsOpen};
 
@@ -48,9 +48,10 @@ impl<R: Station> Desk<R> {
         Desk { remote, offers }
     }
 
-    /// Gives the remote back.
+    /// Gives the remote back, which has begun.
     pub fn into_remote(self) -> Option<R>
-        ensures { result ≡ self.remote }
+        ensures remote { result ≡ self.remote }
+        ensures begun { IfSome result (λ remote. R.begun remote ≡ true) }
     {
         let Desk {
             remote,

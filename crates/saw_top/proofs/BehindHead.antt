@@ -5,15 +5,18 @@ use Rattle.std.specs.List.{AllByRecursion}
 use Rattle.std.specs.Str.{bytes_eq}
 use Rattle.std.proofs.lemmas.Bool.{eq-eqb, lt-ltb}
 use Rattle.std.proofs.lemmas.List.{reverse-reverse}
+use Rattle.saw_address.specs.Texts.{is_hex_text}
 use Rattle.saw_checks.specs.Tests.{first_of}
 use Rattle.saw_journal.proofs.Linking.{AreBack, all_found, all_push, are_back, head_so, latest_last}
 use Rattle.saw_journal.proofs.Lookups.{is_there}
+use Rattle.saw_journal.proofs.Named.{hex_names}
 use Rattle.saw_journal.specs.BlockFaults.{ids_before, parent_of, place_tests}
 use Rattle.saw_journal.specs.Ledger.{map_under}
 use Rattle.saw_journal.specs.Linked.{AreLinked}
 use Rattle.saw_merkle.specs.States.{States}
 use Rattle.saw_publish.specs.Building.{map_before}
 use Rattle.saw_publish.specs.Candidates.{header_with, number_behind, previous_of}
+use Rattle.saw_publish.specs.Laws.{HasIdBefore}
 use Rattle.saw_receipts.specs.Branches.{block_at, branch_of, has_block, ids_in, no_block}
 use Rattle.saw_receipts.specs.Heads.{as_parent, branch_to, head_after, head_of, is_new_head}
 use Rattle.saw_receipts.specs.declared.block.BlockRecord.{BlockRecord}
@@ -43,24 +46,34 @@ no_head : (blocks : List BlockRecord) → head_of blocks ≡ None → blocks ≡
 no_head [] none = refl
 no_head (block ∷ others) none = absurd (not_both (head_of (block ∷ others)) none (stays_some (Some block) others refl))
 
-named_back : (back : List BlockRecord) → AreBack back → AllByRecursion (λ block. bytes_eq block.id no_block ≡ false) (reverse back)
-named_back [] are = tt
-named_back (latest ∷ earlier) are =
-    subst (AllByRecursion (λ (block : BlockRecord). bytes_eq block.id no_block ≡ false)) (sym (latest_last earlier latest))
-    (all_push (λ (block : BlockRecord). bytes_eq block.id no_block ≡ false) (reverse earlier) latest (named_back earlier are.1) are.0.named)
+-- each has an id of 128 hex digits
+forms_back : (back : List BlockRecord) → AreBack back → AllByRecursion (λ block. is_hex_text 128 block.id ≡ true) (reverse back)
+forms_back [] are = tt
+forms_back (latest ∷ earlier) are =
+    subst (AllByRecursion (λ (block : BlockRecord). is_hex_text 128 block.id ≡ true)) (sym (latest_last earlier latest))
+    (all_push (λ (block : BlockRecord). is_hex_text 128 block.id ≡ true) (reverse earlier) latest (forms_back earlier are.1) are.0.form)
 
-all_named : (blocks : List BlockRecord) → AreLinked blocks → AllByRecursion (λ block. bytes_eq block.id no_block ≡ false) blocks
-all_named blocks linked =
-    subst (AllByRecursion (λ (block : BlockRecord). bytes_eq block.id no_block ≡ false)) (reverse-reverse blocks)
-    (named_back (reverse blocks) (are_back blocks linked))
+all_forms : (blocks : List BlockRecord) → AreLinked blocks → AllByRecursion (λ block. is_hex_text 128 block.id ≡ true) blocks
+all_forms blocks linked =
+    subst (AllByRecursion (λ (block : BlockRecord). is_hex_text 128 block.id ≡ true)) (reverse-reverse blocks)
+    (forms_back (reverse blocks) (are_back blocks linked))
+
+head_form : (blocks : List BlockRecord) → AreLinked blocks → IfSome (head_of blocks) (λ block. is_hex_text 128 block.id ≡ true)
+head_form blocks linked = head_so (λ (block : BlockRecord). is_hex_text 128 block.id ≡ true) blocks (all_forms blocks linked)
+
+pub id_before : (blocks : List BlockRecord) → AreLinked blocks → HasIdBefore (option_map as_parent (head_of blocks))
+id_before blocks linked = by_head (head_of blocks) (head_form blocks linked)
+  where
+    by_head : (head : Option BlockRecord) → IfSome head (λ block. is_hex_text 128 block.id ≡ true) → HasIdBefore (option_map as_parent head)
+    by_head None form = tt
+    by_head (Some head) form = form
 
 pub is_head : (blocks : List BlockRecord) (head : Option BlockRecord) → AreLinked blocks → head_of blocks ≡ head → IsHead blocks head
 is_head blocks None linked is = no_head blocks is
 is_head blocks (Some head) linked is = (
   subst (λ (head : Option BlockRecord). IfSome head (λ block. block_at blocks block.id ≡ Some block)) is
       (head_so (λ (block : BlockRecord). block_at blocks block.id ≡ Some block) blocks (all_found blocks linked)),
-  subst (λ (head : Option BlockRecord). IfSome head (λ block. bytes_eq block.id no_block ≡ false)) is
-      (head_so (λ (block : BlockRecord). bytes_eq block.id no_block ≡ false) blocks (all_named blocks linked)),
+  hex_names head.id (subst (λ (head : Option BlockRecord). IfSome head (λ block. is_hex_text 128 block.id ≡ true)) is (head_form blocks linked)),
 )
 
 -- ---- a block behind it

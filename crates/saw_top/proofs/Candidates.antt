@@ -25,7 +25,7 @@ use Rattle.saw_receipts.specs.Running.{Runs}
 use Rattle.saw_receipts.specs.declared.block.Parent.{Parent}
 use Rattle.saw_top.specs.CandidateLaws.{CandidateIsAccepted, IsNext, draft_behind, parent_of_head}
 use Rattle.saw_top.specs.World.{Accepts}
-use Rattle.saw_top.proofs.BehindHead.{IsHead, becomes_head, ids_are, is_head, map_is, parent_is, placed}
+use Rattle.saw_top.proofs.BehindHead.{IsHead, becomes_head, id_before, ids_are, is_head, map_is, parent_is, placed}
 use Rattle.saw_top.proofs.NextBlocks.{IsFaultless, is_next, judged_read, kept_sound}
 
 module _ (hash : List ℕ → List ℕ) (accepts : Accepts) (processors : Processors) (signing : Signing) (ledger : Ledger) (batches : List Batch) where
@@ -74,7 +74,7 @@ module _ (hash : List ℕ → List ℕ) (accepts : Accepts) (processors : Proces
       let root = root_of_map hash draft.left in
       let top = head_of ledger.blocks in
       let head = is_head ledger.blocks top linked refl in
-      let good = candidate_good hash accepts signing parent runs before there batches are signable in
+      let good = candidate_good hash accepts signing parent runs before there batches are (id_before ledger.blocks linked) signable in
       let kept = kept_sound hash runs (map_under ledger.states) ledger.blocks parts draft.left before there
       (ap (map_under ledger.states) (parent_is signing.key ids root ledger.blocks top head) ∙ map_is ledger.states top)
       (ids_are signing.key ids root ledger.blocks top head) (faultless head fresh) in

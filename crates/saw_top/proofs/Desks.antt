@@ -37,9 +37,7 @@ module _ {R : Type 0} (faults : R → ℕ) (offered : R → List Offer) where
       → SomeRose (counts_of faults old) (counts_of faults new)
   failed_rose [] news keeps failed = absurd failed
   failed_rose (old ∷ olds) [] keeps failed = absurd failed
-  failed_rose (old ∷ olds) (new ∷ news) keeps (inl rose) = counted old.remote new.remote old.offers new.offers olds news keeps.0.remote (inl rose)
-  failed_rose (old ∷ olds) (new ∷ news) keeps (inr failed) =
-      counted old.remote new.remote old.offers new.offers olds news keeps.0.remote (inr (failed_rose olds news keeps.1 failed))
+  failed_rose (old ∷ olds) (new ∷ news) keeps rose = counted old.remote new.remote old.offers new.offers olds news keeps.0.remote (inl rose)
 
 -- ---- a count that rose since a later time
 

@@ -1,12 +1,12 @@
 -- A run that ended so gave its answer, unless memory was refused or a call failed.
-use Rattle.std.proofs.Common.{◌≡◌, ◌⊎◌, inl, inr, ℕ, ◌≤◌, true, List, [], ◌++◌, Option, Some, None, Result, Ok, Err, refl, sym, ap, subst, ◌∙◌, arith}
+use Rattle.std.proofs.Common.{◌≡◌, ◌⊎◌, inl, inr, ℕ, ◌≤◌, false, true, List, [], ◌++◌, Option, Some, None, Result, Ok, Err, refl, sym, ap, subst, ◌∙◌, arith}
 use Rattle.std.specs.Prelude.{IfSome}
 use Rattle.std.specs.Io.KnownBytes.{Appends}
 use Rattle.std.proofs.KnownBytes.{Appends-nil, Appends-trans}
 use Rattle.saw_faults.specs.Counts.{Rose}
 use Rattle.saw_context.specs.Outcome.{Processors}
 use Rattle.saw_io.specs.Shelf.{Files}
-use Rattle.saw_report.specs.RunFaults.{status_of}
+use Rattle.saw_report.specs.RunFaults.{is_long, status_of}
 use Rattle.saw_report.specs.declared.run_fault.RunFault.{RunFault}
 use Rattle.saw_report.specs.declared.run_fault.RunFault.TheVariants.{Truncated, TooLong, Read, Write, Peer, Collision, Memory, FileFailed}
 use Rattle.saw_generate.specs.Streams.{stream}
@@ -51,16 +51,17 @@ module _ (answer : Answer) (bytes : List ℕ) (before after : Outside) (notes : 
     code = same ∙ whole.code;
   }
 
-  told : (fault : RunFault) → is_told fault ≡ true → HasFault answer bytes after.input.tells (sides_of before middle) fault
+  told : (fault : RunFault) → is_told fault ≡ true → is_long fault ≡ false → HasFault answer bytes after.input.tells (sides_of before middle) fault
       → TellsFault fault notes after.notes status → before.notes.faults ≤ notes.faults → Answered
-  told fault own shown (inl all) later = inr (inr (inr (gives (Some fault) (status_of fault) shown.0 shown.1 all.0 all.1)))
-  told fault own shown (inr (n, less, cut, inl failed)) later = failed_so (inr (inr (inl (omega (arith, later, failed.1)))))
-  told fault own shown (inr (n, less, cut, inr code)) later = inl (rw own at code)
+  told fault own short shown (inl all) later = inr (inr (inr (gives (Some fault) (status_of fault) shown.0 shown.1 all.0 all.1)))
+  told fault own short shown (inr (n, less, cut, inl failed)) later = failed_so (inr (inr (inl (omega (arith, later, failed.1)))))
+  told fault own short shown (inr (n, less, cut, inr code)) later = inl (rw (short, own) at code)
 
   nine : (kept given : Node) → TellsFault (Collision kept given) notes after.notes status → Answered
   nine kept given (inl all) = inr (inl all.0)
   nine kept given (inr (n, less, cut, inl failed)) = inr (inl failed.0)
-  nine kept given (inr (n, less, cut, inr code)) = inl code
+  nine kept given (inr (n, less, cut, inr (inl code))) = inr (inl code)
+  nine kept given (inr (n, less, cut, inr (inr code))) = inl code.0
 
   seven : TellsFault Memory notes after.notes status → status ≡ 7
   seven (inl all) = all.0
@@ -74,15 +75,15 @@ module _ (answer : Answer) (bytes : List ℕ) (before after : Outside) (notes : 
   by_fault : (processors : Processors) (task : Task) (ready : Result Prepared RunFault) (fault : RunFault)
       → EndsBy answer bytes after.input.tells (sides_of before middle) (Err fault) → HasCause processors task ready before middle (Err fault)
       → TellsFault fault notes after.notes status → before.notes.faults ≤ notes.faults → notes.faults ≤ after.notes.faults → Answered
-  by_fault processors task ready (Truncated have want) ends cause tells first later = told (Truncated have want) refl ends.0 tells first
-  by_fault processors task ready (TooLong size) ends cause tells first later = told (TooLong size) refl ends.0 tells first
+  by_fault processors task ready (Truncated have want) ends cause tells first later = told (Truncated have want) refl refl ends.0 tells first
+  by_fault processors task ready (TooLong size) ends cause tells first later = told (TooLong size) refl refl ends.0 tells first
   by_fault processors task ready Read ends cause tells first later = failed_so (inl cause.1)
   by_fault processors task ready Peer ends cause tells first later = failed_so (inr (inr (inr (inr cause.1))))
   by_fault processors task ready Write ends cause tells first later = wrote cause.1 later
   by_fault processors task ready (Collision kept given) ends cause tells first later = nine kept given tells
   by_fault processors task ready Memory ends cause tells first later = inl (seven tells)
   by_fault processors task ready FileFailed ends cause tells first later = failed_so (inr (inr (inr (inl cause.0))))
-  by_fault processors task ready fault ends cause tells first later = told fault refl ends tells first
+  by_fault processors task ready fault ends cause tells first later = told fault refl refl ends tells first
 
   by_end : (processors : Processors) (task : Task) (ready : Result Prepared RunFault) (came : Result ℕ RunFault)
       → EndsBy answer bytes after.input.tells (sides_of before middle) came → HasCause processors task ready before middle came

@@ -17,7 +17,6 @@ use Rattle.saw_journal.proofs.Branching.{branch_of-new}
 use Rattle.saw_journal.proofs.Ids.{ids_push_block}
 use Rattle.saw_journal.proofs.Judging.{stands}
 use Rattle.saw_journal.proofs.Linking.{linked_push, none_linked}
-use Rattle.saw_journal.proofs.Named.{hex_names}
 use Rattle.saw_journal.specs.BlockFaults.{ids_before, parent_of, place_tests}
 use Rattle.saw_journal.specs.BlockShapes.{Parts, parts_of}
 use Rattle.saw_journal.specs.Judgement.{Kept, kept_of}
@@ -169,7 +168,7 @@ module _ (accepts : Accepts) (signing : Signing) (wish : GenerateWish) where
     stands_behind : StandsBehind (records_after b) (kept_at b).block
     stands_behind =
         stands blocks (id_at signing wish b) (header_at b) (sym well_placed)
-        (hex_names (id_at signing wish b) (block_signed accepts signing wish vouched b low).header.form) new refl refl refl
+        (block_signed accepts signing wish vouched b low).header.form new refl refl refl
 
     records_more : records_of (accepted_after b ++ kept_at b ∷ []) ≡ records_after b ++ (kept_at b).block ∷ []
     records_more = map_push record_of (accepted_after b) (kept_at b)

@@ -1,6 +1,7 @@
 pub mod Histories
 pub mod Branching
 pub mod Judgements
+mod Beginning
 pub mod BehindHead
 pub mod Steps
 pub mod Told

@@ -15,6 +15,7 @@ use Rattle.saw_context.specs.declared.batch_result.BatchResult.{BatchResult}
 use Rattle.saw_journal.proofs.Branching.{branch_of-new, branch_of-other, found_in, no_branch}
 use Rattle.saw_journal.proofs.Judging.{missing_is}
 use Rattle.saw_journal.proofs.Linking.{all_push, either_false}
+use Rattle.saw_journal.proofs.Named.{hex_names}
 use Rattle.saw_journal.proofs.OneByOne.{RunsOneByOne, first_failure-append, left_after-append, serial_one_by_one}
 use Rattle.saw_journal.specs.Judgement.{Kept}
 use Rattle.saw_journal.specs.Linked.{parent_in}
@@ -119,7 +120,7 @@ module _ (processors : Processors) where
 
       new_one : IsOnBranch processors more kept
       new_one = record {
-        named = joins.may.stands.named;
+        named = hex_names kept.block.id joins.may.stands.form;
         own = left_last accepted kept joins.may.stands.fresh;
         whole = ap (first_failure 0) results_are
             ∙ first_failure-append (results_to processors accepted kept.block.previous) results 0 0 branch.0 joins.whole;

@@ -1,9 +1,7 @@
 //! What is told on the notes.
 
-ghost use Rattle.std.specs.Prelude.{◌≡◌, ◌≤◌, ◌<◌, ℕ, length, take, OnOk, OnErr, IsErrOf};
-ghost use Rattle.std.specs.Io.KnownBytes.{Appends};
-ghost use Rattle.saw_faults.specs.Counts.{Rose};
-ghost use Rattle.saw_report.specs.RunFaults.{fault_line, status_of};
+ghost use Rattle.std.specs.Prelude.{◌≡◌, ◌≤◌, false, true};
+ghost use Rattle.saw_report.specs.RunFaults.{fault_line, is_long, status_of};
 ghost use Rattle.saw_top.specs.Headline.{TellsFault, untold_status};
 ghost use Rattle.saw_top.specs.Outside.{sink_end};
 
@@ -31,32 +29,45 @@ fn untold_status(fault: &RunFault) -> Status
     }
 }
 
-// Writes the line of a fault; one of two nodes takes memory. After a fault less than all of it was written.
-fn write_line<N: Sink>(alloc: Global, notes: &mut N, fault: &RunFault) -> Result<(), SinkFault>
-    ensures ok { OnOk result (Appends (N.written notes.old) (N.written notes.new) (fault_line fault.now)) }
-    ensures err { OnErr result ((n : ℕ) × (n < length (fault_line fault.now))
-        × Appends (N.written notes.old) (N.written notes.new) (take n (fault_line fault.now))) }
+// Tells a fault by its line, which took no memory.
+fn tell_short<N: Sink>(notes: &mut N, fault: &RunFault, line: &[u8]) -> Status
+    requires short { is_long fault.now ≡ false }
+    requires line { line.now ≡ fault_line fault.now }
+    ensures told { TellsFault fault.now (sink_end N.Sink notes.old) (sink_end N.Sink notes.new) result }
     ensures later { N.faults notes.old ≤ N.faults notes.new }
-    ensures cause { IsErrOf result SinkFault.Failed → Rose (N.faults notes.old) (N.faults notes.new) }
 {
-    if let Some(line) = short_fault_line(fault) {
-        return write_all(notes, &line);
+    match write_all(notes, line) {
+        Ok(()) => status_of(fault),
+        Err(SinkFault::Failed) => status_of(fault),
+        Err(SinkFault::OutOfMemory) => untold_status(fault),
     }
-    match fault_line(alloc, fault) {
-        Ok(line) => write_all(notes, &line),
-        Err(_) => Err(SinkFault::OutOfMemory),
+}
+
+// Tells two nodes. Where there is no memory for the line nothing of it is written, and the status is that of want of memory;
+// behind its first byte the status stays.
+fn tell_nodes<N: Sink>(alloc: Global, notes: &mut N, fault: &RunFault) -> Status
+    requires long { is_long fault.now ≡ true }
+    ensures told { TellsFault fault.now (sink_end N.Sink notes.old) (sink_end N.Sink notes.new) result }
+    ensures later { N.faults notes.old ≤ N.faults notes.new }
+{
+    let Ok(line) = fault_line(alloc, fault) else {
+        return status_of(&RunFault::Memory);
+    };
+    match write_all(notes, &line) {
+        Ok(()) => status_of(fault),
+        Err(SinkFault::Failed) => status_of(fault),
+        Err(SinkFault::OutOfMemory) => status_of(fault),
     }
 }
 
 /// Tells a fault and gives its status. Where writing fails the status stays; where the notes find no memory for the line
-/// it is that of want of memory, unless the outside failed.
+/// it is that of want of memory, unless the outside failed or two nodes were begun to be told.
 pub(crate) fn tell<N: Sink>(alloc: Global, notes: &mut N, fault: &RunFault) -> Status
     ensures told { TellsFault fault.now (sink_end N.Sink notes.old) (sink_end N.Sink notes.new) result }
     ensures later { N.faults notes.old ≤ N.faults notes.new }
 {
-    match write_line(alloc, notes, fault) {
-        Ok(()) => status_of(fault),
-        Err(SinkFault::Failed) => status_of(fault),
-        Err(SinkFault::OutOfMemory) => untold_status(fault),
+    match short_fault_line(fault) {
+        Some(line) => tell_short(notes, fault, &line),
+        None => tell_nodes(alloc, notes, fault),
     }
 }

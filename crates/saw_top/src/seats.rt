@@ -5,7 +5,7 @@ ghost use Rattle.std.specs.Arc.{arc_value};
 ghost use Rattle.std.specs.Global.{Vec};
 ghost use Rattle.saw_station.specs.declared.offer.Offer.{Offer};
 ghost use Rattle.saw_faults.specs.Counts.{Rose};
-ghost use Rattle.saw_top.specs.Seats.{HaveOffers, remotes_at};
+ghost use Rattle.saw_top.specs.Seats.{HaveOffers, StopsAt, remotes_at};
 ghost use Rattle.saw_report.specs.declared.run_fault.RunFault.TheVariants.{Peer, Memory};
 
 use saw_report::RunFault;
@@ -37,6 +37,7 @@ pub(crate) fn begin_each<R: Station>(alloc: Global, remotes: &mut [R]) -> Result
     ensures fault { IfErr result (λ e. (e ≡ Peer) ⊎ (e ≡ Memory)) }
     ensures cause { IsErrOf result RunFault.Peer → (k : ℕ) × (k < length remotes.old)
         × ((d : R) → Rose (R.faults (slice_index_or remotes.old k d)) (R.faults (slice_index_or remotes.new k d))) }
+    ensures stops { OnErr result (StopsAt R.begun remotes.old remotes.new) }
 {
     for place in 0..remotes.len() {
         begin_one(alloc, &mut remotes[place])?;
@@ -102,6 +103,7 @@ fn fill<R: Station>(desks: &mut Vec<Desk<R>>, remotes: &mut Vec<R>, shared: Vec<
     ensures offers { (offers : List Offer) → All (λ share. (arc_value {X = Vec Offer} share).items ≡ offers) shared.items
         → HaveOffers offers desks.new.items }
     ensures seated { remotes.old.items ≡ remotes.new.items ++ reverse (remotes_at desks.new.items) }
+    ensures begun { All (λ remote. R.begun remote ≡ true) remotes.new.items }
     ensures room { vec_capacity remotes.new ≡ vec_capacity remotes.old }
 {
     let mut shared = shared;
@@ -129,6 +131,7 @@ pub(crate) fn seat<R: Station>(
         remotes.old.items ≡ remotes.new.items ++ reverse (remotes_at desks.items)) }
     ensures room { IfOk result (λ desks.
         vec_len remotes.new + length (remotes_at desks.items) ≤ vec_capacity remotes.new) }
+    ensures begun { All (λ remote. R.begun remote ≡ true) remotes.new.items }
     ensures err { OnErr result (remotes.new.items ≡ remotes.old.items) }
 {
     let workers = workers.max(1);
@@ -147,7 +150,9 @@ pub(crate) fn seat<R: Station>(
 /// Moves the remotes of desks back, behind the others.
 pub(crate) fn unseat<R: Station>(desks: Vec<Desk<R>>, remotes: &mut Vec<R>)
     requires { vec_len remotes.old + length (remotes_at desks.items) ≤ vec_capacity remotes.old }
-    ensures { remotes.new.items ≡ remotes.old.items ++ reverse (remotes_at desks.items) }
+    ensures seated { remotes.new.items ≡ remotes.old.items ++ reverse (remotes_at desks.items) }
+    ensures begun { All (λ remote. R.begun remote ≡ true) remotes.old.items
+        → All (λ remote. R.begun remote ≡ true) remotes.new.items }
 {
     let mut desks = desks;
     while let Some(desk) = desks.pop() {

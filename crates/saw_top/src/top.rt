@@ -1,6 +1,6 @@
 //! The top call.
 
-ghost use Rattle.std.specs.Prelude.{◌≡◌, ◌≤◌, true, false, Some, All, map, string_bytes};
+ghost use Rattle.std.specs.Prelude.{◌≡◌, ◌⊎◌, ◌≤◌, true, false, Some, All, map, string_bytes};
 ghost use Rattle.saw_generate.specs.Streams.{stream};
 ghost use Rattle.saw_publish.specs.Candidates.{Signing};
 ghost use Rattle.saw_station.specs.CommonOffers.{common};
@@ -8,6 +8,7 @@ ghost use Rattle.saw_station.specs.Serving.{processors_at};
 ghost use Rattle.saw_top.specs.Command.{asked_of};
 ghost use Rattle.saw_top.specs.Headline.{Carries, CarriesOut, HasEnded, IsAnswered, WritesBy, asks_elsewhere};
 ghost use Rattle.saw_top.specs.Outside.{outside, sink_end};
+ghost use Rattle.saw_top.specs.Seats.{FailsEarly, HaveBegun};
 ghost use Rattle.saw_top.specs.Wishes.{wish_in};
 ghost use Rattle.saw_top.specs.World.{world_with};
 
@@ -57,6 +58,7 @@ fn judge_begun<
         CarriesOut (world_with (V.accepts verifier.now) signing processors) (Some (wish_in job.entry))
         (world input.old output.old notes.old shelf.old remotes.old.items)
         (world input.new output.new notes.new shelf.new remotes.new.items) result }
+    ensures begun { All (λ remote. R.begun remote ≡ true) remotes.new.items }
 {
     let Job {
         workers,
@@ -111,6 +113,8 @@ fn judge<
         CarriesOut (world_with (V.accepts verifier.now) signing processors) (Some (wish_in job.entry))
         (world input.old output.old notes.old shelf.old remotes.old.items)
         (world input.new output.new notes.new shelf.new remotes.new.items) result }
+    ensures begun { HaveBegun R.begun remotes.old.items remotes.new.items ((input.new ≡ input.old)
+        × (output.new ≡ output.old) × (shelf.new ≡ shelf.old) × FailsEarly result) }
 {
     begin_each(alloc, remotes)?;
     let offers = common_offers(alloc, remotes)?;
@@ -170,6 +174,9 @@ fn carry_out<
         (world input.new output.new notes.new shelf.new remotes.new.items) result }
     ensures unasked { asks_elsewhere (asked_of (map string_bytes words.now)) ≡ false
         → remotes.new.items ≡ remotes.old.items }
+    ensures begun { asks_elsewhere (asked_of (map string_bytes words.now)) ≡ true
+        → HaveBegun R.begun remotes.old.items remotes.new.items ((input.new ≡ input.old)
+        × (output.new ≡ output.old) × (shelf.new ≡ shelf.old) × FailsEarly result) }
 {
     let command = read_command(alloc, words)?;
     match command {
@@ -245,6 +252,11 @@ pub fn run<
     // Words of no form and a new stream ask nothing of processors elsewhere.
     ensures unasked { asks_elsewhere (asked_of (map string_bytes words.now)) ≡ false
         → remotes.new.items ≡ remotes.old.items }
+    // Else all of them have begun, in order and before a file is fetched or a byte is read or written, unless the status is 6
+    // or 7: then those behind the one that did not begin were not asked.
+    ensures begun { asks_elsewhere (asked_of (map string_bytes words.now)) ≡ true
+        → HaveBegun R.begun remotes.old.items remotes.new.items ((input.new ≡ input.old)
+        × (output.new ≡ output.old) × (shelf.new ≡ shelf.old) × ((result ≡ 6) ⊎ (result ≡ 7))) }
 {
     match carry_out(
         rt, alloc, words, input, output, notes, shelf, verifier, signer, remotes,

@@ -1,4 +1,4 @@
-use Rattle.std.proofs.Common.{◌≡◌, true, false, map, refl, sym, ap, ◌∙◌}
+use Rattle.std.proofs.Common.{◌≡◌, true, false, inr, map, refl, sym, ap, ◌∙◌}
 use Rattle.std.proofs.lemmas.Result.{err_from_is_err_and}
 use Rattle.saw_station.specs.CommonOffers.{common}
 use Rattle.saw_station.proofs.Finished.{processors_own}
@@ -6,6 +6,7 @@ use Rattle.saw_station.specs.Serving.{processors_at}
 use Rattle.saw_top.specs.Headline.{asks_elsewhere}
 use Rattle.saw_top.specs.Outside.{outside}
 use Rattle.saw_top.specs.World.{world_with}
+use Rattle.saw_top.proofs.Beginning.{none_asked}
 use Rattle.saw_top.proofs.Carrying.{generated, judged, signs, unasked, unread}
 use Rattle.saw_top.proofs.top.carry_out.Goals as goal
 
@@ -22,6 +23,7 @@ returns-in_err-command g c =
           c.args.remotes.now.items)
           c.in_err-command.ensures.memory);
       unasked = λ is. refl;
+      begun = λ asks. rw (p.1, p.2) (inr (none_asked g.R.Station.begun c.args.remotes.now.items, (refl, refl, refl, inr c.in_err-command.ensures.memory)));
     }
 
 pub returns-in-None : goal.returns-in-None
@@ -35,6 +37,7 @@ returns-in-None g c =
           (outside g.S.Source g.O.Sink g.N.Sink g.F.Shelf g.R.Station.faults c.args.input.now c.args.output.now c.args.notes.now c.args.shelf.now
           c.args.remotes.now.items) (sym none);
       unasked = λ is. refl;
+      begun = λ asks. absurd (let never : false ≡ true = ap asks_elsewhere none ∙ asks in cc never);
     }
 
 pub returns-in-Some-Judge : goal.returns-in-Some-Judge
@@ -43,6 +46,7 @@ returns-in-Some-Judge g c =
     record {
       carries = judged _ _ _ _ _ _ asked c.judge.ensures.carries;
       unasked = λ is. absurd (let never : true ≡ false = ap asks_elsewhere asked ∙ is in cc never);
+      begun = λ asks. c.judge.ensures.begun;
     }
 
 pub returns-in-Some-Generate : goal.returns-in-Some-Generate
@@ -57,4 +61,5 @@ returns-in-Some-Generate g c =
           c.args.remotes.now.items) _ asked refl
           (λ files. c.write_stream.ensures.writes);
       unasked = λ is. refl;
+      begun = λ asks. absurd (let never : false ≡ true = ap asks_elsewhere asked ∙ asks in cc never);
     }

@@ -1,10 +1,11 @@
-use Rattle.std.proofs.Common.{List, Err, drop, inr, length, map, refl, subst, ap, ◌∙◌}
+use Rattle.std.proofs.Common.{List, Err, drop, inl, inr, length, map, refl, subst, ap, ◌∙◌}
 use Rattle.std.proofs.lemmas.Result.{err_from_is_err_and}
 use Rattle.saw_report.specs.declared.run_fault.RunFault.TheVariants as runs
 use Rattle.saw_station.specs.CommonOffers.{common}
 use Rattle.saw_station.proofs.Finished.{processors_own}
 use Rattle.saw_station.specs.Serving.{processors_at}
 use Rattle.saw_top.specs.Outside.{AreLater, SomeRose, outside}
+use Rattle.saw_top.specs.Seats.{StopsAt}
 use Rattle.saw_top.specs.Wishes.{wish_in}
 use Rattle.saw_top.specs.World.{world_with}
 use Rattle.saw_top.proofs.Carrying.{signs, since_begun, unbegun}
@@ -35,6 +36,8 @@ returns-in_err-begin_each g c =
           (λ is. let at = failed.cause (ap Err is) in
           subst (λ (l : List _). SomeRose (map faults l) (map faults mids)) c.deref_mut.ensures.value
           (rose_at faults c.deref_mut.result.now mids at.0 e.count at.1 at.2)));
+      begun = rw (p.1, p.2, back)
+          (inr (subst (λ (l : List _). StopsAt g.R.Station.begun l mids) c.deref_mut.ensures.value failed.stops, (refl, refl, refl, failed.fault)));
     }
 
 pub returns-in_err-offers : goal.returns-in_err-offers
@@ -56,6 +59,7 @@ returns-in_err-offers g c =
           (outside g.S.Source g.O.Sink g.N.Sink g.F.Shelf faults c.args.input.now c.args.output.now c.args.notes.now c.args.shelf.now
           c.args.remotes.now.items) (map faults mids) later
           (λ files. processors_own g.R.Station.next laws.own_reasons g.R.Station.tells (common (map offered mids))) runs.Memory (inr refl) (λ is. absurd cc));
+      begun = rw back (inl c.in_ok-begin_each.ensures.begun);
     }
 
 pub returns : goal.returns
@@ -76,4 +80,5 @@ returns g c =
           c.args.remotes.now.items) (map faults mids) later
           (outside g.S.Source g.O.Sink g.N.Sink g.F.Shelf faults c.judge_begun.new.input c.judge_begun.new.output c.judge_begun.new.notes
           c.judge_begun.new.shelf c.judge_begun.new.remotes.items) c.judge_begun.result (rw back at c.judge_begun.ensures.carries);
+      begun = inl c.judge_begun.ensures.begun;
     }

@@ -31,6 +31,7 @@ returns-in_err-ready g c =
           (outside g.S.Source g.O.Sink g.N.Sink g.F.Shelf g.R.Station.faults c.args.input.now c.args.output.now c.args.notes.now c.args.shelf.now
           c.args.remotes.now.items)
           (shelf_end g.F.Shelf c.prepare.new.shelf) c.in_err-ready.field-0.0 (c.in_err-ready.ensures.prepares signing));
+      begun = c.requires.begun;
     }
 
 pub returns-in_err-desks : goal.returns-in_err-desks
@@ -49,6 +50,7 @@ returns-in_err-desks g c =
           (outside g.S.Source g.O.Sink g.N.Sink g.F.Shelf g.R.Station.faults c.args.input.now c.args.output.now c.args.notes.now c.args.shelf.now
           c.args.remotes.now.items)
           (shelf_end g.F.Shelf c.prepare.new.shelf) _ (c.in_ok-ready.ensures.prepares signing));
+      begun = c.in_err-desks.ensures.begun;
     }
 
 -- the desks behind the task
@@ -83,7 +85,7 @@ returns g c =
     let back = written_back c.in_ok-desks.desks.len news (drop (length news) c.in_ok-desks.desks.items) (count ∙ c.deref_mut.ensures.len) in
     let value = c.deref_mut.ensures.value in
     let moved = c.in_ok-desks.ensures.seated ∙ ap (λ (l : List (Place _)). left ++ reverse (remotes_at l)) (sym value) in
-    let returned = c.unseat.ensures ∙ ap (λ (l : List (Place _)). left ++ reverse (remotes_at l)) back in
+    let returned = c.unseat.ensures.seated ∙ ap (λ (l : List (Place _)). left ++ reverse (remotes_at l)) back in
     let some = subst (λ (l : List (Place _)). 0 < length l) (sym value) c.in_ok-desks.ensures.some in
     let have = subst (HaveOffers c.args.offers.items) (sym value) c.in_ok-desks.ensures.offers in
     let offers = offers_are c.args.offers.items olds some have ∙ c.requires.offers
@@ -113,6 +115,7 @@ returns g c =
           (outside_with g.S.Source g.O.Sink g.N.Sink c.do_task-came.new.input c.do_task-came.new.output c.do_task-came.new.notes to [])
           (counts_of faults olds) (counts_of faults news) (map faults first) (map faults last) rose c.do_task-came.result
           (rw c.as_slice.ensures at (c.do_task-came.ensures.does from to))));
+      begun = c.unseat.ensures.begun c.in_ok-desks.ensures.begun;
     }
 
 pub do_task-came-requires-clause-some : goal.do_task-came-requires-clause-some

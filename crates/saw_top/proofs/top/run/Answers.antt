@@ -2,6 +2,7 @@ use Rattle.std.proofs.Common.{Err, Ok, map, refl}
 use Rattle.saw_station.proofs.Finished.{processors_own}
 use Rattle.saw_station.specs.CommonOffers.{common}
 use Rattle.saw_top.specs.Outside.{sink_end}
+use Rattle.saw_top.proofs.Beginning.{have_so, stopped_status}
 use Rattle.saw_top.proofs.Endings.{answered}
 use Rattle.saw_top.proofs.top.run.Goals as goal
 
@@ -34,3 +35,11 @@ returns-in-Err-clause-answered g c =
     answered _
     (λ files. processors_own g.R.Station.next laws.own_reasons g.R.Station.tells (common (map g.R.Station.offered c.carry_out.new.remotes.items))) _ _ _ _
     (returns-in-Err-clause-ended g c)
+
+pub returns-in-Ok-clause-begun : goal.returns-in-Ok-clause-begun
+returns-in-Ok-clause-begun g c = λ asks. have_so g.R.Station.begun _ _ _ _ (λ still. absurd still.3) (c.in-Ok.ensures.begun asks)
+
+pub returns-in-Err-clause-begun : goal.returns-in-Err-clause-begun
+returns-in-Err-clause-begun g c = λ asks.
+    have_so g.R.Station.begun _ _ _ _ (λ still. (still.0, still.1, still.2, stopped_status c.in-Err.fault _ _ _ c.tell.ensures.told still.3))
+    (c.in-Err.ensures.begun asks)
