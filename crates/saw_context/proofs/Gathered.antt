@@ -1,5 +1,5 @@
 -- Changes that are gathered one by one.
-use Rattle.std.proofs.Common.{◌≡◌, ℕ, Bool, true, false, cond, List, [], ◌∷◌, map, Option, Some, None, bytes_eq, refl, sym, ap, subst, ◌∙◌}
+use Rattle.std.proofs.Common.{◌≡◌, ℕ, Bool, true, false, cond, List, [], ◌∷◌, ◌++◌, map, Option, Some, None, bytes_eq, refl, sym, ap, subst, take, ◌∙◌}
 use Rattle.std.specs.Ordering.{nat_cmp, eq_by_cmp}
 use Rattle.std.specs.Cmp.Lexicographic.{slice_cmp, nat_list_cmp_total}
 use Rattle.std.specs.FinMap as finite
@@ -8,7 +8,7 @@ use Rattle.std.specs.Map.{keys_of}
 use Rattle.saw_address.specs.Maps.{StateMap, value_at, changed_at}
 use Rattle.saw_address.proofs.Finite.{value_at-changed_at, same_values}
 use Rattle.saw_messages.specs.declared.outcome.Change.{Change}
-use Rattle.saw_context.specs.Changed.{AreRising, changed_by, changed_by_all}
+use Rattle.saw_context.specs.Changed.{AreRising, HasFront, changed_by, changed_by_all}
 use Rattle.saw_context.specs.Conversation.{Overlay}
 use Rattle.saw_context.specs.Outcome.{changes_of, map_after}
 use Rattle.saw_context.proofs.Keys.{entries-empty, same_key}
@@ -41,6 +41,11 @@ after-all m own [] = refl
 after-all m own (change ∷ changes) =
     after-all m (changed_by own change) changes ∙ ap (λ n. map_after n changes) (after-one m own change.address change.value)
 
+pub changed_by_all-push : (own : Overlay) (changes : List Change) (change : Change)
+    → changed_by_all own (changes ++ change ∷ []) ≡ changed_by (changed_by_all own changes) change
+changed_by_all-push own [] change = refl
+changed_by_all-push own (first ∷ changes) change = changed_by_all-push (changed_by own first) changes change
+
 addresses-are : (es : Changes) → map (λ (change : Change). change.address) (map change_of es) ≡ keys_of es
 addresses-are [] = refl
 addresses-are (e ∷ es) = ap (λ keys. e.0 ∷ keys) (addresses-are es)
@@ -65,3 +70,7 @@ seen-below m n own at is found =
 pub after-changes : (m n : StateMap) (own new : Overlay) (changes : List Change) → map_after m (changes_of own) ≡ n → new ≡ changed_by_all own changes
     → map_after m (changes_of new) ≡ map_after n changes
 after-changes m n own new changes is made = ap (λ own. map_after m (changes_of own)) made ∙ after-all m own changes ∙ ap (λ n. map_after n changes) is
+
+pub after-front : (m n : StateMap) (own new : Overlay) (changes : List Change) → map_after m (changes_of own) ≡ n → HasFront changed_by_all own changes new
+    → HasFront map_after n changes (map_after m (changes_of new))
+after-front m n own new changes is front = (front.0, front.1, after-changes m n own new (take front.0 changes) is front.2)

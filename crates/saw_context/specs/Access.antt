@@ -1,5 +1,5 @@
 -- What a transaction may reach, and what it has done so far.
-use Rattle.std.specs.Prelude.{◌≡◌, ◌⊎◌, ℕ, List, [], ◌++◌, map, Option, Some, None, option_map}
+use Rattle.std.specs.Prelude.{◌≡◌, ℕ, List, [], ◌++◌, map, nat_lt, Option, Some, None, if◌then◌else◌}
 use Rattle.std.specs.FinMap as finite
 use Rattle.saw_address.specs.Maps.{StateMap}
 use Rattle.saw_messages.specs.declared.receipt.Event.{Event}
@@ -67,9 +67,14 @@ pub record Deletes (old : Access) (places : List Place) (new : Access) : Type 0 
   pub granted : first_refused old.header.outputs places ≡ None
   pub changed : new ≡ record old { own = delete_all old.own places }
 
--- a request is refused at the first place that no text covers, unless memory ran out
+-- the fault of a request: the index of the first place that no text covers, where 32 bits count it; else want of memory
+abbrev pub fault_at : Option ℕ → AccessFault
+fault_at None = OutOfMemory
+fault_at (Some index) = if nat_lt index 4294967296 then Unauthorized index else OutOfMemory
+
+-- a request fails so
 abbrev pub IsRefusedAt : List (List ℕ) → List Place → AccessFault → Type 0
-IsRefusedAt texts places fault = (fault ≡ OutOfMemory) ⊎ (option_map Unauthorized (first_refused texts places) ≡ Some fault)
+IsRefusedAt texts places fault = fault ≡ fault_at (first_refused texts places)
 
 -- what a request reads: each place of a request that is answered with entries
 abbrev pub reads_by : Access → Action → List Read

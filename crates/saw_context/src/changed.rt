@@ -1,6 +1,7 @@
 //! A base with changes on top of it.
 
-ghost use Rattle.std.specs.Prelude.{◌≡◌, OnOk, option_copied};
+ghost use Rattle.std.specs.Prelude.{◌≡◌, OnErr, OnOk, option_copied};
+ghost use Rattle.saw_context.specs.Changed.{HasFront};
 ghost use Rattle.saw_context.specs.Outcome.{map_after};
 
 use crate::overlay::Overlay;
@@ -41,9 +42,10 @@ impl<'a, B: Base> Changed<'a, B> {
         }
     }
 
-    /// Copies changes on top, one after another. After an `Err` some may be there.
+    /// Copies changes on top, one after another. After an `Err` the first of them are there, up to some place, and none else.
     pub fn change_all(&mut self, alloc: Global, changes: &[Change]) -> Result<(), AllocError>
-        ensures { OnOk result (self.new ≡ map_after self.old changes.now) }
+        ensures ok { OnOk result (self.new ≡ map_after self.old changes.now) }
+        ensures front { OnErr result (HasFront map_after self.old changes.now self.new) }
     {
         self.changes.change_all(alloc, changes)
     }

@@ -1,9 +1,9 @@
 //! A transaction's access to the state, by what it declares.
 
-ghost use Rattle.std.specs.Prelude.{◌≡◌, ◌⊎◌, ◌++◌, ◌∷◌, [], true, false, map, None, IfOk, IfErr, OnOk, OnErr};
+ghost use Rattle.std.specs.Prelude.{◌≡◌, ◌⊎◌, ◌↔◌, ◌++◌, ◌∷◌, [], true, false, map, None, Some, IfOk, IfErr, IsErrOf, OnOk, OnErr};
 ghost use Rattle.std.specs.Arc.{arc_value};
 ghost use Rattle.saw_messages.specs.declared.talk.Place.TheVariants.{At};
-ghost use Rattle.saw_context.specs.Access.{Gets, Sets, Deletes, IsRefusedAt, no_access, origin_at, read_at};
+ghost use Rattle.saw_context.specs.Access.{Gets, Sets, Deletes, IsRefusedAt, fault_at, no_access, origin_at, read_at};
 ghost use Rattle.saw_context.specs.Conversation.{first_refused, is_granted, places_of};
 ghost use Rattle.saw_context.specs.Outcome.{are_declared, changes_of};
 ghost use Rattle.saw_context.specs.Views.{layers_of};
@@ -76,6 +76,7 @@ impl<'a, B: Base> Context<'a, B> {
         ensures fault { IfErr result
             (λ e. (e ≡ ContextFault.OutOfMemory)
             ⊎ ((e ≡ ContextFault.BadDeclared) × (are_declared tx.now.header ≡ false))) }
+        ensures bad { IsErrOf result ContextFault.BadDeclared ↔ (are_declared tx.now.header ≡ false) }
     {
         let header = &tx.header;
         if !are_declared(header) {
@@ -215,7 +216,7 @@ fn origin_at(own: &Overlay, view: &View, at: &Address) -> Origin
 
 // More places than 32 bits count would not fit any memory.
 fn refused(index: usize) -> AccessFault
-    ensures { (result ≡ AccessFault.OutOfMemory) ⊎ (result ≡ AccessFault.Unauthorized index) }
+    ensures { result ≡ fault_at (Some index) }
 {
     match u32::try_from(index) {
         Ok(index) => AccessFault::Unauthorized { index },

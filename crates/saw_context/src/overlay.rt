@@ -3,7 +3,7 @@
 ghost use Rattle.std.specs.Prelude.{◌≡◌, Some, None, IfOk, OnOk, OnErr, is_some, option_copied};
 ghost use Rattle.std.specs.FinMap as finite;
 ghost use Rattle.saw_address.specs.Maps.{value_at};
-ghost use Rattle.saw_context.specs.Changed.{AreRising, changed_by, changed_by_all};
+ghost use Rattle.saw_context.specs.Changed.{AreRising, HasFront, changed_by, changed_by_all};
 ghost use Rattle.saw_context.specs.Conversation.{Overlay as Owned, body_of, seen_at, put_at, set_all, delete_all};
 ghost use Rattle.saw_context.specs.Outcome.{changes_of};
 ghost use Rattle.saw_context.specs.Undo.{IsOneStep, CameBy};
@@ -231,9 +231,10 @@ impl Overlay {
         Ok(())
     }
 
-    /// Copies changes on top, one after another. After an `Err` some may be there.
+    /// Copies changes on top, one after another. After an `Err` the first of them are there, up to some place, and none else.
     pub fn change_all(&mut self, alloc: Global, changes: &[Change]) -> Result<(), AllocError>
-        ensures { OnOk result (self.new ≡ changed_by_all self.old changes.now) }
+        ensures ok { OnOk result (self.new ≡ changed_by_all self.old changes.now) }
+        ensures front { OnErr result (HasFront changed_by_all self.old changes.now self.new) }
     {
         for change in changes {
             self.change(copy_of_change(alloc, change)?)?;

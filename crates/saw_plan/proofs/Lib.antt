@@ -3,3 +3,4 @@ pub mod Rest
 pub mod Whole
 pub mod Pairs
 pub mod Adding
+pub mod Fronts

@@ -1,6 +1,6 @@
 //! The ids that are there already.
 
-ghost use Rattle.std.specs.Prelude.{◌≡◌, ◌∷◌, [], OnOk};
+ghost use Rattle.std.specs.Prelude.{◌≡◌, ◌∷◌, [], OnErr, OnOk};
 ghost use Rattle.saw_ids.specs.Seen.{is_among};
 ghost use Rattle.saw_plan.specs.StaticRules.{Ids, Knows, with_batch_id, with_transactions};
 
@@ -22,15 +22,17 @@ pub trait KnownIds {
     fn has_transaction(&self, id: &Text) -> bool
         ensures { (there : Ids) → knows self.now there → result ≡ is_among there.transactions id.now };
 
-    /// Adds the id of a batch.
+    /// Adds the id of a batch. After an `Err` exactly the ids of before are there.
     fn add_batch(&mut self, alloc: Global, id: &Text) -> Result<(), AllocError>
-        ensures { OnOk result
-            ((there : Ids) → knows self.old there → knows self.new (with_batch_id there id.now)) };
+        ensures ok { OnOk result
+            ((there : Ids) → knows self.old there → knows self.new (with_batch_id there id.now)) }
+        ensures same { OnErr result ((there : Ids) → knows self.old there → knows self.new there) };
 
-    /// Adds the id of a transaction.
+    /// Adds the id of a transaction. After an `Err` exactly the ids of before are there.
     fn add_transaction(&mut self, alloc: Global, id: &Text) -> Result<(), AllocError>
-        ensures { OnOk result
-            ((there : Ids) → knows self.old there → knows self.new (with_transactions there (id.now ∷ []))) };
+        ensures ok { OnOk result
+            ((there : Ids) → knows self.old there → knows self.new (with_transactions there (id.now ∷ []))) }
+        ensures same { OnErr result ((there : Ids) → knows self.old there → knows self.new there) };
 }
 
 /// The ids of the batches and of the transactions of a branch.

@@ -45,7 +45,7 @@ loop-tx-preserved g c =
     let cut = shapes-drop c.args.txs.now l.tx-index c.tx-item.result c.loop-tx-test.true c.tx-item.is in
     let outcome = subst (λ (offers : List Offer). IsOutcome (at offers) c.args.failed.now l.state tx c.in_ok-outcome.outcome) l.invariant.desk.offers
     c.in_ok-outcome.ensures.outcome in
-    let changed : c.change_all.new.self ≡ map_after l.state c.in-Ok.changes = rw (← c.as_slice.ensures) c.in_ok-change_all-in-Ok.ensures in
+    let changed : c.change_all.new.self ≡ map_after l.state c.in-Ok.changes = rw (← c.as_slice.ensures) c.in_ok-change_all-in-Ok.ensures.ok in
     rw (c.in_ok-push.ensures.ok, c.in-Ok.is) (record {
       desk = keeps_trans g.R.Station.faults g.R.Station.offered c.args.desk.now l.desk c.run_tx.new.desk l.invariant.desk c.in_ok-outcome.ensures.desk.keeps;
       count = omega arith;

@@ -7,4 +7,4 @@ pub loop-tx-preserved : goal.loop-tx-preserved
 loop-tx-preserved c = λ others holds.
     let l = c.loop-tx in
     rw (← ids-take_seen others c.args.txs.now l.tx-index c.tx-item.result _ (c.behind-tx.view_is ∙ c.deref.ensures) c.loop-tx-test.true c.tx-item.is)
-    (c.in_ok-add_id.ensures (ids_of (others ++ shapes_of (take l.tx-index c.args.txs.now))) (l.invariant others holds)).1
+    (c.in_ok-add_id.ensures.ok (ids_of (others ++ shapes_of (take l.tx-index c.args.txs.now))) (l.invariant others holds)).1

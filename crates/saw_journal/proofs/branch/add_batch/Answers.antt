@@ -8,7 +8,7 @@ pub returns : goal.returns
 returns c =
     on_ok_weaker c.add_receipts.result
     (λ added there knows. (
-      (c.in_ok-add_id.ensures there.batches knows.0).1,
+      (c.in_ok-add_id.ensures.ok there.batches knows.0).1,
       subst (λ (receipts : List Receipt). HoldsIds c.add_receipts.new.seen (there.transactions ++ map (λ receipt. receipt.transaction_id) receipts))
           c.as_slice.ensures (added there.transactions knows.1),
     ))

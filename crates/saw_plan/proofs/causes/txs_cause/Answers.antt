@@ -12,7 +12,7 @@ loop-t-preserved g c =
     let ids = ids_of (shapes_of (take at txs)) in
     record {
       holds = rw (← ids_more txs at tx c.loop-t-test.true c.index-txs-t.is _ (c.behind-tx.view_is ∙ c.deref-in-loop-t.ensures))
-          (c.in_ok-add_id.ensures ids i.holds).1;
+          (c.in_ok-add_id.ensures.ok ids i.holds).1;
       so_far = λ there known.
           cause_later txs at tx c.loop-t-test.true c.index-txs-t.is c.deref.result.now c.deref.ensures there.transactions
           (i.so_far there known)

@@ -12,4 +12,4 @@ returns-in-Ok c =
     let old = map_after m (changes_of c.args.gathered.now) in
     ap (λ own. map_after m (changes_of own)) made ∙ after-all m c.args.gathered.now c.as_slice.result.now ∙ ap (map_after old) c.as_slice.ensures
     ∙ ap (λ outcome. map_after_all old (outcome ∷ [])) (sym c.in-Ok.is))
-    c.change_all.ensures
+    c.change_all.ensures.ok
