@@ -11,6 +11,7 @@ use Rattle.std.proofs.lemmas.List.{append-nil}
 use Rattle.std.proofs.lemmas.Map.Lookups.{exact_bytes}
 use Rattle.saw_node.specs.Nodes.{Shape, encoding_of, shape_of}
 use Rattle.saw_node.proofs.Found.{tie}
+use Rattle.saw_store.proofs.Kept.{kept_at-with}
 use Rattle.saw_store.specs.Stores.{Kept, Nodes, kept_of, shape_from, kept_at, with_node, IsFree}
 use Rattle.saw_store.specs.News.{AreClear, AreUnderTheirs, IsIn, IsKept, with_all}
 use Rattle.saw_address.specs.Maps.{StateMap}
@@ -22,17 +23,6 @@ use Rattle.saw_merkle.proofs.Local.{AreKept-more}
 use Rattle.saw_merkle.proofs.OneMap.{map_read-root}
 use Rattle.saw_store.specs.declared.new_node.NewNode.{NewNode}
 use Rattle.saw_merkle.proofs.Walk.{in_left, in_right, in_either}
-
-map_cond : (t : Bool) (k : Kept) (o : Option Kept) → option_map shape_from (cond t (Some k) o) ≡ cond t (Some (shape_from k)) (option_map shape_from o)
-map_cond true k o = refl
-map_cond false k o = refl
-
--- what is kept when one more node is
-pub kept_at-with : (hash : List ℕ → List ℕ) (nodes : Nodes) (shape : Shape) (h : List ℕ)
-    → kept_at (with_node hash nodes shape) h ≡ cond (eq_by_cmp (slice_cmp nat_cmp) h (hash (encoding_of shape))) (Some shape) (kept_at nodes h)
-kept_at-with hash nodes shape h =
-    ap (option_map shape_from) (finite.get-insert nat_list_cmp_total nodes (hash (encoding_of shape)) (kept_of shape) h)
-    ∙ map_cond _ (kept_of shape) (finite.get nodes h)
 
 tied_same : (x y : List ℕ) → eq_by_cmp (slice_cmp nat_cmp) x y ≡ true → x ≡ y
 tied_same x y e = exact_bytes x y (tie (slice_cmp nat_cmp x y) e)

@@ -33,7 +33,8 @@ use Rattle.saw_merkle.specs.States.{AreRooted, IsRooted, States, Updates, knows,
 use Rattle.saw_store.specs.declared.new_node.NewNode.{NewNode}
 use Rattle.saw_merkle.specs.declared.flat.Flat.{Flat}
 use Rattle.saw_merkle.proofs.OneMap.{map_read-root}
-use Rattle.saw_merkle.proofs.Keeping.{adds_all, adds_none, kept_at-with, read_stays, root_comes, root_stays, theirs_after}
+use Rattle.saw_store.proofs.Kept.{kept_at-with}
+use Rattle.saw_merkle.proofs.Keeping.{adds_all, adds_none, read_stays, root_comes, root_stays, theirs_after}
 use Rattle.saw_merkle.proofs.Placed.{addressed, addresses, all_kept, node_kept}
 
 tied_same : (x y : List ℕ) → eq_by_cmp (slice_cmp nat_cmp) x y ≡ true → x ≡ y

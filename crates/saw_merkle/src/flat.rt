@@ -1,7 +1,8 @@
 //! The whole map of one known root, so that a read on a straight chain is one look-up.
 
-ghost use Rattle.std.specs.Prelude.{◌≡◌, IfSome, OnOk};
+ghost use Rattle.std.specs.Prelude.{◌≡◌, IfSome, OnErr, OnOk};
 ghost use Rattle.saw_address.specs.Maps.{changed_at, map_of};
+ghost use Rattle.saw_context.specs.Changed.{HasFront};
 ghost use Rattle.saw_context.specs.Outcome.{map_after};
 ghost use Rattle.saw_merkle.specs.Inside.{Moves};
 
@@ -68,13 +69,15 @@ fn moved_along(alloc: Global, flat: Flat, answer: &NodeHash, changes: &[Change])
     }
 }
 
-/// Applies changes to a map in order. After an error it may have a part of them.
+/// Applies changes to a map in order. After an `Err` it has the first of them, up to some place, and none else.
 pub fn change_map(
     alloc: Global,
     map: &mut BTreeMap<Address, Bytes>,
     changes: &[Change],
 ) -> Result<(), AllocError>
-    ensures { OnOk result (map_of map.new.entries ≡ map_after (map_of map.old.entries) changes.now) }
+    ensures ok { OnOk result (map_of map.new.entries ≡ map_after (map_of map.old.entries) changes.now) }
+    ensures front { OnErr result
+        (HasFront map_after (map_of map.old.entries) changes.now (map_of map.new.entries)) }
 {
     for change in changes {
         apply(alloc, map, change)?;
@@ -87,8 +90,9 @@ fn apply(
     map: &mut BTreeMap<Address, Bytes>,
     change: &Change,
 ) -> Result<(), AllocError>
-    ensures { OnOk result
+    ensures ok { OnOk result
         (map_of map.new.entries ≡ changed_at (map_of map.old.entries) change.now.address change.now.value) }
+    ensures err { OnErr result (map.new ≡ map.old) }
 {
     match &change.value {
         Some(value) => {

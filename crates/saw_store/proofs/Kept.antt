@@ -39,12 +39,23 @@ pub kept_at-shown : (kept : List (List ℕ × Node)) (q : List ℕ) → kept_at 
 kept_at-shown kept q = ap (option_map shape_from) (get-shown kept q) ∙ twice _
 
 -- the order tells apart what equality does
-same_test : (q k : List ℕ) → bytes_eq q k ≡ is_at (slice_cmp nat_cmp q) k
+pub same_test : (q k : List ℕ) → bytes_eq q k ≡ is_at (slice_cmp nat_cmp q) k
 same_test q k = texts_ties q k
 
 pub same_lookup : (q : List ℕ) (kept : List (List ℕ × Node)) → lookup (bytes_eq q) kept ≡ lookup (is_at (slice_cmp nat_cmp q)) kept
 same_lookup q [] = refl
 same_lookup q (e ∷ kept) = λ i. cond (same_test q e.0 i) (Some e.1) (same_lookup q kept i)
+
+map_cond : (t : Bool) (k : Kept) (o : Option Kept) → option_map shape_from (cond t (Some k) o) ≡ cond t (Some (shape_from k)) (option_map shape_from o)
+map_cond true k o = refl
+map_cond false k o = refl
+
+-- what is kept when one more node is
+pub kept_at-with : (hash : List ℕ → List ℕ) (nodes : Nodes) (shape : Shape) (h : List ℕ)
+    → kept_at (with_node hash nodes shape) h ≡ cond (eq_by_cmp (slice_cmp nat_cmp) h (hash (encoding_of shape))) (Some shape) (kept_at nodes h)
+kept_at-with hash nodes shape h =
+    ap (option_map shape_from) (finite.get-insert nat_list_cmp_total nodes (hash (encoding_of shape)) (kept_of shape) h)
+    ∙ map_cond _ (kept_of shape) (finite.get nodes h)
 
 -- a node that is found is kept
 pub kept_found : (kept : List (List ℕ × Node)) (nodes : Nodes) (q : List ℕ) (node : Node) → shown kept ≡ nodes → Some node ≡ lookup (bytes_eq q) kept

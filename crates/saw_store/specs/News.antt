@@ -1,5 +1,7 @@
 -- Nodes that are not kept yet.
-use Rattle.std.specs.Prelude.{◌≡◌, ◌≢◌, ◌⊎◌, ⊤, ℕ, List, [], ◌∷◌, Some}
+use Rattle.std.specs.Prelude.{◌≡◌, ◌≢◌, ◌⊎◌, ⊤, ℕ, List, [], ◌∷◌, Option, Some, None, if◌then◌else◌}
+use Rattle.std.specs.Option.{option_or}
+use Rattle.std.specs.Str.{bytes_eq}
 use Rattle.std.specs.List.{AllByRecursion}
 use Rattle.saw_node.specs.Nodes.{Shape, encoding_of, shape_of}
 use Rattle.saw_store.specs.Stores.{Nodes, kept_at, with_node}
@@ -34,6 +36,12 @@ abbrev pub with_all : (List ℕ → List ℕ) → Nodes → List NewNode → Nod
 with_all hash nodes [] = nodes
 with_all hash nodes (new ∷ others) = with_all hash (with_node hash nodes (shape_of new.node)) others
 
+-- of these nodes the last that has the hash
+abbrev pub last_under : (List ℕ → List ℕ) → List NewNode → List ℕ → Option Shape
+last_under hash [] h = None
+last_under hash (new ∷ others) h =
+    option_or (last_under hash others h) (if bytes_eq h (hash (encoding_of (shape_of new.node))) then Some (shape_of new.node) else None)
+
 -- no two different nodes of those that are kept and these have one hash
 abbrev pub AreClear : (List ℕ → List ℕ) → Nodes → List NewNode → Type 0
 AreClear hash nodes news =
@@ -47,3 +55,15 @@ IsClashOf hash nodes news (Collision kept given) =
     × (shape_of kept ≢ shape_of given) × (hash (encoding_of (shape_of kept)) ≡ hash
     (encoding_of (shape_of given)))
 IsClashOf hash nodes news OutOfMemory = ⊤
+
+-- under each hash the last of the new nodes that have it is kept, and where none has, what was kept there
+abbrev pub KeepsTheLast : Type 0
+KeepsTheLast =
+    (hash : List ℕ → List ℕ) (nodes : Nodes) (news : List NewNode) (h : List ℕ)
+    → kept_at (with_all hash nodes news) h ≡ option_or (last_under hash news h) (kept_at nodes h)
+
+-- where no two different nodes have one hash, all the new ones are kept, and all that were kept still are
+abbrev pub KeepsAllClear : Type 0
+KeepsAllClear =
+    (hash : List ℕ → List ℕ) (nodes : Nodes) (news : List NewNode) → AreClear hash nodes news
+    → (shape : Shape) → IsKeptOr hash nodes news shape → IsKept hash (with_all hash nodes news) shape

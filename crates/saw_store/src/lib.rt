@@ -2,9 +2,11 @@
 #![tactic(auto)]
 
 mod fault;
+mod laws;
 mod new_node;
 mod store;
 
 pub use fault::StoreFault;
+pub use laws::{clear_nodes_are_kept, last_node_stays};
 pub use new_node::NewNode;
 pub use store::{NodeStore, hash_of_node};

@@ -163,7 +163,8 @@ impl<H: NodeHasher> NodeStore<H> {
         }
     }
 
-    /// Keeps all of these nodes, each under the hash beside it. After a fault the store is as before.
+    /// Keeps all of these nodes, each under the hash beside it. Where two of them, or one of them and a kept one, have one
+    /// hash, the last of them stays, so that a kept one gives way. After a fault the store is as before.
     pub fn put_all(&mut self, news: Vec<NewNode>) -> Result<(), AllocError>
         requires named { AreNamed H.hash_of news.items }
         ensures ok { OnOk result (self.new ≡ with_all H.hash_of self.old news.items) }
