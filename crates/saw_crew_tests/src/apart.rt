@@ -22,7 +22,8 @@ pub(crate) fn offers(alloc: Global) -> Result<Arc<Vec<Offer>>, AllocError> {
     Ok(Arc::new(alloc, offers)?)
 }
 
-fn addresses(alloc: Global, digit: &str) -> Result<Items<Text>, AllocError> {
+/// The one address with this digit.
+pub(crate) fn addresses(alloc: Global, digit: &str) -> Result<Items<Text>, AllocError> {
     let mut texts = Items::new(alloc);
     let address = format!(in alloc; "{FRONT}{digit}")?;
     texts.push(Text::from_str(alloc, address.as_str())?)?;
@@ -38,7 +39,7 @@ fn wide(alloc: Global, count: usize) -> Result<Items<Text>, AllocError> {
     Ok(texts)
 }
 
-fn header(
+pub(crate) fn header(
     alloc: Global,
     inputs: Items<Text>,
     outputs: Items<Text>,

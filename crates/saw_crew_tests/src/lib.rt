@@ -1,9 +1,13 @@
-//! Tests of workers: stations that answer only while others run.
+//! Tests of workers: stations that answer only while others run, or once another was answered.
 #![tactic(auto)]
 
 #[cfg(test)]
 mod apart;
 #[cfg(test)]
+mod copies;
+#[cfg(test)]
 mod meeting;
 #[cfg(test)]
 mod meets;
+#[cfg(test)]
+mod reruns;

@@ -2,13 +2,11 @@
 
 ghost use Rattle.std.specs.Prelude.{◌≡◌, true};
 
-use crate::peers::{REGISTERS, begun, first, has_sent, refused, tx};
+use crate::peers::{REGISTERS, REGISTERS_VERSION_2, begun, first, has_sent, refused, tx};
 use saw_link::{MemoryPeer, RemoteStation};
 use saw_messages::{Action, Reason};
 use std::alloc::Global;
 use std::test::Fail;
-
-const REGISTERS_VERSION_2: &[u8] = b"\x08\x01\x12\x01r\x1a\x0a\x0a\x01f\x12\x031.0\x30\x02";
 
 // A request to read, of the first transaction.
 const READS: &[u8] = b"\x08\x07\x12\x01a\x1a\x06\x0a\x011\x12\x01x";

@@ -13,6 +13,10 @@ use std::alloc::{AllocError, Global};
 /// Registers the family f, version 1.0, on version 1 of the link, under the correlation id r.
 pub(crate) const REGISTERS: &[u8] = b"\x08\x01\x12\x01r\x1a\x08\x0a\x01f\x12\x031.0";
 
+/// The same on version 2 of the link.
+pub(crate) const REGISTERS_VERSION_2: &[u8] =
+    b"\x08\x01\x12\x01r\x1a\x0a\x0a\x01f\x12\x031.0\x30\x02";
+
 /// A station that has not begun, whose peer sends these frames.
 pub(crate) fn station(
     alloc: Global,
@@ -110,4 +114,25 @@ pub(crate) fn fails(
 {
     let tx = tx(alloc, vec![in alloc; 0u8; length]?)?;
     Ok(matches!(first(alloc, station, &tx), Err(StationFault::PeerFailed)))
+}
+
+/// Whether a step without turns is accepted, for a payload of so many bytes.
+pub(crate) fn accepts(
+    alloc: Global,
+    station: &mut RemoteStation<MemoryPeer>,
+    length: usize,
+) -> Result<bool, MessageFault>
+    requires { station.old.begun ≡ true }
+    ensures { station.new.begun ≡ true }
+{
+    let tx = tx(alloc, vec![in alloc; 0u8; length]?)?;
+    Ok(matches!(first(alloc, station, &tx), Ok(Action::Ok)))
+}
+
+/// How many bytes the frame has that was sent as what passed at this place.
+pub(crate) fn sent_length(station: &RemoteStation<MemoryPeer>, place: usize) -> Option<usize> {
+    match station.link().passed().get(place) {
+        Some(Passed::Sent(bytes)) => Some(bytes.len()),
+        _ => None,
+    }
 }
