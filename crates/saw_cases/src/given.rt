@@ -9,13 +9,22 @@ use std::collections::BTreeMap;
 use std::io::{Error, ErrorKind};
 use std::{fs, io};
 
+/// The processors elsewhere of a run.
+#[derive(Drop)]
+pub(crate) enum Elsewhere {
+    Nobody,
+    /// One, which sends these frames.
+    Peer(Vec<Vec<u8>>),
+    /// So many stations of the family `case_kv`.
+    Stations(u64),
+}
+
 /// What a run is given.
 #[derive(Drop)]
 pub(crate) struct Given {
     pub(crate) words: Vec<String>,
     pub(crate) ends: Ends,
-    /// The frames of the processor elsewhere, where there is one.
-    pub(crate) peer: Option<Vec<Vec<u8>>>,
+    pub(crate) elsewhere: Elsewhere,
 }
 
 /// The words of a case, one a line.
@@ -157,12 +166,15 @@ fn frames_in(alloc: Global, bytes: Vec<u8>) -> io::Result<Vec<Vec<u8>>> {
     Ok(frames)
 }
 
-/// The frames that the processor elsewhere of a case sends, where it has one.
-fn peer_of(rt: &HostRuntime, case: &str) -> io::Result<Option<Vec<Vec<u8>>>> {
+/// The processors elsewhere of a case: so many as its file `processors` tells, or one that sends the frames of `peer`.
+pub(crate) fn elsewhere_of(rt: &HostRuntime, case: &str) -> io::Result<Elsewhere> {
     let alloc = rt.alloc();
+    if let Some(count) = numbers_of(rt, case, "processors")?.first() {
+        return Ok(Elsewhere::Stations(*count));
+    }
     match bytes_of(rt, format!(in alloc; "cases/{case}/peer")?.as_str())? {
-        Some(bytes) => Ok(Some(frames_in(alloc, bytes)?)),
-        None => Ok(None),
+        Some(bytes) => Ok(Elsewhere::Peer(frames_in(alloc, bytes)?)),
+        None => Ok(Elsewhere::Nobody),
     }
 }
 
@@ -214,6 +226,6 @@ pub(crate) fn given_of(rt: &HostRuntime, case: &str) -> io::Result<Given> {
     Ok(Given {
         words,
         ends,
-        peer: peer_of(rt, case)?,
+        elsewhere: elsewhere_of(rt, case)?,
     })
 }

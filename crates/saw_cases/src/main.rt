@@ -4,8 +4,9 @@
 mod ends;
 mod given;
 mod said;
+mod stations;
 
-use crate::given::{applied_of, given_of, output_of, sent_of, stream_of, words_in};
+use crate::given::{applied_of, elsewhere_of, given_of, output_of, sent_of, stream_of, words_in};
 use crate::said::{Stored, said_to, said_to_stream, said_to_words};
 use std::process::ExitCode;
 use std::sync::Wait;
@@ -39,7 +40,7 @@ fn is_applied<T: Threads + Wait + Sync>(
     for workers in APPLIED_BY {
         let mut stream = stream_of(host, case)?;
         stream.extend_from_slice(output)?;
-        let said = said_to_stream(rt, host.alloc(), stream, workers)?;
+        let said = said_to_stream(rt, host.alloc(), stream, workers, elsewhere_of(host, case)?)?;
         if !said.says(&wanted) {
             return Ok(false);
         }

@@ -3,7 +3,8 @@
 ghost use Rattle.std.specs.Prelude.{◌≡◌, false, All, IfOk};
 
 use crate::ends::Ends;
-use crate::given::Given;
+use crate::given::{Elsewhere, Given};
+use crate::stations::new_stations;
 use saw_io::{MemorySink, write_frame};
 use saw_link::{MemoryPeer, Passed, RemoteStation};
 use saw_station::Station;
@@ -118,19 +119,17 @@ fn signer(alloc: Global) -> Result<DevSigner, AllocError> {
     DevSigner::new(key).ok_or(AllocError)
 }
 
-/// The station of the peer with these frames, where there is one.
+/// The station of a peer with these frames.
 fn remotes_of(
     alloc: Global,
-    peer: Option<Vec<Vec<u8>>>,
+    frames: Vec<Vec<u8>>,
 ) -> Result<Vec<RemoteStation<MemoryPeer>>, AllocError>
     ensures { IfOk result (λ remotes. All
         (λ remote. ⟦<RemoteStation<MemoryPeer> as Station>⟧.begun remote ≡ false) remotes.items) }
 {
     let mut remotes = Vec::new(alloc);
-    if let Some(frames) = peer {
-        let link = MemoryPeer::new(alloc, frames, Vec::new(alloc));
-        remotes.push(RemoteStation::new(alloc, link))?;
-    }
+    let link = MemoryPeer::new(alloc, frames, Vec::new(alloc));
+    remotes.push(RemoteStation::new(alloc, link))?;
     Ok(remotes)
 }
 
@@ -154,15 +153,14 @@ fn sent_to(alloc: Global, remotes: &[RemoteStation<MemoryPeer>]) -> Result<Vec<u
 }
 
 /// The status of a run over these ends.
-fn status_of<T: Threads + Wait + Sync>(
+fn status_of<R: Station, T: Threads + Wait + Sync>(
     rt: &T,
     alloc: Global,
     words: &[String],
     ends: &mut Ends,
-    remotes: &mut Vec<RemoteStation<MemoryPeer>>,
+    remotes: &mut Vec<R>,
 ) -> Result<Status, AllocError>
-    requires { All
-        (λ remote. ⟦<RemoteStation<MemoryPeer> as Station>⟧.begun remote ≡ false) remotes.old.items }
+    requires { All (λ remote. R.begun remote ≡ false) remotes.old.items }
 {
     Ok(run(
         rt,
@@ -178,21 +176,43 @@ fn status_of<T: Threads + Wait + Sync>(
     ))
 }
 
-fn said_by(
-    alloc: Global,
-    status: Status,
-    ends: &Ends,
-    remotes: &[RemoteStation<MemoryPeer>],
-) -> Result<Said, AllocError> {
+fn said_by(alloc: Global, status: Status, ends: &Ends, sent: Vec<u8>) -> Result<Said, AllocError> {
     let mut said = Said {
         output: Vec::new(alloc),
         notes: Vec::new(alloc),
         status: status.code().to_string(alloc)?,
-        sent: sent_to(alloc, remotes)?,
+        sent,
     };
     said.output.extend_from_slice(ends.output.bytes())?;
     said.notes.extend_from_slice(ends.notes.bytes())?;
     Ok(said)
+}
+
+/// What a run says by these stations, which keep nothing of what they are sent.
+fn said_among<R: Station, T: Threads + Wait + Sync>(
+    rt: &T,
+    alloc: Global,
+    words: &[String],
+    ends: &mut Ends,
+    remotes: &mut Vec<R>,
+) -> Result<Said, AllocError>
+    requires { All (λ remote. R.begun remote ≡ false) remotes.old.items }
+{
+    let status = status_of(rt, alloc, words, ends, remotes)?;
+    said_by(alloc, status, ends, Vec::new(alloc))
+}
+
+/// What a run says by a processor elsewhere that sends these frames, with what it is sent.
+fn said_over_link<T: Threads + Wait + Sync>(
+    rt: &T,
+    alloc: Global,
+    words: &[String],
+    ends: &mut Ends,
+    frames: Vec<Vec<u8>>,
+) -> Result<Said, AllocError> {
+    let mut remotes = remotes_of(alloc, frames)?;
+    let status = status_of(rt, alloc, words, ends, &mut remotes)?;
+    said_by(alloc, status, ends, sent_to(alloc, &remotes)?)
 }
 
 /// What a run says to what is given.
@@ -204,19 +224,30 @@ pub(crate) fn said_to<T: Threads + Wait + Sync>(
     let Given {
         words,
         mut ends,
-        peer,
+        elsewhere,
     } = given;
-    let mut remotes = remotes_of(alloc, peer)?;
-    let status = status_of(rt, alloc, &words, &mut ends, &mut remotes)?;
-    said_by(alloc, status, &ends, &remotes)
+    match elsewhere {
+        Elsewhere::Nobody => said_among(rt, alloc, &words, &mut ends, &mut new_stations(alloc, 0)?),
+        Elsewhere::Peer(frames) => said_over_link(rt, alloc, &words, &mut ends, frames),
+        Elsewhere::Stations(count) => {
+            said_among(
+                rt,
+                alloc,
+                &words,
+                &mut ends,
+                &mut new_stations(alloc, count)?,
+            )
+        }
+    }
 }
 
-/// What `apply` says to a stream, by this number of workers.
+/// What `apply` says to a stream, by this number of workers and these processors elsewhere.
 pub(crate) fn said_to_stream<T: Threads + Wait + Sync>(
     rt: &T,
     alloc: Global,
     input: Vec<u8>,
     workers: &str,
+    elsewhere: Elsewhere,
 ) -> Result<Said, AllocError> {
     let ends = Ends::of_stream(alloc, input);
     let mut words = Vec::new(alloc);
@@ -229,7 +260,7 @@ pub(crate) fn said_to_stream<T: Threads + Wait + Sync>(
         Given {
             words,
             ends,
-            peer: None,
+            elsewhere,
         },
     )
 }
@@ -247,7 +278,7 @@ pub(crate) fn said_to_words<T: Threads + Wait + Sync>(
         Given {
             words,
             ends,
-            peer: None,
+            elsewhere: Elsewhere::Nobody,
         },
     )
 }
