@@ -61,3 +61,9 @@ fn two_nodes_of_one_hash_clash(rt: HostRuntime) -> Result<(), Fail> {
     assert!(rt; clash_of(alloc, 0x09, 0x09)?.is_none());
     Ok(())
 }
+
+#[test]
+fn laws_of_the_store(_rt: HostRuntime) {
+    saw_store::last_node_stays();
+    saw_store::clear_nodes_are_kept();
+}
