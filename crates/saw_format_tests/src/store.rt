@@ -63,7 +63,7 @@ fn two_nodes_of_one_hash_clash(rt: HostRuntime) -> Result<(), Fail> {
 }
 
 #[test]
-fn laws_of_new_nodes(_rt: HostRuntime) {
+fn laws_of_the_store(_rt: HostRuntime) {
     saw_store::last_node_stays();
     saw_store::clear_nodes_are_kept();
 }

@@ -1,7 +1,6 @@
 -- New nodes that are kept.
-use Rattle.std.proofs.Common.{◌≡◌, ℕ, Bool, true, false, cond, List, [], ◌∷◌, ◌++◌, refl, sym, ap, ◌∙◌, subst, append_assoc, Option, Some, None, inl, inr}
+use Rattle.std.proofs.Common.{◌≡◌, ℕ, true, false, cond, List, [], ◌∷◌, ◌++◌, refl, sym, ap, ◌∙◌, subst, append_assoc, Option, Some, None, inl, inr}
 use Rattle.std.specs.Prelude.{IfSome, is_some}
-use Rattle.std.specs.Option.{option_map}
 use Rattle.std.specs.Ordering.{nat_cmp, eq_by_cmp, is_eq}
 use Rattle.std.specs.Cmp.Lexicographic.{slice_cmp, nat_list_cmp_total}
 use Rattle.std.specs.FinMap as finite
@@ -12,7 +11,7 @@ use Rattle.std.proofs.lemmas.Map.Lookups.{exact_bytes}
 use Rattle.saw_node.specs.Nodes.{Shape, encoding_of, shape_of}
 use Rattle.saw_node.proofs.Found.{tie}
 use Rattle.saw_store.proofs.Kept.{kept_at-with}
-use Rattle.saw_store.specs.Stores.{Kept, Nodes, kept_of, shape_from, kept_at, with_node, IsFree}
+use Rattle.saw_store.specs.Stores.{Nodes, kept_at, with_node, IsFree}
 use Rattle.saw_store.specs.News.{AreClear, AreUnderTheirs, IsIn, IsKept, with_all}
 use Rattle.saw_address.specs.Maps.{StateMap}
 use Rattle.saw_store.specs.News.{IsKeptOr}

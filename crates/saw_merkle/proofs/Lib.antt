@@ -17,3 +17,4 @@ pub mod Placed
 pub mod Keeping
 pub mod Sound
 pub mod Gathered
+pub mod Fronts

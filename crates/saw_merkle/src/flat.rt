@@ -92,7 +92,7 @@ fn apply(
 ) -> Result<(), AllocError>
     ensures ok { OnOk result
         (map_of map.new.entries ≡ changed_at (map_of map.old.entries) change.now.address change.now.value) }
-    ensures err { OnErr result (map.new ≡ map.old) }
+    ensures err { OnErr result (map.new.entries ≡ map.old.entries) }
 {
     match &change.value {
         Some(value) => {

@@ -1,13 +1,13 @@
 -- Which of new nodes are kept.
-use Rattle.std.proofs.Common.{◌≡◌, ◌⊎◌, ℕ, Bool, true, false, cond, List, [], ◌∷◌, refl, sym, ap, ◌∙◌, Option, Some, None, inl, inr}
+use Rattle.std.proofs.Common.{◌≡◌, ℕ, Bool, true, false, cond, List, [], ◌∷◌, refl, sym, ap, ◌∙◌, Option, Some, None, inl, inr}
 use Rattle.std.specs.Prelude.{if◌then◌else◌}
 use Rattle.std.specs.Option.{option_or}
 use Rattle.std.specs.Str.{bytes_eq}
 use Rattle.std.proofs.lemmas.Bool.{cases_Bool}
 use Rattle.std.proofs.lemmas.Slice.Eq.{bytes_eq-Decides}
 use Rattle.saw_node.specs.Nodes.{Shape, encoding_of, shape_of}
-use Rattle.saw_store.specs.News.{AreClear, IsIn, IsKept, IsKeptOr, KeepsAllClear, KeepsTheLast, last_under, with_all}
-use Rattle.saw_store.specs.Stores.{Nodes, kept_at, with_node}
+use Rattle.saw_store.specs.News.{IsIn, KeepsAllClear, KeepsTheLast, last_under}
+use Rattle.saw_store.specs.Stores.{kept_at, with_node}
 use Rattle.saw_store.specs.declared.new_node.NewNode.{NewNode}
 use Rattle.saw_store.proofs.Kept.{kept_at-with, same_test}
 

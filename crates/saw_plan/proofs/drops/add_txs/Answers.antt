@@ -1,7 +1,7 @@
 use Rattle.std.proofs.Common.{List, ◌++◌, append-nil, subst, take, ◌∙◌}
 use Rattle.std.proofs.lemmas.List.{take_all}
 use Rattle.saw_plan.specs.BatchShapes.{shapes_of, ids_of}
-use Rattle.saw_plan.specs.StaticRules.{Ids, with_transactions}
+use Rattle.saw_plan.specs.StaticRules.{with_transactions}
 use Rattle.saw_plan.proofs.Fronts.{behind_error, ids-take}
 use Rattle.saw_plan.proofs.Transactions.{all_ids_more}
 use Rattle.saw_plan.proofs.drops.add_txs.Goals as goal
