@@ -20,6 +20,7 @@ use Rattle.saw_machine.specs.Laws.{IsQuiet}
 use Rattle.saw_machine.specs.Machine.{IsReady, Running, Runs, State, Task, next, task_of}
 use Rattle.saw_machine.specs.Machine as machine
 use Rattle.saw_machine.specs.Orders.{Order}
+use Rattle.saw_plan.specs.BatchShapes.{txs_of}
 use Rattle.saw_schedule.proofs.Reached.{history-spans, replay-with_step, state-with_step}
 use Rattle.saw_schedule.proofs.Replays.{history-not-stuck}
 use Rattle.saw_schedule.proofs.Serials.{steps-are-serial}
@@ -47,7 +48,7 @@ true-more processors m txs st (one ∷ steps) step are here =
     (are.0, true-more processors m txs (next (order_of txs) st (move_of txs st one)) steps step are.1 here)
 
 -- before the first job
-pub begin-alone : (processors : Processors) (m : StateMap) (h : History) → h.steps ≡ [] → IsAlone processors m h.batches h
+pub begin-alone : (processors : Processors) (m : StateMap) (h : History) → h.steps ≡ [] → IsAlone processors m (txs_of h.batches) h
 begin-alone processors m h none = record {
   plan = refl;
   replay = rw none tt;
@@ -127,7 +128,7 @@ module _ (processors : Processors) (m : StateMap) (batches : List (List TxShape)
 
       alone-new : IsAlone processors m batches new
       alone-new = record {
-        plan = ap (λ (g : History). g.batches) is ∙ (ap (λ (g : History). g.batches) take.step ∙ alone.plan);
+        plan = ap (λ (g : History). txs_of g.batches) is ∙ (ap (λ (g : History). txs_of g.batches) take.step ∙ alone.plan);
         replay = subst IsReplay (sym is) (replay-with_step taken (Finish done) replay-taken runs);
         true_steps = subst (λ (g : History). AreTrueSteps processors m (txs_in g) (start_of g) g.steps) (sym is)
             (true-more processors m (txs_in taken) (start_of taken) taken.steps (Finish done) true-taken (λ e. (sound, of_base)));

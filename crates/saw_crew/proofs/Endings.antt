@@ -92,7 +92,7 @@ ended-next old mid new k a b inside ended last j t less at (task, runs) = elim (
 pub left-alone : (processors : Processors) (m : StateMap) (batches : List (List TxShape)) (old new : History) → AllSound processors old.steps → IsAsLent m batches old → Gave old new
     → IsQuiet (state_of new) → IsAlone processors m batches new
 left-alone processors m batches old new sound lent gave quiet = record {
-  plan = gave.plan ∙ lent.plan;
+  plan = ap txs_of gave.plan ∙ lent.plan;
   replay = gave.replay lent.replay;
   true_steps = stored-true processors m (txs_in new) (start_of new) new.steps (gave.sound processors sound) (gave.base m lent.base);
   quiet = quiet;

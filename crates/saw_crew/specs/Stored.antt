@@ -6,6 +6,7 @@ use Rattle.saw_messages.specs.TxShapes.{TxShape}
 use Rattle.saw_context.specs.Outcome.{Processors}
 use Rattle.saw_context.specs.SoundResults.{IsOfBase, IsSoundDone}
 use Rattle.saw_machine.specs.Machine.{Running, Task}
+use Rattle.saw_plan.specs.BatchShapes.{txs_of}
 use Rattle.saw_schedule.specs.Histories.{History, IsReplay, state_of}
 use Rattle.saw_schedule.specs.declared.step.Step.{Step}
 use Rattle.saw_schedule.specs.declared.step.Step.TheVariants.{Take, Finish, GiveBack}
@@ -38,9 +39,9 @@ AllOfBase m steps = AllByRecursion (IsOfBaseStep m) steps
 
 -- ---- what the workers leave
 
--- the history is of this plan, and each read of the base is what the base has
+-- the history is of a plan with these transactions, and each read of the base is what the base has
 pub record IsAsLent (m : StateMap) (batches : List (List TxShape)) (h : History) : Type 0 where
-  pub plan : h.batches ≡ batches
+  pub plan : txs_of h.batches ≡ batches
   pub base : AllOfBase m h.steps
   pub replay : IsReplay h
 

@@ -12,6 +12,7 @@ use Rattle.saw_context.specs.declared.job.Ticket.{Ticket}
 use Rattle.saw_messages.specs.declared.outcome.Outcome.TheVariants.{Ok, Invalid}
 use Rattle.saw_machine.specs.Machine.{Closed, Held, Running, Runs, Slot, State, Task, Waiting, next}
 use Rattle.saw_machine.specs.Orders.{Order}
+use Rattle.saw_plan.specs.BatchShapes.{txs_of}
 use Rattle.saw_plan.specs.Precedence.{all_txs}
 use Rattle.saw_ready.specs.declared.edges.Edges.{Edges}
 use Rattle.saw_ready.specs.declared.mark.Mark.TheVariants as marks
@@ -84,7 +85,7 @@ module _ (h : History) (txs : List (Arc Tx Global)) (named : Edges) (slots : Slo
   marks-all = is.slots_are.shows.count ∙ (history-spans h is.replay).end
 
   pub txs-all : length txs ≡ length slots.queue.marks
-  txs-all = sym (length-map txs arc_value) ∙ (ap (λ (all : List TxShape). length all) is.txs_are ∙ (length-all h.batches ∙ sym marks-all))
+  txs-all = sym (length-map txs arc_value) ∙ (ap (λ (all : List TxShape). length all) is.txs_are ∙ (length-all (txs_of h.batches) ∙ sym marks-all))
 
   pub beyond-waits : (j : ℕ) → length slots.queue.marks ≤ j → (state_of h).slots j ≡ Waiting
   beyond-waits j l = (history-spans h is.replay).beyond j (rw (← marks-all) l)

@@ -15,6 +15,7 @@ use Rattle.saw_machine.specs.Laws.{IsSerial}
 use Rattle.saw_machine.specs.Machine.{State}
 use Rattle.saw_machine.specs.Orders.{Map, after}
 use Rattle.saw_machine.specs.Serial as machine
+use Rattle.saw_plan.specs.BatchShapes.{txs_of}
 use Rattle.saw_plan.specs.Precedence.{all_txs}
 use Rattle.saw_schedule.proofs.Maps.{Has, has-after, has-left_after, has-left_by}
 use Rattle.saw_schedule.proofs.Meetings.{meetings}
@@ -84,10 +85,10 @@ steps-are-serial processors m h own replay are ends =
     subst (λ (st : State). st.rest ≡ [] → IsSerial (order_in h) (May processors txs) (value_at m) (sizes_in h) st) (history-runs h)
     (moves-are-serial (order_in h) (May processors txs) (value_at m) (sizes_in h) (moves_of txs (start_of h) h.steps) (meetings txs)
     (reads-only processors txs) (history-legal h replay) (steps-true processors m own txs (start_of h) h.steps are)) ends in
-    let comes : MayComeFrom processors [] m h.batches (state_of h).results =
-    all-come processors txs 0 (λ j. false) [] h.batches (value_at m) m (state_of h).results (none-failed txs) (stands-whole txs) (λ at. refl) is.results in
+    let comes : MayComeFrom processors [] m (txs_of h.batches) (state_of h).results =
+    all-come processors txs 0 (λ j. false) [] (txs_of h.batches) (value_at m) m (state_of h).results (none-failed txs) (stands-whole txs) (λ at. refl) is.results in
     record {
       results = comes;
-      told = λ told. from_told processors [] m h.batches (state_of h).results told comes;
+      told = λ told. from_told processors [] m (txs_of h.batches) (state_of h).results told comes;
       map = λ at. ap (λ (m : Map). m at) is.map ∙ has-left_after (value_at m) m (state_of h).results (λ at. refl) at;
     }

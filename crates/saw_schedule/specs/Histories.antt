@@ -2,7 +2,7 @@
 use Rattle.std.specs.Prelude.{◌≡◌, ◌==◌, ℕ, Bool, List, [], ◌∷◌, ◌++◌, map, length, Option, Some, None, is_none, slice_get, ⊤}
 use Rattle.std.specs.Arc.{arc_value}
 use Rattle.std.specs.FinMap as finite
-use Rattle.saw_messages.specs.TxShapes.{TxShape}
+use Rattle.saw_messages.specs.TxShapes.{BatchShape, TxShape}
 use Rattle.saw_context.specs.Views.{layers_of}
 use Rattle.saw_context.specs.declared.job.Done.{Done}
 use Rattle.saw_context.specs.declared.job.Job.{Job}
@@ -24,20 +24,20 @@ use Rattle.saw_schedule.specs.declared.step.Step.{Step}
 use Rattle.saw_schedule.specs.declared.step.Step.TheVariants.{Take, Finish, GiveBack}
 
 pub record History : Type 0 where
-  pub batches : List (List TxShape)
+  pub batches : List BatchShape
   pub steps : List Step
 
 abbrev pub begun : Plan → History
-begun plan = record { batches = txs_of plan.batches; steps = [] }
+begun plan = record { batches = plan.batches; steps = [] }
 
 abbrev pub with_step : History → Step → History
 with_step h step = record { batches = h.batches; steps = h.steps ++ step ∷ [] }
 
 abbrev pub txs_in : History → List TxShape
-txs_in h = all_txs h.batches
+txs_in h = all_txs (txs_of h.batches)
 
 abbrev pub sizes_in : History → List ℕ
-sizes_in h = map length h.batches
+sizes_in h = map length (txs_of h.batches)
 
 abbrev pub order_in : History → Order
 order_in h = order_of (txs_in h)

@@ -3,7 +3,7 @@ use Rattle.std.specs.Prelude.{◌≡◌, ◌+◌, ◌≤◌, ℕ, true, List, []
 use Rattle.std.specs.List.{AllByRecursion}
 use Rattle.saw_address.specs.Maps.{StateMap, value_at}
 use Rattle.saw_messages.specs.Reasons.{has_own_reason}
-use Rattle.saw_messages.specs.TxShapes.{TxShape}
+use Rattle.saw_messages.specs.TxShapes.{BatchShape, TxShape}
 use Rattle.saw_messages.specs.declared.talk.Turn.{Turn}
 use Rattle.saw_context.specs.Outcome.{Processors}
 use Rattle.saw_context.specs.Possible.{MayComeOfAll, are_told}
@@ -13,6 +13,7 @@ use Rattle.saw_context.specs.declared.job.Ticket.{Ticket}
 use Rattle.saw_machine.specs.Laws.{IsKept, failed_before, returns_of, some_disturbs}
 use Rattle.saw_machine.specs.Laws as laws
 use Rattle.saw_machine.specs.Machine.{IsReady, State, look, next}
+use Rattle.saw_plan.specs.BatchShapes.{txs_of}
 use Rattle.saw_schedule.specs.Histories.{History, IsReplay, difference_in, move_of, moves_of, order_in, sizes_in, start_of, state_of, txs_in}
 use Rattle.saw_schedule.specs.Orders.{order_of}
 use Rattle.saw_schedule.specs.declared.step.Step.{Step}
@@ -34,8 +35,8 @@ module _ (processors : Processors) (m : StateMap) (txs : List TxShape) where
 -- the results are what may come of the batches one after another; where all processors are told they are those of
 -- serial execution; and what the slots show is the map after them
 pub record EndsSerial (processors : Processors) (m : StateMap) (h : History) : Type 0 where
-  pub results : MayComeOfAll processors m h.batches (state_of h).results
-  pub told : are_told processors h.batches ≡ true → (state_of h).results ≡ serial processors m h.batches
+  pub results : MayComeOfAll processors m (txs_of h.batches) (state_of h).results
+  pub told : are_told processors (txs_of h.batches) ≡ true → (state_of h).results ≡ serial processors m (txs_of h.batches)
   pub map : (at : List ℕ) → look (value_at m) (state_of h).slots (state_of h).first at ≡ value_at (left_after m (state_of h).results) at
 
 -- every list of steps that ends finished, in which each accepted result is true, is serial execution
@@ -61,7 +62,7 @@ NeverStuck = (h : History) → IsReplay h
 -- between two takes of one transaction stands a give-back of it, a result of it that was refused, or the settling as
 -- failed of a batch that it stands on
 abbrev pub NoNeedlessRerun : Type 0
-NoNeedlessRerun = (batches : List (List TxShape)) (before between : List Step) (first second : Ticket)
+NoNeedlessRerun = (batches : List BatchShape) (before between : List Step) (first second : Ticket)
     → IsReplay (record { batches = batches; steps = before ++ Take first ∷ between ++ Take second ∷ [] })
     → first.index ≡ second.index
     → let h : History = record { batches = batches; steps = before ++ Take first ∷ [] } in

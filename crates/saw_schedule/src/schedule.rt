@@ -2,7 +2,7 @@
 
 ghost use Rattle.std.specs.Prelude.{◌≡◌, ◌≢◌, ◌+◌, ◌<◌, ◌≤◌, ◌^◌, ◌++◌, ◌∷◌, [], ℕ, Some, true, false, if◌then◌else◌, length, get_or, slice_get, vec_capacity, vec_len, IfOk, OnErr};
 ghost use Rattle.std.specs.Arc.{arc_value};
-ghost use Rattle.saw_plan.specs.BatchShapes.{shapes_of, transactions_in, txs_of};
+ghost use Rattle.saw_plan.specs.BatchShapes.{shapes_of, transactions_in};
 ghost use Rattle.std.specs.List.{list_any};
 ghost use Rattle.saw_ready.specs.Edges.{AreEarlier, AreEdges};
 ghost use Rattle.saw_ready.specs.declared.mark.Mark.TheVariants.{Invalid, Running, Valid, Waiting};
@@ -64,15 +64,14 @@ impl Drop for Schedule {
 impl Model for Schedule {
     ghost use Rattle.std.specs.Arc.{arc_value};
     ghost use Rattle.std.specs.Prelude.{vec_capacity};
-    ghost use Rattle.saw_plan.specs.BatchShapes.{txs_of};
     ghost use Rattle.saw_schedule.specs.Histories.{History};
     ghost use Rattle.saw_schedule.specs.Inside.{IsScheduleOf};
 
     ghost Value = { History };
 
-    ghost view = { λ s. record { batches = txs_of (arc_value s.plan).batches; steps = s.steps.items } };
+    ghost view = { λ s. record { batches = (arc_value s.plan).batches; steps = s.steps.items } };
 
-    ghost invariant = { λ s. IsScheduleOf (record { batches = txs_of (arc_value s.plan).batches; steps = s.steps.items })
+    ghost invariant = { λ s. IsScheduleOf (record { batches = (arc_value s.plan).batches; steps = s.steps.items })
         s.txs s.named s.slots s.lasts (vec_capacity s.steps) };
 }
 
@@ -339,7 +338,7 @@ impl Schedule {
 
     /// The plan that it is the schedule of.
     pub fn plan(&self) -> &Plan
-        ensures { txs_of result.now.batches ≡ self.now.batches }
+        ensures { result.now.batches ≡ self.now.batches }
     {
         &self.plan
     }

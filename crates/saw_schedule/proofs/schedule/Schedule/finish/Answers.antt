@@ -1,6 +1,5 @@
 use Rattle.std.proofs.Common.{◌≡◌, ◌-◌, ℕ, List, Some, None, refl, sym, ap, subst, ◌∙◌, vec_capacity, arith}
 use Rattle.std.specs.Arc.{arc_value}
-use Rattle.saw_plan.specs.BatchShapes.{txs_of}
 use Rattle.saw_machine.specs.Machine.{State}
 use Rattle.saw_machine.specs.Orders.{Order}
 use Rattle.saw_ready.specs.Queues.{with_mark}
@@ -37,7 +36,7 @@ invariant_of-self c =
 
 pub returns-in-Some : goal.returns-in-Some
 returns-in-Some c = (
-  ap (λ (steps : List Step). record { batches = txs_of (arc_value c.self.inside.plan).batches; steps = steps }) c.add_step.ensures.more
+  ap (λ (steps : List Step). record { batches = (arc_value c.self.inside.plan).batches; steps = steps }) c.add_step.ensures.more
       ∙ ap (λ (h : History). with_step h (Finish c.args.done)) c.self.view_is,
   subst (λ (h : History). RunsIn (state_of h) c.args.done.ticket) c.self.view_is (task-so _ c.self.inside.txs c.self.inside.named c.self.inside.slots c.self.inside.lasts (vec_capacity c.self.inside.steps) c.self.invariant c.args.done.ticket (c.if-not-runs.ensures.yes refl)),
   subst (λ (h : History). difference_in (txs_in h) (state_of h) c.args.done ≡ Some c.in-Some.why) c.self.view_is (sym (found-code _ c.self.inside.txs c.self.inside.named c.self.inside.slots c.self.inside.lasts (vec_capacity c.self.inside.steps) c.self.invariant c.args.done (c.if-not-runs.ensures.yes refl) c.difference_kept-found.result c.index-as_slice-k.result c.index.result.now c.deref.result.now (tx-at _ c.self.inside.txs c.self.inside.named c.self.inside.slots c.self.inside.lasts (vec_capacity c.self.inside.steps) c.self.invariant c.args.done (c.if-not-runs.ensures.yes refl) c.as_slice.result.now c.index-as_slice-k.result c.as_slice.ensures c.index-as_slice-k.is) (kept-at _ c.self.inside.txs c.self.inside.named c.self.inside.slots c.self.inside.lasts (vec_capacity c.self.inside.steps) c.self.invariant c.args.done (c.if-not-runs.ensures.yes refl) c.index.result.now c.index.ensures) c.deref.ensures c.difference_kept-found.ensures) ∙ c.in-Some.is),
@@ -62,7 +61,7 @@ invariant_of-self-2 c =
 
 pub returns : goal.returns
 returns c = (
-  ap (λ (steps : List Step). record { batches = txs_of (arc_value c.self.inside.plan).batches; steps = steps }) c.add_step.ensures.more
+  ap (λ (steps : List Step). record { batches = (arc_value c.self.inside.plan).batches; steps = steps }) c.add_step.ensures.more
       ∙ ap (λ (h : History). with_step h (Finish c.args.done)) c.self.view_is,
   subst (λ (h : History). RunsIn (state_of h) c.args.done.ticket) c.self.view_is (task-so _ c.self.inside.txs c.self.inside.named c.self.inside.slots c.self.inside.lasts (vec_capacity c.self.inside.steps) c.self.invariant c.args.done.ticket (c.if-not-runs.ensures.yes refl)),
   subst (λ (h : History). difference_in (txs_in h) (state_of h) c.args.done ≡ None) c.self.view_is (sym (found-code _ c.self.inside.txs c.self.inside.named c.self.inside.slots c.self.inside.lasts (vec_capacity c.self.inside.steps) c.self.invariant c.args.done (c.if-not-runs.ensures.yes refl) c.difference_kept-found.result c.index-as_slice-k.result c.index.result.now c.deref.result.now (tx-at _ c.self.inside.txs c.self.inside.named c.self.inside.slots c.self.inside.lasts (vec_capacity c.self.inside.steps) c.self.invariant c.args.done (c.if-not-runs.ensures.yes refl) c.as_slice.result.now c.index-as_slice-k.result c.as_slice.ensures c.index-as_slice-k.is) (kept-at _ c.self.inside.txs c.self.inside.named c.self.inside.slots c.self.inside.lasts (vec_capacity c.self.inside.steps) c.self.invariant c.args.done (c.if-not-runs.ensures.yes refl) c.index.result.now c.index.ensures) c.deref.ensures c.difference_kept-found.ensures) ∙ c.in_default.is),

@@ -1,6 +1,5 @@
 use Rattle.std.proofs.Common.{List, refl, sym, ap, subst, ◌∙◌, vec_capacity}
 use Rattle.std.specs.Arc.{arc_value}
-use Rattle.saw_plan.specs.BatchShapes.{txs_of}
 use Rattle.saw_schedule.specs.declared.step.Step.{Step}
 use Rattle.saw_schedule.specs.Histories.{History, RunsIn, state_of, with_step}
 use Rattle.saw_schedule.specs.declared.step.Step.TheVariants.{GiveBack}
@@ -22,7 +21,7 @@ invariant_of-self c =
 
 pub returns : goal.returns
 returns c = (
-  ap (λ (steps : List Step). record { batches = txs_of (arc_value c.self.inside.plan).batches; steps = steps }) c.add_step.ensures.more
+  ap (λ (steps : List Step). record { batches = (arc_value c.self.inside.plan).batches; steps = steps }) c.add_step.ensures.more
       ∙ ap (λ (h : History). with_step h (GiveBack c.args.ticket)) c.self.view_is,
   subst (λ (h : History). RunsIn (state_of h) c.args.ticket) c.self.view_is
       (task-so _ c.self.inside.txs c.self.inside.named c.self.inside.slots c.self.inside.lasts (vec_capacity c.self.inside.steps) c.self.invariant c.args.ticket (c.if-not-runs.ensures.yes refl)),

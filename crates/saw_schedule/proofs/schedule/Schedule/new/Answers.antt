@@ -25,7 +25,7 @@ invariant_of-result c =
     let few : length c.in_ok-txs.txs < 2 ^ 32 = subst (λ (n : ℕ). n < 2 ^ 32) (sym count) c.requires in
     let are : AreSlotsOf (order_in (begun (arc_value c.args.plan))) (sizes_in (begun (arc_value c.args.plan))) (state_of (begun (arc_value c.args.plan))) [] c.in_ok-slots.slots =
     subst (λ (p : Plan). AreSlotsOf (order_in (begun p)) (sizes_in (begun p)) (state_of (begun p)) [] c.in_ok-slots.slots) c.deref-2.ensures c.in_ok-slots.ensures.slots in
-    subst (λ (steps : List Step). IsScheduleOf (record { batches = txs_of (arc_value c.args.plan).batches; steps = steps }) c.in_ok-txs.txs c.in_ok-named.named
+    subst (λ (steps : List Step). IsScheduleOf (record { batches = (arc_value c.args.plan).batches; steps = steps }) c.in_ok-txs.txs c.in_ok-named.named
     c.in_ok-slots.slots (record { lists = c.in_ok-lasts.lasts.lists; layers = c.in_ok-lasts.lasts.layers; undone = c.begin.new.undone; place = c.in_ok-lasts.lasts.place; change = c.in_ok-lasts.lasts.change }) (vec_capacity c.new-2.result)) (sym c.new-2.ensures.items)
     (begun-schedule (arc_value c.args.plan) c.in_ok-txs.txs c.in_ok-named.named c.in_ok-slots.slots c.in_ok-slots.slots (record { lists = c.in_ok-lasts.lasts.lists; layers = c.in_ok-lasts.lasts.layers; undone = c.begin.new.undone; place = c.in_ok-lasts.lasts.place; change = c.in_ok-lasts.lasts.change }) c.in_ok-lasts.lasts.undone (vec_capacity c.new-2.result)
     txs_are few
@@ -77,4 +77,4 @@ pub begin-requires-clause-empty : goal.begin-requires-clause-empty
 begin-requires-clause-empty c = c.in_ok-lasts.ensures.idle
 
 pub returns : goal.returns
-returns c = ap (λ (steps : List Step). record { batches = txs_of (arc_value c.args.plan).batches; steps = steps }) c.new-2.ensures.items
+returns c = ap (λ (steps : List Step). record { batches = (arc_value c.args.plan).batches; steps = steps }) c.new-2.ensures.items

@@ -1,6 +1,5 @@
 use Rattle.std.proofs.Common.{◌+◌, ◌<◌, ◌≤◌, ◌++◌, ◌∷◌, [], ℕ, List, length, length-set, vec_capacity, Result, Ok, Err, OnErr, refl, sym, ap, subst, ◌∙◌, arith}
 use Rattle.std.specs.Arc.{arc_value}
-use Rattle.saw_plan.specs.BatchShapes.{txs_of}
 use Rattle.std.specs.Global.{Global}
 use Rattle.std.specs.declared.sync.Arc.{Arc}
 use Rattle.saw_messages.specs.declared.tx.Tx.{Tx}
@@ -29,10 +28,10 @@ invariant_of-self-in_default c =
 
 pub returns-in_default-clause-ok : goal.returns-in_default-clause-ok
 returns-in_default-clause-ok c = record {
-  same = ap (λ (steps : List Step). record { batches = txs_of (arc_value c.self.inside.plan).batches; steps = steps }) c.reserve.ensures.items ∙ c.self.view_is;
+  same = ap (λ (steps : List Step). record { batches = (arc_value c.self.inside.plan).batches; steps = steps }) c.reserve.ensures.items ∙ c.self.view_is;
   none = λ i ready. c.in_default.ensures.taken.1 i
-      (ready-taken (order_in (record { batches = txs_of (arc_value c.self.inside.plan).batches; steps = c.self.inside.steps.items })) (state_of (record { batches = txs_of (arc_value c.self.inside.plan).batches; steps = c.self.inside.steps.items })) c.self.inside.slots.queue i
-      c.self.invariant.slots_are.shows (histories-are-kept (record { batches = txs_of (arc_value c.self.inside.plan).batches; steps = c.self.inside.steps.items }) c.self.invariant.replay)
+      (ready-taken (order_in (record { batches = (arc_value c.self.inside.plan).batches; steps = c.self.inside.steps.items })) (state_of (record { batches = (arc_value c.self.inside.plan).batches; steps = c.self.inside.steps.items })) c.self.inside.slots.queue i
+      c.self.invariant.slots_are.shows (histories-are-kept (record { batches = (arc_value c.self.inside.plan).batches; steps = c.self.inside.steps.items }) c.self.invariant.replay)
       (subst (λ (h : History). IsReady (order_in h) (state_of h) i) (sym c.self.view_is) ready));
 }
 
@@ -60,13 +59,13 @@ invariant_of-self-in_default-found c =
 pub keep_job-requires-clause-few : goal.keep_job-requires-clause-few
 keep_job-requires-clause-few c =
     let lefts = (subst (λ (all : List Step). AreLastsOf all c.self.inside.slots c.refresh.new.self) (c.deref-2.ensures.value ∙ c.reserve.ensures.items) c.in_ok-refresh.ensures.so) in
-    let is = kept-still (record { batches = txs_of (arc_value c.self.inside.plan).batches; steps = c.self.inside.steps.items }) c.self.inside.txs c.self.inside.named c.self.inside.slots c.self.inside.lasts c.refresh.new.self (vec_capacity c.self.inside.steps) c.self.invariant lefts in
+    let is = kept-still (record { batches = (arc_value c.self.inside.plan).batches; steps = c.self.inside.steps.items }) c.self.inside.txs c.self.inside.named c.self.inside.slots c.self.inside.lasts c.refresh.new.self (vec_capacity c.self.inside.steps) c.self.invariant lefts in
     let job : IsJobAt c.self.inside.txs c.self.inside.named (record { queue = c.take.new.self; ends = c.self.inside.slots.ends; hits = c.self.inside.slots.hits; kept = c.self.inside.slots.kept; verdicts = c.self.inside.slots.verdicts; running = c.self.inside.slots.running }) c.refresh.new.self.layers c.in-Some.k c.in-Ok.job c.in-Ok.view =
     subst (λ (xs : List (Arc Tx Global)). IsJobAt xs c.self.inside.named (record { queue = c.take.new.self; ends = c.self.inside.slots.ends; hits = c.self.inside.slots.hits; kept = c.self.inside.slots.kept; verdicts = c.self.inside.slots.verdicts; running = c.self.inside.slots.running }) c.refresh.new.self.layers c.in-Some.k c.in-Ok.job c.in-Ok.view) c.as_slice.ensures c.in-Ok.ensures in
-    let shown = shown-taken (record { batches = txs_of (arc_value c.self.inside.plan).batches; steps = c.self.inside.steps.items }) c.self.inside.txs c.self.inside.named c.self.inside.slots c.self.inside.lasts c.refresh.new.self (vec_capacity c.self.inside.steps) c.self.invariant lefts
+    let shown = shown-taken (record { batches = (arc_value c.self.inside.plan).batches; steps = c.self.inside.steps.items }) c.self.inside.txs c.self.inside.named c.self.inside.slots c.self.inside.lasts c.refresh.new.self (vec_capacity c.self.inside.steps) c.self.invariant lefts
     (c.refresh.ensures.stays ∙ (c.in_ok-absorb.ensures.ok ∙ ap (λ (all : List Step). length all) (c.deref.ensures.value ∙ c.reserve.ensures.items))) c.in_ok-refresh.ensures.ok in
-    let attempt = attempt-is (record { batches = txs_of (arc_value c.self.inside.plan).batches; steps = c.self.inside.steps.items }) c.self.inside.txs c.self.inside.named c.self.inside.slots c.refresh.new.self (vec_capacity c.self.inside.steps) is c.in-Some.k c.in-Some.ensures.taken.1 (record { queue = c.take.new.self; ends = c.self.inside.slots.ends; hits = c.self.inside.slots.hits; kept = c.self.inside.slots.kept; verdicts = c.self.inside.slots.verdicts; running = c.self.inside.slots.running }) c.in-Some.ensures.taken.0 refl c.in-Ok.job c.in-Ok.view job shown in
-    let few = attempts-few (record { batches = txs_of (arc_value c.self.inside.plan).batches; steps = c.self.inside.steps.items }) c.in-Some.k in
+    let attempt = attempt-is (record { batches = (arc_value c.self.inside.plan).batches; steps = c.self.inside.steps.items }) c.self.inside.txs c.self.inside.named c.self.inside.slots c.refresh.new.self (vec_capacity c.self.inside.steps) is c.in-Some.k c.in-Some.ensures.taken.1 (record { queue = c.take.new.self; ends = c.self.inside.slots.ends; hits = c.self.inside.slots.hits; kept = c.self.inside.slots.kept; verdicts = c.self.inside.slots.verdicts; running = c.self.inside.slots.running }) c.in-Some.ensures.taken.0 refl c.in-Ok.job c.in-Ok.view job shown in
+    let few = attempts-few (record { batches = (arc_value c.self.inside.plan).batches; steps = c.self.inside.steps.items }) c.in-Some.k in
     let long = c.self.inside.steps.ok.0 in
     let small = c.self.inside.steps.small in
     omega (arith, attempt, few, long, small)
@@ -74,15 +73,15 @@ keep_job-requires-clause-few c =
 pub invariant_of-self-2 : goal.invariant_of-self-2
 invariant_of-self-2 c =
     let lefts = (subst (λ (all : List Step). AreLastsOf all c.self.inside.slots c.refresh.new.self) (c.deref-2.ensures.value ∙ c.reserve.ensures.items) c.in_ok-refresh.ensures.so) in
-    let is = kept-still (record { batches = txs_of (arc_value c.self.inside.plan).batches; steps = c.self.inside.steps.items }) c.self.inside.txs c.self.inside.named c.self.inside.slots c.self.inside.lasts c.refresh.new.self (vec_capacity c.self.inside.steps) c.self.invariant lefts in
+    let is = kept-still (record { batches = (arc_value c.self.inside.plan).batches; steps = c.self.inside.steps.items }) c.self.inside.txs c.self.inside.named c.self.inside.slots c.self.inside.lasts c.refresh.new.self (vec_capacity c.self.inside.steps) c.self.invariant lefts in
     let job : IsJobAt c.self.inside.txs c.self.inside.named (record { queue = c.take.new.self; ends = c.self.inside.slots.ends; hits = c.self.inside.slots.hits; kept = c.self.inside.slots.kept; verdicts = c.self.inside.slots.verdicts; running = c.self.inside.slots.running }) c.refresh.new.self.layers c.in-Some.k c.in-Ok.job c.in-Ok.view =
     subst (λ (xs : List (Arc Tx Global)). IsJobAt xs c.self.inside.named (record { queue = c.take.new.self; ends = c.self.inside.slots.ends; hits = c.self.inside.slots.hits; kept = c.self.inside.slots.kept; verdicts = c.self.inside.slots.verdicts; running = c.self.inside.slots.running }) c.refresh.new.self.layers c.in-Some.k c.in-Ok.job c.in-Ok.view) c.as_slice.ensures c.in-Ok.ensures in
-    let shown = shown-taken (record { batches = txs_of (arc_value c.self.inside.plan).batches; steps = c.self.inside.steps.items }) c.self.inside.txs c.self.inside.named c.self.inside.slots c.self.inside.lasts c.refresh.new.self (vec_capacity c.self.inside.steps) c.self.invariant lefts
+    let shown = shown-taken (record { batches = (arc_value c.self.inside.plan).batches; steps = c.self.inside.steps.items }) c.self.inside.txs c.self.inside.named c.self.inside.slots c.self.inside.lasts c.refresh.new.self (vec_capacity c.self.inside.steps) c.self.invariant lefts
     (c.refresh.ensures.stays ∙ (c.in_ok-absorb.ensures.ok ∙ ap (λ (all : List Step). length all) (c.deref.ensures.value ∙ c.reserve.ensures.items))) c.in_ok-refresh.ensures.ok in
     let enough : length c.self.inside.steps.items + (c.self.inside.slots.running + 2) ≤ vec_capacity c.reserve.new.self =
     (let more = c.in_ok-reserve.ensures.ok in let long = c.self.inside.steps.ok.0 in omega (arith, more, long)) in
     let room : vec_capacity c.reserve.new.self ≤ vec_capacity c.add_step.new.steps = c.add_step.ensures.room in
-    taken (record { batches = txs_of (arc_value c.self.inside.plan).batches; steps = c.self.inside.steps.items }) c.self.inside.txs c.self.inside.named c.self.inside.slots c.refresh.new.self (vec_capacity c.self.inside.steps) is c.in-Some.k c.in-Some.ensures.taken.1 (record { queue = c.take.new.self; ends = c.self.inside.slots.ends; hits = c.self.inside.slots.hits; kept = c.self.inside.slots.kept; verdicts = c.self.inside.slots.verdicts; running = c.self.inside.slots.running }) c.in-Some.ensures.taken.0 refl c.in-Ok.job c.in-Ok.view job shown
+    taken (record { batches = (arc_value c.self.inside.plan).batches; steps = c.self.inside.steps.items }) c.self.inside.txs c.self.inside.named c.self.inside.slots c.refresh.new.self (vec_capacity c.self.inside.steps) is c.in-Some.k c.in-Some.ensures.taken.1 (record { queue = c.take.new.self; ends = c.self.inside.slots.ends; hits = c.self.inside.slots.hits; kept = c.self.inside.slots.kept; verdicts = c.self.inside.slots.verdicts; running = c.self.inside.slots.running }) c.in-Some.ensures.taken.0 refl c.in-Ok.job c.in-Ok.view job shown
     (record { queue = c.take.new.self; ends = c.self.inside.slots.ends; hits = c.self.inside.slots.hits; kept = c.keep_job.new.kept; verdicts = c.self.inside.slots.verdicts; running = c.self.inside.slots.running + 1 })
     c.add_step.new.steps.items (vec_capacity c.add_step.new.steps)
     refl refl refl refl c.keep_job.ensures.long c.keep_job.ensures.others (λ one e. one-is c.keep_job.new.kept.items c.in-Some.k _ one c.keep_job.ensures.here e) refl
@@ -91,15 +90,15 @@ invariant_of-self-2 c =
 pub returns-clause-ok : goal.returns-clause-ok
 returns-clause-ok c =
     let lefts = (subst (λ (all : List Step). AreLastsOf all c.self.inside.slots c.refresh.new.self) (c.deref-2.ensures.value ∙ c.reserve.ensures.items) c.in_ok-refresh.ensures.so) in
-    let is = kept-still (record { batches = txs_of (arc_value c.self.inside.plan).batches; steps = c.self.inside.steps.items }) c.self.inside.txs c.self.inside.named c.self.inside.slots c.self.inside.lasts c.refresh.new.self (vec_capacity c.self.inside.steps) c.self.invariant lefts in
+    let is = kept-still (record { batches = (arc_value c.self.inside.plan).batches; steps = c.self.inside.steps.items }) c.self.inside.txs c.self.inside.named c.self.inside.slots c.self.inside.lasts c.refresh.new.self (vec_capacity c.self.inside.steps) c.self.invariant lefts in
     let job : IsJobAt c.self.inside.txs c.self.inside.named (record { queue = c.take.new.self; ends = c.self.inside.slots.ends; hits = c.self.inside.slots.hits; kept = c.self.inside.slots.kept; verdicts = c.self.inside.slots.verdicts; running = c.self.inside.slots.running }) c.refresh.new.self.layers c.in-Some.k c.in-Ok.job c.in-Ok.view =
     subst (λ (xs : List (Arc Tx Global)). IsJobAt xs c.self.inside.named (record { queue = c.take.new.self; ends = c.self.inside.slots.ends; hits = c.self.inside.slots.hits; kept = c.self.inside.slots.kept; verdicts = c.self.inside.slots.verdicts; running = c.self.inside.slots.running }) c.refresh.new.self.layers c.in-Some.k c.in-Ok.job c.in-Ok.view) c.as_slice.ensures c.in-Ok.ensures in
-    let shown = shown-taken (record { batches = txs_of (arc_value c.self.inside.plan).batches; steps = c.self.inside.steps.items }) c.self.inside.txs c.self.inside.named c.self.inside.slots c.self.inside.lasts c.refresh.new.self (vec_capacity c.self.inside.steps) c.self.invariant lefts
+    let shown = shown-taken (record { batches = (arc_value c.self.inside.plan).batches; steps = c.self.inside.steps.items }) c.self.inside.txs c.self.inside.named c.self.inside.slots c.self.inside.lasts c.refresh.new.self (vec_capacity c.self.inside.steps) c.self.invariant lefts
     (c.refresh.ensures.stays ∙ (c.in_ok-absorb.ensures.ok ∙ ap (λ (all : List Step). length all) (c.deref.ensures.value ∙ c.reserve.ensures.items))) c.in_ok-refresh.ensures.ok in
     subst (λ (h : History). IsTake c.args.self.now h c.in-Ok.job)
     (ap (λ (h : History). with_step h (Take c.in-Ok.job.ticket)) (sym c.self.view_is)
-    ∙ sym (ap (λ (all : List Step). record { batches = txs_of (arc_value c.self.inside.plan).batches; steps = all }) (c.add_step.ensures.more ∙ ap (λ (all : List Step). all ++ Take c.in-Ok.job.ticket ∷ []) c.reserve.ensures.items)))
-    (subst (λ (h : History). IsTake h (with_step h (Take c.in-Ok.job.ticket)) c.in-Ok.job) c.self.view_is (is-take (record { batches = txs_of (arc_value c.self.inside.plan).batches; steps = c.self.inside.steps.items }) c.self.inside.txs c.self.inside.named c.self.inside.slots c.refresh.new.self (vec_capacity c.self.inside.steps) is c.in-Some.k c.in-Some.ensures.taken.1 (record { queue = c.take.new.self; ends = c.self.inside.slots.ends; hits = c.self.inside.slots.hits; kept = c.self.inside.slots.kept; verdicts = c.self.inside.slots.verdicts; running = c.self.inside.slots.running }) c.in-Some.ensures.taken.0 refl c.in-Ok.job c.in-Ok.view job shown))
+    ∙ sym (ap (λ (all : List Step). record { batches = (arc_value c.self.inside.plan).batches; steps = all }) (c.add_step.ensures.more ∙ ap (λ (all : List Step). all ++ Take c.in-Ok.job.ticket ∷ []) c.reserve.ensures.items)))
+    (subst (λ (h : History). IsTake h (with_step h (Take c.in-Ok.job.ticket)) c.in-Ok.job) c.self.view_is (is-take (record { batches = (arc_value c.self.inside.plan).batches; steps = c.self.inside.steps.items }) c.self.inside.txs c.self.inside.named c.self.inside.slots c.refresh.new.self (vec_capacity c.self.inside.steps) is c.in-Some.k c.in-Some.ensures.taken.1 (record { queue = c.take.new.self; ends = c.self.inside.slots.ends; hits = c.self.inside.slots.hits; kept = c.self.inside.slots.kept; verdicts = c.self.inside.slots.verdicts; running = c.self.inside.slots.running }) c.in-Some.ensures.taken.0 refl c.in-Ok.job c.in-Ok.view job shown))
 
 on_err : {T E : Type 0} (r : Result T E) (P : Type 0) → P → OnErr r P
 on_err (Ok x) P p = tt
@@ -113,7 +112,7 @@ invariant_of-self c =
 
 pub returns-in_err-reserve-clause-err : goal.returns-in_err-reserve-clause-err
 returns-in_err-reserve-clause-err c = on_err c.from_residual.result _
-    (ap (λ (steps : List Step). record { batches = txs_of (arc_value c.self.inside.plan).batches; steps = steps }) c.reserve.ensures.items ∙ c.self.view_is)
+    (ap (λ (steps : List Step). record { batches = (arc_value c.self.inside.plan).batches; steps = steps }) c.reserve.ensures.items ∙ c.self.view_is)
 
 pub absorb-requires-clause-long : goal.absorb-requires-clause-long
 absorb-requires-clause-long c = c.self.invariant.slots_are.kept_long
@@ -131,7 +130,7 @@ invariant_of-self-in_err-absorb c =
 
 pub returns-in_err-absorb-clause-err : goal.returns-in_err-absorb-clause-err
 returns-in_err-absorb-clause-err c = on_err c.from_residual-in_err-absorb.result _
-    (ap (λ (steps : List Step). record { batches = txs_of (arc_value c.self.inside.plan).batches; steps = steps }) c.reserve.ensures.items ∙ c.self.view_is)
+    (ap (λ (steps : List Step). record { batches = (arc_value c.self.inside.plan).batches; steps = steps }) c.reserve.ensures.items ∙ c.self.view_is)
 
 pub refresh-requires-clause-long : goal.refresh-requires-clause-long
 refresh-requires-clause-long c = c.self.invariant.slots_are.kept_long
@@ -149,7 +148,7 @@ invariant_of-self-in_err-refresh c =
 
 pub returns-in_err-refresh-clause-err : goal.returns-in_err-refresh-clause-err
 returns-in_err-refresh-clause-err c = on_err c.from_residual-in_err-refresh.result _
-    (ap (λ (steps : List Step). record { batches = txs_of (arc_value c.self.inside.plan).batches; steps = steps }) c.reserve.ensures.items ∙ c.self.view_is)
+    (ap (λ (steps : List Step). record { batches = (arc_value c.self.inside.plan).batches; steps = steps }) c.reserve.ensures.items ∙ c.self.view_is)
 
 pub returns-in_default-clause-err : goal.returns-in_default-clause-err
 returns-in_default-clause-err c = tt
@@ -179,7 +178,7 @@ returns-in_default-found-clause-ok c = tt
 
 pub returns-in_default-found-clause-err : goal.returns-in_default-found-clause-err
 returns-in_default-found-clause-err c =
-    ap (λ (steps : List Step). record { batches = txs_of (arc_value c.self.inside.plan).batches; steps = steps }) c.reserve.ensures.items ∙ c.self.view_is
+    ap (λ (steps : List Step). record { batches = (arc_value c.self.inside.plan).batches; steps = steps }) c.reserve.ensures.items ∙ c.self.view_is
 
 pub keep_job-requires-clause-inside : goal.keep_job-requires-clause-inside
 keep_job-requires-clause-inside c =
