@@ -1,5 +1,5 @@
 -- A refused request is the last of its transaction: the families ask for nothing more.
-use Rattle.std.proofs.Common.{◌≡◌, ℕ, Bool, true, false, cond, not, ◌||◌, List, [], ◌∷◌, ◌++◌, map, length, slice_set, Option, Some, None, Result, Ok, Err, ◌==◌, refl, ap, subst, sym, ◌∙◌}
+use Rattle.std.proofs.Common.{◌≡◌, ℕ, Bool, true, false, cond, not, ◌||◌, List, [], ◌∷◌, ◌++◌, map, length, slice_set, Option, Some, None, Result, Ok, Err, ◌==◌, refl, subst, sym}
 use Rattle.std.specs.Prelude.{nat_le}
 use Rattle.std.specs.List.{list_any, remove}
 use Rattle.saw_context.specs.Outcome.{is_request}
@@ -23,7 +23,7 @@ use Rattle.saw_settings.specs.Actions.{propose_under, proposal_fault, put_to_vot
 use Rattle.saw_settings.specs.Actions.{vote_under, with_vote, write}
 use Rattle.saw_settings.specs.Keys.{approval_threshold, authorized_keys, proposals, with_value}
 use Rattle.saw_settings.specs.Messages.{setting, setting_proposal, setting_vote, settings_payload}
-use Rattle.saw_settings.specs.Replies.{Told, Due, Goes, and_then, done, done_by, entries_at, entries_told, set_to, then_do, told_by, told_of, update_of}
+use Rattle.saw_settings.specs.Replies.{Told, Due, Goes, and_then, done, done_by, entries_at, entries_told, set_to, then_do, told_by, update_of}
 use Rattle.saw_settings.specs.Replies.{value_at, value_told, written_to}
 use Rattle.saw_settings.specs.Values.{candidates_of_value, kept_text, keys_of, threshold_of}
 use Rattle.saw_settings.specs.declared.candidate.SettingCandidate.{SettingCandidate}
