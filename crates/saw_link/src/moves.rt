@@ -311,6 +311,7 @@ fn take_turn(
     ensures link { IsErrOf result Trouble.Link → ⊥ }
 {
     let (asked, action) = acting(said)?;
+    // There is one, by what is required.
     let Some(last) = standing.last.take() else {
         return Err(Trouble::Closed);
     };
