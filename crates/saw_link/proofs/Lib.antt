@@ -5,3 +5,4 @@ pub mod Contents
 pub mod LinkRuns
 pub mod Steps
 pub mod Stops
+pub mod Leaving

@@ -9,7 +9,7 @@ use Rattle.saw_messages.specs.TxShapes.{TxShape}
 use Rattle.saw_messages.specs.declared.talk.Action.{Action}
 use Rattle.saw_messages.specs.declared.talk.Turn.{Turn}
 use Rattle.saw_link.specs.declared.standing.Standing.{Standing}
-use Rattle.saw_link.specs.LinkConversation.{Move, Answers, Begins, Refuses, Registers, IsActOf, IsNext, Spells, none, more, IsSpelled, IsDue, AreWithin, IsAct, Obeys, ObeysAfter, Moved, Ran, after, exchanged, fresh, sent_before}
+use Rattle.saw_link.specs.LinkConversation.{Move, Answers, Begins, Refuses, Registers, Closed, IsActOf, IsNext, Spells, none, more, IsSpelled, IsDue, AreWithin, IsAct, Obeys, ObeysAfter, Moved, Ran, after, exchanged, fresh, sent_before}
 use Rattle.saw_link.specs.declared.passed.Passed.{Passed}
 use Rattle.saw_link.specs.declared.passed.Passed.TheVariants.{Sent}
 use Rattle.saw_link.specs.SentFrames.{limit_of}
@@ -66,6 +66,15 @@ spells_on first none = rw (append-nil, append-nil) first
 spells_on first (more move frame next rest due legal within) =
     rw (← append_assoc, ← append_assoc) (more move frame next (spells_on first rest) due legal within)
 
+pub pushed_some : (moves : List Move) (move : Move) → moves ++ move ∷ [] ≡ [] → ⊥
+pushed_some [] move is = cc
+pushed_some (x ∷ moves) move is = cc
+
+-- no moves lead nowhere
+pub spells_nil : {start next : Standing} {moves : List Move} {passed : List Passed} → Spells start moves passed next → moves ≡ [] → start ≡ next
+spells_nil none is = refl
+spells_nil (more {moves} move frame next rest due legal within) is = absurd (pushed_some moves move is)
+
 pub ran_none : (told : Option (List Passed)) (s : Standing) → Ran told s [] told s
 ran_none told s = record { passed = []; spells = none; adds = adds_none told }
 
@@ -91,25 +100,42 @@ spelled_moved told s move second last spelled moved =
 
 -- ---- refusals
 
-pub record Closing (told : Option (List Passed)) (s : Standing) (later : Option (List Passed)) (next : Standing) : Type 0 where
+-- some refusals, or none where it is the first
+pub record Closing (first : Bool) (told : Option (List Passed)) (s : Standing) (later : Option (List Passed)) (next : Standing) : Type 0 where
   pub moves : List Move
   pub refuses : AllByRecursion (λ move. move ≡ Refuses) moves
   pub ran : Ran told s moves later next
+  pub untouched : first ≡ true → moves ≡ []
+  pub behind : first ≡ false → moves ≡ [] → ⊥
 
-pub closing_none : (told : Option (List Passed)) (s : Standing) → Closing told s told s
-closing_none told s = record { moves = []; refuses = tt; ran = ran_none told s }
+true_is_not_false : true ≡ false → ⊥
+true_is_not_false e = cc
+
+false_is_not_true : false ≡ true → ⊥
+false_is_not_true e = cc
+
+pub closing_none : (told : Option (List Passed)) (s : Standing) → Closing true told s told s
+closing_none told s = record {
+  moves = [];
+  refuses = tt;
+  ran = ran_none told s;
+  untouched = λ is. refl;
+  behind = λ is. absurd (true_is_not_false is);
+}
 
 all_more : (moves : List Move) → AllByRecursion (λ move. move ≡ Refuses) moves → AllByRecursion (λ move. move ≡ Refuses) (moves ++ Refuses ∷ [])
 all_more [] all = (refl, tt)
 all_more (move ∷ moves) all = (all.0, all_more moves all.1)
 
-pub closing_more : (told : Option (List Passed)) (s : Standing) (second : Option (List Passed)) (between : Standing) (third : Option (List Passed))
-    (last : Standing)
-    → Closing told s second between → Moved second between Refuses third last → Closing told s third last
-closing_more told s second between third last closing moved = record {
+pub closing_more : (first : Bool) (told : Option (List Passed)) (s : Standing) (second : Option (List Passed)) (between : Standing)
+    (third : Option (List Passed)) (last : Standing)
+    → Closing first told s second between → Moved second between Refuses third last → Closing false told s third last
+closing_more first told s second between third last closing moved = record {
   moves = closing.moves ++ Refuses ∷ [];
   refuses = all_more closing.moves closing.refuses;
   ran = ran_more told s closing.moves second between Refuses third last closing.ran moved;
+  untouched = λ is. absurd (false_is_not_true is);
+  behind = λ is. pushed_some closing.moves Refuses;
 }
 
 -- ---- registrations
@@ -135,8 +161,8 @@ entering_more told s second between third last entering moved = record {
   ran = ran_more told s entering.moves second between Registers third last entering.ran moved;
 }
 
-false_is_not_true : false ≡ true → ⊥
-false_is_not_true e = cc
+pub closed_none : (told : Option (List Passed)) (s : Standing) → s.asked ≡ None → Closed told s told s
+closed_none told s done = record { moves = []; refuses = tt; ran = ran_none told s; done = done }
 
 -- ---- a station over a link over which nothing passed
 

@@ -146,12 +146,11 @@ registers_moved told mid later s next frame sent limit found short limit_is said
       adds = subst P (ap (λ x. Received frame ∷ x) (sym sent_here)) (adds_two told mid later (Received frame ∷ []) (Sent sent ∷ []) received answered);
     }
 
-fits_last : (s : Standing) (x : Option LastStep) (reply : Reply) (h : Heard) (next : Standing) → answered s x reply h ≡ Some next
-    → IfSome x (λ last. fits last.action reply ≡ true) → FitsLast x reply
-fits_last s None reply h next legal fit = absurd cc
-fits_last s (Some last) reply h next legal fit = fit
+fits_some : (x : Option LastStep) (reply : Reply) → IsSome x → IfSome x (λ last. fits last.action reply ≡ true) → FitsLast x reply
+fits_some None reply some fit = absurd cc
+fits_some (Some last) reply some fit = fit
 
--- an answer is due
-pub due_answers : (s : Standing) (asked : Asked) (reply : Reply) (h : Heard) (next : Standing) → s.refused ≡ 0 → s.asked ≡ Some asked
-    → answered s s.last reply h ≡ Some next → IfSome s.last (λ last. fits last.action reply ≡ true) → IsDue s (Answers reply)
-due_answers s asked reply h next still asked_is legal fit = (still, ap is_some asked_is, fits_last s s.last reply h next legal fit)
+-- a request waits, so an answer is due
+pub due_waiting : (s : Standing) (asked : Asked) (reply : Reply) → s.refused ≡ 0 → s.asked ≡ Some asked → IsSome s.last
+    → IfSome s.last (λ last. fits last.action reply ≡ true) → IsDue s (Answers reply)
+due_waiting s asked reply still asked_is some fit = (still, ap is_some asked_is, fits_some s.last reply some fit)

@@ -165,12 +165,13 @@ pub record IsNext (next : TxShape → List Turn → Action) (s : Standing) (move
   pub acts : IsActOf next then_it.last
 
 -- A frame that a peer whose actions are these may send at this place. A peer cannot tell a refusal that ends a conversation
--- from one that answers a request, so nothing but a request or an end is asked of it there.
+-- from one that answers a request, so its actions are not asked of it there. But a peer that is told knows how many refusals
+-- came, so a frame that is not legal there, as a request after the thousandth, is none of its own.
 abbrev pub IsAllowed : (TxShape → List Turn → Action) → Standing → Move → List ℕ → Type 0
 IsAllowed next s Registers frame = after s Registers frame ≡ None → ⊥
 IsAllowed next s (Begins tx) frame = IsNext next s (Begins tx) frame
 IsAllowed next s (Answers reply) frame = IsNext next s (Answers reply) frame
-IsAllowed next s Refuses frame = heard (limit_of s.version) (decimal s.count) frame ≡ Breach → ⊥
+IsAllowed next s Refuses frame = after s Refuses frame ≡ None → ⊥
 
 -- the frame that came next after what had passed is allowed, where that spelled a conversation up to it and what the
 -- station sent last is not too long

@@ -10,9 +10,9 @@ use Rattle.saw_station.specs.TalkSteps.{Step}
 use Rattle.saw_station.specs.declared.fault.StationFault.{StationFault}
 use Rattle.saw_station.specs.declared.fault.StationFault.TheVariants as stations
 use Rattle.saw_link.specs.Copies.{kept_tx}
-use Rattle.saw_link.specs.LinkConversation.{Answers, Began, Moved, IsSpelled, fresh}
+use Rattle.saw_link.specs.LinkConversation.{Answers, Began, IsDue, Moved, IsSpelled, fresh}
 use Rattle.saw_link.specs.declared.passed.Passed.{Passed}
-use Rattle.saw_link.specs.Troubles.{Stopped}
+use Rattle.saw_link.specs.Troubles.{StopsBeginning, Troubled}
 use Rattle.saw_link.specs.declared.exchange.Trouble.{Trouble}
 use Rattle.saw_link.specs.declared.exchange.Trouble.TheVariants as troubles
 use Rattle.saw_link.specs.declared.remote.Health.{Health}
@@ -59,6 +59,25 @@ pub record Answered (told : Option (List Passed)) (s : Standing) (turns : List T
 abbrev pub Stepped : Option (List Passed) → Standing → TxShape → List Turn → Option (List Passed) → Standing → Type 0
 Stepped told s tx turns later next = ((turns ≡ []) × Began told s (kept_tx tx) later next) ⊎ Answered told s turns later next
 
+-- the answer to the last step's request, by the reply that the turns add to it, did not come to its end
+pub record StopsAnswering (turns : List Turn) (trouble : Trouble) (told : Option (List Passed)) (s : Standing) (later : Option (List Passed)) : Type 0 where
+  pub last : LastStep
+  pub reply : Reply
+  pub had : s.last ≡ Some last
+  pub adds : turns ≡ last.turns ++ record { action = last.action; reply = reply } ∷ []
+  pub due : IsDue s (Answers reply)
+  pub came : Troubled trouble told s (Answers reply) later
+
+-- no conversation is open that could go on, and nothing passed
+abbrev pub StopsClosed : Trouble → Option (List Passed) → Standing → Option (List Passed) → Type 0
+StopsClosed trouble told s later = (trouble ≡ troubles.Closed) × ((s.asked ≡ None) ⊎ (s.last ≡ None)) × (later ≡ told)
+
+-- why a step did not come to its end
+abbrev pub StopsStep : TxShape → List Turn → Trouble → Option (List Passed) → Standing → Option (List Passed) → Type 0
+StopsStep tx turns trouble told s later =
+    ((turns ≡ []) × StopsBeginning (kept_tx tx) trouble told s later) ⊎ (StopsAnswering turns trouble told s later ⊎ StopsClosed trouble told s later)
+
+-- what a station answers of a trouble
 abbrev pub fault_of : Trouble → StationFault
 fault_of troubles.Link = stations.PeerFailed
 fault_of troubles.TooLong = stations.PeerFailed
@@ -66,16 +85,21 @@ fault_of troubles.Ended = stations.PeerFailed
 fault_of troubles.Broken = stations.PeerFailed
 fault_of (troubles.Breach frame) = stations.PeerFailed
 fault_of troubles.Exhausted = stations.PeerFailed
+fault_of troubles.Early = stations.OutOfMemory
+fault_of troubles.Closed = stations.PeerFailed
 fault_of troubles.OutOfMemory = stations.OutOfMemory
 
+-- whether a station may be used after a fault that is not early
 abbrev pub health_of : StationFault → Health
 health_of stations.PeerFailed = Failed
 health_of stations.OutOfMemory = Starved
 
+-- a failure is counted, up to the last count
 abbrev pub faults_after : ℕ → StationFault → ℕ
 faults_after faults stations.PeerFailed = min (faults + 1) last_count
 faults_after faults stations.OutOfMemory = faults
 
+-- the frame that was not legal
 abbrev pub breach_of : Trouble → Option (List ℕ)
 breach_of troubles.Link = None
 breach_of troubles.TooLong = None
@@ -83,18 +107,26 @@ breach_of troubles.Ended = None
 breach_of troubles.Broken = None
 breach_of (troubles.Breach frame) = Some frame
 breach_of troubles.Exhausted = None
+breach_of troubles.Early = None
+breach_of troubles.Closed = None
 breach_of troubles.OutOfMemory = None
 
--- after a failure each further call fails and is counted; after want of memory each answers that
+-- what a trouble leaves of a station
+abbrev pub Leaves : {L : Type 0} → Trouble → Remote L → Remote L → Type 0
+Leaves troubles.Early before after = after ≡ before
+Leaves trouble before after = (after.health ≡ health_of (fault_of trouble)) × (after.breach ≡ breach_of trouble)
+
+-- a failure is counted; after one each further call fails and is counted, and after want of memory each answers that
 abbrev pub GoesOn : Health → Health → StationFault → ℕ → ℕ → Type 0
-GoesOn Sound later fault before after = (later ≡ health_of fault) × (after ≡ faults_after before fault)
+GoesOn Sound later fault before after = after ≡ faults_after before fault
 GoesOn Failed later fault before after = (later ≡ Failed) × (fault ≡ stations.PeerFailed) × (after ≡ min (before + 1) last_count)
 GoesOn Starved later fault before after = (later ≡ Starved) × (fault ≡ stations.OutOfMemory) × (after ≡ before)
 
--- why a call failed: the trouble, the moves that came to their end before it, and the frame that was not legal
-pub record Why {L : Type 0} (told : L → Option (List Passed)) (counted : L → ℕ) (before after : Remote L) (fault : StationFault) : Type 0 where
+-- why a call failed: the trouble, in which way it stopped the call, and what it leaves of the station
+pub record Why {L : Type 0} (told : L → Option (List Passed)) (counted : L → ℕ) (stops : Trouble → Option (List Passed) → Standing → Option (List Passed) → Type 0)
+    (before after : Remote L) (fault : StationFault) : Type 0 where
   pub trouble : Trouble
   pub is : fault ≡ fault_of trouble
-  pub stopped : Stopped trouble (told before.link) before.standing (told after.link)
+  pub stopped : stops trouble (told before.link) before.standing (told after.link)
   pub link : trouble ≡ troubles.Link → Rose (counted before.link) (counted after.link)
-  pub breach : after.breach ≡ breach_of trouble
+  pub leaves : Leaves trouble before after

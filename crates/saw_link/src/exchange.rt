@@ -28,6 +28,11 @@ pub(crate) enum Trouble {
     Breach(Bytes),
     /// No further number for a transaction.
     Exhausted,
+    /// Memory was refused before the first frame of the call.
+    Early,
+    /// No conversation is open that could go on.
+    Closed,
+    /// Memory was refused later.
     OutOfMemory,
 }
 
@@ -75,6 +80,7 @@ pub(crate) fn send<L: Link>(
     ensures within { OnOk result (length frame.now ≤ limit) }
     ensures later { L.faults link.old ≤ L.faults link.new }
     ensures link { IsErrOf result Trouble.Link → Rose (L.faults link.old) (L.faults link.new) }
+    ensures early { IsErrOf result Trouble.Early → ⊥ }
     ensures unsent { IfErr result (λ trouble. Unsent trouble (L.told link.old) limit frame.now (L.told link.new)) }
 {
     if frame.len() > limit {
@@ -91,6 +97,7 @@ pub(crate) fn receive<L: Link>(alloc: Global, link: &mut L) -> Result<Vec<u8>, T
     ensures whole { L.tells ≡ true → IsSome (L.told link.old) }
     ensures later { L.faults link.old ≤ L.faults link.new }
     ensures link { IsErrOf result Trouble.Link → Rose (L.faults link.old) (L.faults link.new) }
+    ensures early { IsErrOf result Trouble.Early → ⊥ }
     ensures unreceived { IfErr result (λ trouble. Unreceived trouble (L.told link.old) (L.told link.new)) }
 {
     match link.receive(alloc)? {

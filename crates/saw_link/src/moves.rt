@@ -1,6 +1,6 @@
 //! What a station does on its link, each time until the peer's next frame.
 
-ghost use Rattle.std.specs.Prelude.{◌≡◌, ◌+◌, ◌≤◌, ◌<◌, ◌∷◌, ◌++◌, [], ℕ, List, Option, true, false, Some, None, is_some, length, IfOk, IfErr, IfSome, OnOk, IsErrOf, IsSome};
+ghost use Rattle.std.specs.Prelude.{◌≡◌, ◌+◌, ◌≤◌, ◌<◌, ◌∷◌, ◌++◌, [], ℕ, List, Option, true, false, Some, None, is_some, length, IfOk, IfErr, IfSome, IfNone, OnOk, OnSome, IsErrOf, IsSome, ◌⊎◌};
 ghost use Rattle.std.specs.Fmt.{decimal};
 ghost use Rattle.saw_context.specs.Outcome.{is_request};
 ghost use Rattle.saw_faults.specs.Counts.{Rose};
@@ -10,8 +10,11 @@ ghost use Rattle.saw_station.specs.TalkSteps.{IsShort, fits};
 ghost use Rattle.saw_link.specs.Asking.{IsAsking};
 ghost use Rattle.saw_link.specs.Copies.{kept_tx};
 ghost use Rattle.saw_link.specs.Hearing.{heard, registration};
-ghost use Rattle.saw_link.specs.LinkConversation.{Move, Registers, Begins, Answers, Refuses, ObeysAfter, IsSpelled, IsAct, Moved, Closed, Registered, Began, acted, after, answered, closed, left_by, may_register, registered_by, version_by};
-ghost use Rattle.saw_link.specs.Troubles.{IsUnregistered, Unasked, Unacted, Troubled, Stopped};
+ghost use Rattle.saw_link.specs.LinkConversation.{Registers, Begins, Answers, Refuses, ObeysAfter, IsSpelled, IsAct, Moved, Closed, Registered, Began, acted, acted_by, after, answered, closed, left_by, may_register, registered, registered_by, version_by};
+ghost use Rattle.saw_link.specs.Troubles.{IsUnregistered, Acts, Unasked, Unspoken, Unacted, Unanswered, Troubled, StopsBeginning, StopsClosing, StopsRegistering, late};
+ghost use Rattle.saw_messages.specs.declared.talk.Turn.{Turn};
+ghost use Rattle.saw_messages.specs.declared.transaction.Transaction.{Transaction};
+ghost use Rattle.saw_link.specs.declared.standing.Standing.{Standing};
 ghost use Rattle.saw_link.specs.declared.passed.Passed.{Passed};
 ghost use Rattle.saw_link.specs.declared.passed.Passed.TheVariants.{Sent, Received};
 ghost use Rattle.saw_link.specs.SentFrames.{answer, limit_of, process_request, welcome};
@@ -57,6 +60,7 @@ fn ask<L: Link>(
     ensures obeys { L.tells ≡ true → IfOk result (λ said. ObeysAfter L.next (L.told link.old) sent.now said.frame) }
     ensures whole { L.tells ≡ true → OnOk result (IsSome (L.told link.old)) }
     ensures later { L.faults link.old ≤ L.faults link.new }
+    ensures early { IsErrOf result Trouble.Early → ⊥ }
     ensures unasked { IfErr result (λ trouble. Unasked trouble (L.told link.old) limit sent.now (L.told link.new)) }
     ensures link { IsErrOf result Trouble.Link → Rose (L.faults link.old) (L.faults link.new) }
 {
@@ -67,6 +71,35 @@ fn ask<L: Link>(
         heard,
         frame: Bytes::from_vec(frame),
     })
+}
+
+// The peer's action, and the request that waits with it. It takes no memory.
+fn acting(said: Said) -> Result<(Option<Asked>, Action), Trouble>
+    requires { IsAsking said.heard }
+    ensures acted { IfOk result (λ made. (s : Standing) (tx : Transaction) (turns : List Turn) (count : ℕ)
+        → acted s tx turns count said.heard ≡ acted_by s tx turns count made.0 (Some made.1)) }
+    ensures acts { OnOk result (Acts said.heard) }
+    ensures own { IfOk result (λ made. has_own_reason made.1 ≡ true) }
+    ensures short { IfOk result (λ made. IsShort made.1) }
+    ensures talking { IfOk result (λ made. is_some made.0 ≡ true → is_request made.1 ≡ true) }
+    ensures unacted { IfErr result (λ trouble. Unacted trouble said.heard said.frame) }
+    ensures memory { IsErrOf result Trouble.OutOfMemory → ⊥ }
+    ensures early { IsErrOf result Trouble.Early → ⊥ }
+    ensures link { IsErrOf result Trouble.Link → ⊥ }
+{
+    let Said { heard, frame } = said;
+    match heard {
+        Heard::Asks(asked, action) => Ok((Some(asked), action)),
+        Heard::Ends(Finish::Accepted) => Ok((None, Action::Ok)),
+        Heard::Ends(Finish::Refused) => {
+            let action = Action::Invalid {
+                reason: Reason::Remote,
+            };
+            Ok((None, action))
+        }
+        Heard::Ends(Finish::Broken) => Err(Trouble::Broken),
+        Heard::Breach => Err(Trouble::Breach(frame)),
+    }
 }
 
 // Keeps the action after these turns, with a copy.
@@ -87,21 +120,11 @@ fn act(
     ensures talking { IfOk result (λ action. is_some standing.new.asked ≡ true → is_request action ≡ true) }
     ensures offers { standing.new.offers ≡ standing.old.offers }
     ensures unacted { IfErr result (λ trouble. Unacted trouble said.heard said.frame) }
+    ensures early { IsErrOf result Trouble.Early → ⊥ }
     ensures link { IsErrOf result Trouble.Link → ⊥ }
 {
-    let Said { heard, frame } = said;
-    match heard {
-        Heard::Asks(asked, action) => keep(alloc, standing, tx, turns, count, Some(asked), action),
-        Heard::Ends(Finish::Accepted) => keep(alloc, standing, tx, turns, count, None, Action::Ok),
-        Heard::Ends(Finish::Refused) => {
-            let action = Action::Invalid {
-                reason: Reason::Remote,
-            };
-            keep(alloc, standing, tx, turns, count, None, action)
-        }
-        Heard::Ends(Finish::Broken) => Err(Trouble::Broken),
-        Heard::Breach => Err(Trouble::Breach(frame)),
-    }
+    let (asked, action) = acting(said)?;
+    keep(alloc, standing, tx, turns, count, asked, action)
 }
 
 fn keep(
@@ -118,6 +141,7 @@ fn keep(
     ensures action { IfOk result (λ made. made ≡ action) }
     ensures offers { standing.new.offers ≡ standing.old.offers }
     ensures memory { IfErr result (λ trouble. trouble ≡ Trouble.OutOfMemory) }
+    ensures early { IsErrOf result Trouble.Early → ⊥ }
     ensures link { IsErrOf result Trouble.Link → ⊥ }
 {
     let copy = copy_action(alloc, &action)?;
@@ -147,12 +171,15 @@ pub(crate) fn begin_tx<L: Link>(
     ensures offers { standing.new.offers ≡ standing.old.offers }
     ensures later { L.faults link.old ≤ L.faults link.new }
     ensures troubled { IfErr result (λ trouble. Troubled trouble (L.told link.old) standing.old (Begins (kept_tx tx.now)) (L.told link.new)) }
+    ensures early { IsErrOf result Trouble.Early → (link.new ≡ link.old) × (standing.new ≡ standing.old) }
     ensures link { IsErrOf result Trouble.Link → Rose (L.faults link.old) (L.faults link.new) }
 {
     let Some(count) = standing.count.checked_add(1) else {
         return Err(Trouble::Exhausted);
     };
-    let kept = copy_tx(alloc, tx)?;
+    let Ok(kept) = copy_tx(alloc, tx) else {
+        return Err(Trouble::Early);
+    };
     let said = match ask_about(alloc, link, standing.version, count, &kept) {
         Ok(said) => said,
         Err(trouble) => return Err(trouble),
@@ -175,11 +202,16 @@ fn ask_about<L: Link>(
     ensures obeys { L.tells ≡ true → IfOk result (λ said. ObeysAfter L.next (L.told link.old) (process_request version (decimal count) tx.now) said.frame) }
     ensures whole { L.tells ≡ true → OnOk result (IsSome (L.told link.old)) }
     ensures later { L.faults link.old ≤ L.faults link.new }
-    ensures unasked { IfErr result (λ trouble. Unasked trouble (L.told link.old) (limit_of version) (process_request version (decimal count) tx.now) (L.told link.new)) }
+    ensures early { IsErrOf result Trouble.Early → link.new ≡ link.old }
+    ensures unspoken { IfErr result (λ trouble. Unspoken trouble (L.told link.old) (limit_of version) (process_request version (decimal count) tx.now) (L.told link.new)) }
     ensures link { IsErrOf result Trouble.Link → Rose (L.faults link.old) (L.faults link.new) }
 {
-    let context = number(alloc, count)?;
-    let sent = process_request(alloc, version, &context, tx)?;
+    let Ok(context) = number(alloc, count) else {
+        return Err(Trouble::Early);
+    };
+    let Ok(sent) = process_request(alloc, version, &context, tx) else {
+        return Err(Trouble::Early);
+    };
     let limit = limit_of(version);
     ask(alloc, link, limit, context.as_str(), &sent)
 }
@@ -204,14 +236,27 @@ pub(crate) fn go_on<L: Link>(
     ensures talking { IfOk result (λ action. is_some standing.new.asked ≡ true → is_request action ≡ true) }
     ensures offers { standing.new.offers ≡ standing.old.offers }
     ensures later { L.faults link.old ≤ L.faults link.new }
-    ensures troubled { IfErr result (λ trouble. Troubled trouble (L.told link.old) standing.old (Answers reply.now) (L.told link.new)) }
+    ensures unanswered { IfErr result (λ trouble. Unanswered trouble (L.told link.old) standing.old reply.now (L.told link.new)) }
+    ensures early { IsErrOf result Trouble.Early → (link.new ≡ link.old) × (standing.new ≡ standing.old) }
     ensures link { IsErrOf result Trouble.Link → Rose (L.faults link.old) (L.faults link.new) }
 {
-    let Some(asked) = &standing.asked else {
-        return Err(Trouble::OutOfMemory);
+    let Some(asked) = waiting(standing) else {
+        return Err(Trouble::Closed);
     };
     let said = answer_asked(alloc, link, standing, asked, reply)?;
     take_turn(alloc, standing, reply, said)
+}
+
+// The request that waits, where a conversation is open that could go on.
+fn waiting(standing: &Standing) -> Option<&Asked>
+    ensures asked { IfSome result (λ asked. standing.now.asked ≡ Some asked.now) }
+    ensures last { OnSome result (IsSome standing.now.last) }
+    ensures none { IfNone result ((standing.now.asked ≡ None) ⊎ (standing.now.last ≡ None)) }
+{
+    match &standing.last {
+        Some(_) => standing.asked.as_ref(),
+        None => None,
+    }
 }
 
 // Answers this request, and hears the next frame.
@@ -229,11 +274,16 @@ fn answer_asked<L: Link>(
     ensures obeys { L.tells ≡ true → IfOk result (λ said. ObeysAfter L.next (L.told link.old) (answer asked.now reply.now) said.frame) }
     ensures whole { L.tells ≡ true → OnOk result (IsSome (L.told link.old)) }
     ensures later { L.faults link.old ≤ L.faults link.new }
-    ensures unasked { IfErr result (λ trouble. Unasked trouble (L.told link.old) (limit_of standing.now.version) (answer asked.now reply.now) (L.told link.new)) }
+    ensures early { IsErrOf result Trouble.Early → link.new ≡ link.old }
+    ensures unspoken { IfErr result (λ trouble. Unspoken trouble (L.told link.old) (limit_of standing.now.version) (answer asked.now reply.now) (L.told link.new)) }
     ensures link { IsErrOf result Trouble.Link → Rose (L.faults link.old) (L.faults link.new) }
 {
-    let sent = answer(alloc, asked, reply)?;
-    let context = number(alloc, standing.count)?;
+    let Ok(sent) = answer(alloc, asked, reply) else {
+        return Err(Trouble::Early);
+    };
+    let Ok(context) = number(alloc, standing.count) else {
+        return Err(Trouble::Early);
+    };
     let limit = limit_of(standing.version);
     ask(alloc, link, limit, context.as_str(), &sent)
 }
@@ -245,7 +295,8 @@ fn take_turn(
     reply: &Reply,
     said: Said,
 ) -> Result<Action, Trouble>
-    requires { IsAsking said.heard }
+    requires asking { IsAsking said.heard }
+    requires had { IsSome standing.old.last }
     ensures still { OnOk result ((standing.new.refused ≡ 0) × (standing.new.more ≡ standing.old.more)) }
     ensures answered { OnOk result (answered standing.old standing.old.last reply.now said.heard ≡ Some standing.new) }
     ensures last { IfOk result (λ action. IfSome standing.old.last (λ last. standing.new.last
@@ -256,14 +307,17 @@ fn take_turn(
     ensures talking { IfOk result (λ action. is_some standing.new.asked ≡ true → is_request action ≡ true) }
     ensures offers { standing.new.offers ≡ standing.old.offers }
     ensures unacted { IfErr result (λ trouble. Unacted trouble said.heard said.frame) }
+    ensures early { IsErrOf result Trouble.Early → ⊥ }
     ensures link { IsErrOf result Trouble.Link → ⊥ }
 {
+    let (asked, action) = acting(said)?;
+    // There is one, by what is required.
     let Some(last) = standing.last.take() else {
-        return Err(Trouble::OutOfMemory);
+        return Err(Trouble::Closed);
     };
     let (tx, turns) = turns_behind(alloc, last, reply)?;
     let count = standing.count;
-    act(alloc, standing, tx, turns, count, said)
+    keep(alloc, standing, tx, turns, count, asked, action)
 }
 
 // The transaction of a step, and its turns with the reply to its action.
@@ -291,6 +345,7 @@ fn refuse<L: Link>(alloc: Global, link: &mut L, standing: &mut Standing) -> Resu
     ensures offers { standing.new.offers ≡ standing.old.offers }
     ensures later { L.faults link.old ≤ L.faults link.new }
     ensures troubled { IfErr result (λ trouble. Troubled trouble (L.told link.old) standing.old Refuses (L.told link.new)) }
+    ensures early { IsErrOf result Trouble.Early → (link.new ≡ link.old) × (standing.new ≡ standing.old) }
     ensures link { IsErrOf result Trouble.Link → Rose (L.faults link.old) (L.faults link.new) }
 {
     let Some(asked) = &standing.asked else {
@@ -336,6 +391,18 @@ fn take_refused(standing: &mut Standing, said: Said) -> Result<(), Trouble>
     }
 }
 
+// Memory that was refused behind other frames of the call.
+fn late(trouble: Trouble) -> Trouble
+    ensures value { result ≡ late trouble }
+    ensures early { result ≡ Trouble.Early → ⊥ }
+    ensures link { result ≡ Trouble.Link → trouble ≡ Trouble.Link }
+{
+    match trouble {
+        Trouble::Early => Trouble::OutOfMemory,
+        other => other,
+    }
+}
+
 /// Ends the conversation that is open.
 pub(crate) fn close_open<L: Link>(
     alloc: Global,
@@ -348,13 +415,20 @@ pub(crate) fn close_open<L: Link>(
     ensures last { standing.new.last ≡ standing.old.last }
     ensures offers { standing.new.offers ≡ standing.old.offers }
     ensures later { L.faults link.old ≤ L.faults link.new }
-    ensures stopped { IfErr result (λ trouble. Stopped trouble (L.told link.old) standing.old (L.told link.new)) }
+    ensures stopped { IfErr result (λ trouble. StopsClosing trouble (L.told link.old) standing.old (L.told link.new)) }
+    ensures early { IsErrOf result Trouble.Early → (link.new ≡ link.old) × (standing.new ≡ standing.old) }
     ensures link { IsErrOf result Trouble.Link → Rose (L.faults link.old) (L.faults link.new) }
 {
+    let mut first = true;
     while standing.asked.is_some() {
         match refuse(alloc, link, standing) {
-            Ok(()) => {}
-            Err(trouble) => return Err(trouble),
+            Ok(()) => first = false,
+            Err(trouble) => {
+                if first {
+                    return Err(trouble);
+                }
+                return Err(late(trouble));
+            }
         }
     }
     Ok(())
@@ -370,6 +444,7 @@ fn register<L: Link>(alloc: Global, link: &mut L, standing: &mut Standing) -> Re
     ensures less { OnOk result (standing.new.registrations ≡ standing.old.registrations + 1) }
     ensures later { L.faults link.old ≤ L.faults link.new }
     ensures troubled { IfErr result (λ trouble. Troubled trouble (L.told link.old) standing.old Registers (L.told link.new)) }
+    ensures early { IsErrOf result Trouble.Early → ⊥ }
     ensures link { IsErrOf result Trouble.Link → Rose (L.faults link.old) (L.faults link.new) }
 {
     let limit = limit_of(standing.version);
@@ -388,9 +463,24 @@ fn legal_registration(
     ensures found { IfOk result (λ found. registration (limit_of standing.now.version) frame.items ≡ Some found) }
     ensures may { IfOk result (λ found. may_register standing.now (version_by found.request.protocol_version) ≡ true) }
     ensures breach { IfErr result (IsUnregistered standing.now frame.items) }
+    ensures early { IsErrOf result Trouble.Early → ⊥ }
 {
     let limit = limit_of(standing.version);
-    if let Some(found) = hear_registration(alloc, limit, &frame)? {
+    let heard = hear_registration(alloc, limit, &frame)?;
+    legal_here(standing, heard, frame)
+}
+
+// What was heard in the frame, where it is a registration that is legal here. It takes no memory.
+fn legal_here(
+    standing: &Standing,
+    heard: Option<Registration>,
+    frame: Vec<u8>,
+) -> Result<Registration, Trouble>
+    ensures found { IfOk result (λ found. heard ≡ Some found) }
+    ensures may { IfOk result (λ found. may_register standing.now (version_by found.request.protocol_version) ≡ true) }
+    ensures breach { IfErr result (λ trouble. (trouble ≡ Trouble.Breach frame.items) × (registered standing.now heard ≡ None)) }
+{
+    if let Some(found) = heard {
         if may_register(standing, version_by(found.request.protocol_version)) {
             return Ok(found);
         }
@@ -476,7 +566,8 @@ pub(crate) fn register_all<L: Link>(
     ensures asked { standing.new.asked ≡ standing.old.asked }
     ensures registered { OnOk result (Registered (L.told link.old) standing.old (L.told link.new) standing.new) }
     ensures later { L.faults link.old ≤ L.faults link.new }
-    ensures stopped { IfErr result (λ trouble. Stopped trouble (L.told link.old) standing.old (L.told link.new)) }
+    ensures stopped { IfErr result (λ trouble. StopsRegistering trouble (L.told link.old) standing.old (L.told link.new)) }
+    ensures early { IsErrOf result Trouble.Early → ⊥ }
     ensures link { IsErrOf result Trouble.Link → Rose (L.faults link.old) (L.faults link.new) }
 {
     while standing.more {
@@ -507,11 +598,18 @@ pub(crate) fn begin_after<L: Link>(
     ensures talking { IfOk result (λ action. is_some standing.new.asked ≡ true → is_request action ≡ true) }
     ensures offers { standing.new.offers ≡ standing.old.offers }
     ensures later { L.faults link.old ≤ L.faults link.new }
-    ensures stopped { IfErr result (λ trouble. Stopped trouble (L.told link.old) standing.old (L.told link.new)) }
+    ensures stopped { IfErr result (λ trouble. StopsBeginning (kept_tx tx.now) trouble (L.told link.old) standing.old (L.told link.new)) }
+    ensures early { IsErrOf result Trouble.Early → (link.new ≡ link.old) × (standing.new ≡ standing.old) }
     ensures link { IsErrOf result Trouble.Link → Rose (L.faults link.old) (L.faults link.new) }
 {
+    if standing.asked.is_none() {
+        return begin_tx(alloc, link, standing, tx);
+    }
     match close_open(alloc, link, standing) {
-        Ok(()) => begin_tx(alloc, link, standing, tx),
+        Ok(()) => match begin_tx(alloc, link, standing, tx) {
+            Ok(action) => Ok(action),
+            Err(trouble) => Err(late(trouble)),
+        },
         Err(trouble) => Err(trouble),
     }
 }

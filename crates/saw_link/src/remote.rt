@@ -7,8 +7,8 @@ ghost use Rattle.saw_messages.specs.Reasons.{has_own_reason};
 ghost use Rattle.saw_messages.specs.declared.talk.Turn.{Turn};
 ghost use Rattle.saw_station.specs.TalkSteps.{MayFollow, IsOfLast, KeepsStep, IsShort};
 ghost use Rattle.saw_link.specs.LinkConversation.{IsSpelled, IsActOf, Closed, Registered};
-ghost use Rattle.saw_link.specs.Remotes.{kept_step, IsStep, Stepped, GoesOn, fault_of, health_of, faults_after, breach_of, Why};
-ghost use Rattle.saw_link.specs.Troubles.{Stopped};
+ghost use Rattle.saw_link.specs.Remotes.{kept_step, IsStep, Stepped, StopsStep, GoesOn, fault_of, health_of, faults_after, breach_of, Why};
+ghost use Rattle.saw_link.specs.Troubles.{StopsClosing, StopsRegistering};
 ghost use Rattle.saw_link.specs.declared.remote.Health.TheVariants as healths;
 
 use crate::exchange::Trouble;
@@ -94,7 +94,8 @@ fn step_in<L: Link>(
     ensures talking { IfOk result (λ action. is_some standing.new.asked ≡ true → is_request action ≡ true) }
     ensures offers { standing.new.offers ≡ standing.old.offers }
     ensures later { L.faults link.old ≤ L.faults link.new }
-    ensures stopped { IfErr result (λ trouble. Stopped trouble (L.told link.old) standing.old (L.told link.new)) }
+    ensures stopped { IfErr result (λ trouble. StopsStep tx.now talk.now.turns trouble (L.told link.old) standing.old (L.told link.new)) }
+    ensures early { IsErrOf result Trouble.Early → (link.new ≡ link.old) × (standing.new ≡ standing.old) }
     ensures link { IsErrOf result Trouble.Link → Rose (L.faults link.old) (L.faults link.new) }
 {
     match last_turn(talk) {
@@ -113,13 +114,14 @@ fn fault_of(trouble: &Trouble) -> StationFault
     ensures { result ≡ fault_of trouble.now }
 {
     match trouble {
-        Trouble::OutOfMemory => StationFault::OutOfMemory,
+        Trouble::Early | Trouble::OutOfMemory => StationFault::OutOfMemory,
         Trouble::Link
         | Trouble::TooLong
         | Trouble::Ended
         | Trouble::Broken
         | Trouble::Breach(_)
-        | Trouble::Exhausted => StationFault::PeerFailed,
+        | Trouble::Exhausted
+        | Trouble::Closed => StationFault::PeerFailed,
     }
 }
 
@@ -134,11 +136,19 @@ fn breach_of(trouble: Trouble) -> Option<Bytes>
         | Trouble::Ended
         | Trouble::Broken
         | Trouble::Exhausted
+        | Trouble::Early
+        | Trouble::Closed
         | Trouble::OutOfMemory => None,
     }
 }
 
-// What a trouble leaves of the station.
+fn is_early(trouble: &Trouble) -> bool
+    ensures { (result ≡ true) ↔ (trouble.now ≡ Trouble.Early) }
+{
+    matches!(trouble, Trouble::Early)
+}
+
+// What a trouble leaves of the station: all of it, where nothing was sent or received.
 fn settle(
     health: &mut Health,
     faults: &mut u64,
@@ -146,11 +156,14 @@ fn settle(
     trouble: Trouble,
 ) -> StationFault
     ensures fault { result ≡ fault_of trouble }
-    ensures health { health.new ≡ health_of result }
     ensures faults { faults.new ≡ faults_after faults.old result }
-    ensures breach { breach.new ≡ breach_of trouble }
+    ensures early { trouble ≡ Trouble.Early → (health.new ≡ health.old) × (breach.new ≡ breach.old) }
+    ensures leaves { (trouble ≡ Trouble.Early → ⊥) → (health.new ≡ health_of result) × (breach.new ≡ breach_of trouble) }
 {
     let fault = fault_of(&trouble);
+    if is_early(&trouble) {
+        return fault;
+    }
     *breach = breach_of(trouble);
     match fault {
         StationFault::PeerFailed => fail(health, faults),
@@ -258,7 +271,7 @@ impl<L: Link + Send> Station for RemoteStation<L> {
         ensures unbegun { OnErr result (self.new.begun ≡ false) }
         ensures closed { OnOk result (is_some self.new.standing.asked ≡ false) }
         ensures registered { OnOk result (Registered (L.told self.old.link) self.old.standing (L.told self.new.link) self.new.standing) }
-        ensures why { self.old.health ≡ healths.Sound → IfErr result (λ fault. Why L.told L.faults self.old self.new fault) }
+        ensures why { self.old.health ≡ healths.Sound → IfErr result (λ fault. Why L.told L.faults StopsRegistering self.old self.new fault) }
         ensures sound { OnOk result ((self.old.health ≡ healths.Sound) × (self.new.health ≡ healths.Sound)) }
         ensures goes_on { IfErr result (λ fault. GoesOn self.old.health self.new.health fault self.old.faults self.new.faults) }
         ensures quiet { OnOk result ((self.new.faults ≡ self.old.faults) × (self.new.breach ≡ self.old.breach)) }
@@ -295,7 +308,7 @@ impl<L: Link + Send> Station for RemoteStation<L> {
         ensures told { L.tells ≡ true → IfOk result (λ action. action ≡ L.next tx.now talk.now.turns) }
         ensures stepped { OnOk result (Stepped (L.told self.old.link) self.old.standing tx.now talk.now.turns (L.told self.new.link) self.new.standing) }
         ensures kept { IfOk result (IsStep self.new.standing.last tx.now talk.now.turns) }
-        ensures why { self.old.health ≡ healths.Sound → IfErr result (λ fault. Why L.told L.faults self.old self.new fault) }
+        ensures why { self.old.health ≡ healths.Sound → IfErr result (λ fault. Why L.told L.faults (StopsStep tx.now talk.now.turns) self.old self.new fault) }
         ensures sound { OnOk result ((self.old.health ≡ healths.Sound) × (self.new.health ≡ healths.Sound)) }
         ensures goes_on { IfErr result (λ fault. GoesOn self.old.health self.new.health fault self.old.faults self.new.faults) }
         ensures reason { IfOk result (λ action. has_own_reason action ≡ true) }
@@ -330,7 +343,7 @@ impl<L: Link + Send> Station for RemoteStation<L> {
         requires last { IsOfLast (kept_step self.old.standing.last) _tx.now _talk.now.turns }
         ensures closed { OnOk result (is_some self.new.standing.asked ≡ false) }
         ensures refused { OnOk result (Closed (L.told self.old.link) self.old.standing (L.told self.new.link) self.new.standing) }
-        ensures why { self.old.health ≡ healths.Sound → IfErr result (λ fault. Why L.told L.faults self.old self.new fault) }
+        ensures why { self.old.health ≡ healths.Sound → IfErr result (λ fault. Why L.told L.faults StopsClosing self.old self.new fault) }
         ensures sound { OnOk result ((self.old.health ≡ healths.Sound) × (self.new.health ≡ healths.Sound)) }
         ensures goes_on { IfErr result (λ fault. GoesOn self.old.health self.new.health fault self.old.faults self.new.faults) }
         ensures begun { self.new.begun ≡ true }

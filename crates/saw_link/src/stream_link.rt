@@ -3,7 +3,7 @@
 ghost use Rattle.std.specs.Prelude.{◌≡◌, ◌⊎◌, ◌<◌, ◌≤◌, ◌+◌, false, None, length, min, IfOk, OnOk, IsErrOf};
 ghost use Rattle.std.specs.Io.KnownBytes.{Appends};
 ghost use Rattle.saw_faults.specs.Counts.{Rose, last_count};
-ghost use Rattle.saw_io.specs.Frame.{frame};
+ghost use Rattle.saw_io.specs.Frame.{StatesMore, frame};
 ghost use Rattle.saw_link.specs.LinkStreams.{Hands, IsBroken, Counts};
 
 use crate::fault::LinkFault;
@@ -112,6 +112,7 @@ impl<S: Source + Drop, K: Sink + Drop> Link for StreamLink<S, K> {
     }
 
     fn receive(&mut self, alloc: Global) -> Result<Option<Vec<u8>>, LinkFault>
+        ensures long { StatesMore 8388608 (S.unread self.old.source) → IsErrOf result LinkFault.Failed }
         ensures handed { IfOk result (Hands (S.unread self.old.source) (S.unread self.new.source)) }
         ensures why { IsErrOf result LinkFault.Failed → IsBroken (S.unread self.old.source)
             ⊎ Rose (S.faults self.old.source) (S.faults self.new.source) }

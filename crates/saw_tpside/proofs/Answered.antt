@@ -311,6 +311,29 @@ module _ (limit : ℕ) (number : List ℕ) where
       record { alike = ap with_no_index said; granted_it = ap (is_refused_event (actions.AddEvent event)) (sym said) }
   event_taken event (Unauthorized index) read fit small is = absurd cc
 
+  -- the answer that a station gives to an action that it refuses says so
+  pub refusal_taken : (action : Action) (asked : Asked) (read : Reply) → asked_by number action ≡ Some asked → IsSmall (answer asked (Unauthorized 0))
+      → reply_of limit number action (answer asked (Unauthorized 0)) ≡ Some read → read ≡ Unauthorized 0
+  refusal_taken (actions.Get places) asked read asked_is small is =
+      let e = sym (some_same _ asked asked_is) in
+      sym (some_same _ read (get_read (map text_at places) [] 2 read (omega arith) (subst (λ (q : Asked). IsSmall (answer q (Unauthorized 0))) e small)
+      (subst (λ (q : Asked). reply_of limit number (actions.Get places) (answer q (Unauthorized 0)) ≡ Some read) e is)))
+  refusal_taken (actions.Set entries) asked read asked_is small is =
+      let e = sym (some_same _ asked asked_is) in
+      sym (some_same _ read (set_read (map (λ (entry : Entry). text_at entry.place) entries) [] 2 read (omega arith)
+      (subst (λ (q : Asked). IsSmall (answer q (Unauthorized 0))) e small)
+      (subst (λ (q : Asked). reply_of limit number (actions.Set entries) (answer q (Unauthorized 0)) ≡ Some read) e is)))
+  refusal_taken (actions.Delete places) asked read asked_is small is =
+      let e = sym (some_same _ asked asked_is) in
+      sym (some_same _ read (delete_read (map text_at places) [] 2 read (omega arith) (subst (λ (q : Asked). IsSmall (answer q (Unauthorized 0))) e small)
+      (subst (λ (q : Asked). reply_of limit number (actions.Delete places) (answer q (Unauthorized 0)) ≡ Some read) e is)))
+  refusal_taken (actions.AddEvent event) asked read asked_is small is =
+      let e = sym (some_same _ asked asked_is) in
+      sym (some_same _ read (event_read 2 read (omega arith) (subst (λ (q : Asked). IsSmall (answer q (Unauthorized 0))) e small)
+      (subst (λ (q : Asked). reply_of limit number (actions.AddEvent event) (answer q (Unauthorized 0)) ≡ Some read) e is)))
+  refusal_taken actions.Ok asked read asked_is small is = absurd cc
+  refusal_taken (actions.Invalid reason) asked read asked_is small is = absurd cc
+
   -- the answer that a station gives to an action says its reply
   pub reply_taken : (action : Action) (asked : Asked) (given read : Reply) → asked_by number action ≡ Some asked → fits action given ≡ true
       → IsSmall (answer asked given) → reply_of limit number action (answer asked given) ≡ Some read → IsReply action given read

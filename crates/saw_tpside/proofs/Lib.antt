@@ -6,6 +6,7 @@ pub mod StationBack
 pub mod Answered
 pub mod Matching
 pub mod Taking
+pub mod Refusals
 pub mod Moving
 pub mod Obeying
 pub mod Stepping

@@ -18,14 +18,14 @@ use Rattle.saw_link.specs.LinkConversation.{Move, Answers, Begins, Refuses, Regi
 use Rattle.saw_link.specs.SentFrames.{answer, limit_of, process_request, stated, welcome}
 use Rattle.saw_link.specs.declared.heard.Asked.{Asked}
 use Rattle.saw_link.specs.declared.heard.Heard.{Heard}
-use Rattle.saw_link.specs.declared.heard.Heard.TheVariants.{Breach}
 use Rattle.saw_link.specs.declared.heard.Registration.{Registration}
 use Rattle.saw_link.specs.declared.standing.LastStep.{LastStep}
 use Rattle.saw_link.specs.declared.standing.Standing.{Standing}
 use Rattle.saw_station.specs.TalkSteps.{fits}
 use Rattle.saw_station.specs.declared.offer.Offer.{Offer}
-use Rattle.saw_tpside.proofs.Answered.{IsReply, asked_by, reply_taken, tx_taken, version_taken}
+use Rattle.saw_tpside.proofs.Answered.{IsReply, asked_by, refusal_taken, reply_taken, tx_taken, version_taken}
 use Rattle.saw_tpside.proofs.Matching.{Agrees, HasLast, IsIdle, IsLast, IsOpen, Match, Talks, with_open, went_on}
+use Rattle.saw_tpside.proofs.Refusals.{family_ends}
 use Rattle.saw_tpside.proofs.StationBack.{IsSmall}
 use Rattle.saw_tpside.proofs.Taking.{taken_waiting}
 use Rattle.saw_tpside.specs.FamilyPeers.{as_remote, family_next}
@@ -194,13 +194,20 @@ answers_by p s reply asked frame q (Some current) current_is agrees talk still a
 
 -- ---- a request is refused to end the conversation
 
-no_breach : (number : List ℕ) (action : Action) → said number action ≡ Breach → ⊥
-no_breach number (actions.Get places) is = absurd cc
-no_breach number (actions.Set entries) is = absurd cc
-no_breach number (actions.Delete places) is = absurd cc
-no_breach number (actions.AddEvent event) is = absurd cc
-no_breach number actions.Ok is = absurd cc
-no_breach number (actions.Invalid reason) is = absurd cc
+-- an end is legal
+end_legal : (s : Standing) (number : List ℕ) (action : Action) → is_request action ≡ false → closed s (said number action) ≡ None → ⊥
+end_legal s number (actions.Get places) ends is = absurd cc
+end_legal s number (actions.Set entries) ends is = absurd cc
+end_legal s number (actions.Delete places) ends is = absurd cc
+end_legal s number (actions.AddEvent event) ends is = absurd cc
+end_legal s number actions.Ok ends is = absurd cc
+end_legal s number (actions.Invalid reason) ends is = absurd cc
+
+-- a refused event ends as invalid, and any other refusal ends the family's transaction
+refusal_ends : (tx : TxShape) (turns : List Turn) (turn : Turn) (refused : Bool) → turn.reply ≡ Unauthorized 0
+    → is_request (action_behind tx (turns ++ turn ∷ []) refused) ≡ false
+refusal_ends tx turns turn true is = refl
+refusal_ends tx turns turn false is = family_ends tx turns turn is
 
 agrees_kept : {p q : Serving} {s t : Standing} → Agrees p s → q.registered ≡ p.registered → q.version ≡ p.version → q.offers ≡ p.offers
     → t.version ≡ s.version → t.registrations ≡ s.registrations → t.more ≡ s.more → Agrees q t
@@ -252,16 +259,16 @@ refused_on p s tx turns (actions.Invalid reason) next agrees few count is =
       talk = record { asked = refl; waits = refl; count = count ∙ counts_on p.answered few };
     })
 
--- what is said behind a refusal is no breach, and where it is legal both agree again
+-- what is said behind a refusal is legal, and both agree again
 pub record RefusedOn (s : Standing) (frame : List ℕ) (q : Serving) : Type 0 where
-  pub no_breach : heard (limit_of s.version) (decimal s.count) frame ≡ Breach → ⊥
+  pub legal : after s Refuses frame ≡ None → ⊥
   pub match : (next : Standing) → after s Refuses frame ≡ Some next → Match (after_sent q) next
 
 refuses_by : (p : Serving) (s : Standing) (asked : Asked) (frame : List ℕ) (q : Serving) (current : Option Open) → p.current ≡ current → Agrees p s → Talks p current s
-    → s.asked ≡ Some asked → taken p (answer asked (Unauthorized 0)) ≡ Some q → IsDueFrame q frame → RefusedOn s frame q
+    → s.asked ≡ Some asked → IsSmall (answer asked (Unauthorized 0)) → taken p (answer asked (Unauthorized 0)) ≡ Some q → IsDueFrame q frame → RefusedOn s frame q
 unfolding after
-refuses_by p s asked frame q None current_is agrees talk asked_is took says = let none : None ≡ Some asked = sym talk.asked ∙ asked_is in absurd cc
-refuses_by p s asked frame q (Some current) current_is agrees talk asked_is took says =
+refuses_by p s asked frame q None current_is agrees talk asked_is small took says = let none : None ≡ Some asked = sym talk.asked ∙ asked_is in absurd cc
+refuses_by p s asked frame q (Some current) current_is agrees talk asked_is small took says =
     let sent = answer asked (Unauthorized 0) in
     let b = replied_by p current (reply_of (limit_at p) (number_of current) current.action sent) q (sym (taken_waiting p current sent current_is talk.waits) ∙ took) in
     let turns = turns_with current b.read in
@@ -270,8 +277,12 @@ refuses_by p s asked frame q (Some current) current_is agrees talk asked_is took
     let h_is : heard (limit_of s.version) (decimal s.count) frame ≡ said (decimal (length turns + 1)) action =
     ap (λ (l : ℕ). heard l (decimal s.count) frame) (limit_same p s agrees)
     ∙ ap (λ (n : ℕ). heard (limit_at p) (decimal n) frame) talk.count ∙ says_it.understood (limit_at p) says_it.short in
+    let refused : b.read ≡ Unauthorized 0 =
+    refusal_taken (limit_at p) (number_of current) current.action asked b.read (sym talk.asked ∙ asked_is) small b.found_it in
+    let ends : is_request action ≡ false =
+    refusal_ends current.tx current.talk.turns (record { action = current.action; reply = b.read }) (is_refused_event current.action b.read) refused in
     record {
-      no_breach = λ is. no_breach (decimal (length turns + 1)) action (sym h_is ∙ is);
+      legal = λ is. end_legal s (decimal (length turns + 1)) action ends (ap (closed s) (sym h_is) ∙ is);
       match = λ next legal. subst (λ (q : Serving). Match (after_sent q) next) b.is
           (refused_on p s current.tx turns action next agrees talk.few talk.count (ap (closed s) (sym h_is) ∙ legal));
     }
@@ -406,7 +417,7 @@ pub answers_next : (p : Serving) (s : Standing) (reply : Reply) (asked : Asked) 
 answers_next p s reply asked frame q match = answers_by p s reply asked frame q p.current refl match.agrees match.talk
 
 pub refuses_next : (p : Serving) (s : Standing) (asked : Asked) (frame : List ℕ) (q : Serving) → Match p s → s.asked ≡ Some asked
-    → taken p (answer asked (Unauthorized 0)) ≡ Some q → IsDueFrame q frame → RefusedOn s frame q
+    → IsSmall (answer asked (Unauthorized 0)) → taken p (answer asked (Unauthorized 0)) ≡ Some q → IsDueFrame q frame → RefusedOn s frame q
 refuses_next p s asked frame q match = refuses_by p s asked frame q p.current refl match.agrees match.talk
 
 pub registers_next : (p : Serving) (s : Standing) (frame : List ℕ) → Match p s → s.more ≡ true → IsDueFrame p frame → Entered p s frame

@@ -177,7 +177,8 @@ module _ (start : Serving) (at_start : Match start fresh) where
       ap (λ (l : List Passed). passed ++ (l ++ Received frame ∷ [])) before_is ∙ two_last passed (Sent sent) (Received frame) in
       let second = came_received came (passed ++ Sent sent ∷ []) frame q refl all in
       let first = came_sent second.came passed sent second.before refl refl in
-      let n = refuses_next first.before s asked.0 frame second.before (agree first.before first.came) asked.1 first.took second.says in
+      let n = refuses_next first.before s asked.0 frame second.before (agree first.before first.came) asked.1
+      (small_by s.version sent _ before_is within.0) first.took second.says in
       subst (λ (x : Serving). Match x next) second.is (n.match next legal)
 
   matches : {moves : List Move} {passed : List Passed} {s : Standing} → Spells fresh moves passed s → (q : Serving) → Came start passed (Some q) → Match q s
@@ -209,7 +210,7 @@ module _ (start : Serving) (at_start : Match start fresh) where
       let sent = answer asked.0 (Unauthorized 0) in
       let before_is : sent_before s Refuses ≡ Sent sent ∷ [] = ap (λ (found : Option Asked). answer_sent found (Unauthorized 0)) asked.1 in
       let first = came_sent came passed sent q refl (all ∙ ap (λ (l : List Passed). passed ++ l) before_is) in
-      (refuses_next first.before s asked.0 frame q (agree first.before first.came) asked.1 first.took says).no_breach
+      (refuses_next first.before s asked.0 frame q (agree first.before first.came) asked.1 (small_by s.version sent _ before_is within) first.took says).legal
 
 starts : (offers : List Offer) (asked : ℕ) → AreOffers offers → IsVersion asked → Match (starting offers asked) fresh
 starts offers asked are is = record {

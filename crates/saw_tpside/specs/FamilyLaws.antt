@@ -63,7 +63,7 @@ xo_same signer payload (x ∷ z ∷ r) (y ∷ []) are = absurd are.1
 xo_same signer payload (x ∷ z ∷ r) (y ∷ w ∷ s) are = reply_same xo.after_change (λ i j. refl) z w are.1.0
 
 -- the action of the family that a header names
-abbrev chosen : TransactionHeader → List ℕ → List Turn → Action
+abbrev pub chosen : TransactionHeader → List ℕ → List Turn → Action
 chosen header payload turns =
     if is_family intkey.family_name intkey.family_version header.family_name header.family_version then intkey.next payload turns
     else if is_family xo.family_name xo.family_version header.family_name header.family_version then xo.next header.signer_public_key payload turns
@@ -80,7 +80,8 @@ chosen_by tx turns false true third a b c = rw (a, b) refl
 chosen_by tx turns false false true a b c = rw (a, b, c) refl
 chosen_by tx turns false false false a b c = rw (a, b, c) refl
 
-chosen_is : (tx : TxShape) (turns : List Turn) → built_in_next tx turns ≡ chosen tx.header tx.payload turns
+-- it is the next action of all three
+pub chosen_is : (tx : TxShape) (turns : List Turn) → built_in_next tx turns ≡ chosen tx.header tx.payload turns
 chosen_is tx turns = chosen_by tx turns _ _ _ refl refl refl
 
 -- the families look at the header and the payload alone

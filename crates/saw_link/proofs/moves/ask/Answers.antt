@@ -19,7 +19,7 @@ returns-in_err-frame-clause-unasked g c =
     let L = g.L.Link in
     let p = err_from_is_err_and c.from_residual-in_err-frame.result c.from_residual-in_err-frame.ensures.1 in
     rw (p.1, p.2) (unreceived_unasked c.in_err-frame.field-0.0 (L.told c.args.link.now) (L.told c.send.new.link) c.args.limit c.args.sent.now
-    (L.told c.receive.new.link) c.in_ok-send.ensures.ok c.in_err-frame.ensures.unreceived)
+    (L.told c.receive.new.link) c.in_ok-send.ensures.ok c.in_ok-send.ensures.within c.in_err-frame.ensures.unreceived)
 
 pub returns-clause-adds : goal.returns-clause-adds
 returns-clause-adds g c =

@@ -1,7 +1,6 @@
-use Rattle.std.proofs.Common.{arith, refl, ◌∙◌}
+use Rattle.std.proofs.Common.{arith, rules, Err, ap, refl, ◌∙◌}
 use Rattle.saw_link.proofs.LinkRuns.{entering_none, entering_more}
-use Rattle.saw_link.specs.LinkConversation.{Registers}
-use Rattle.saw_link.proofs.Stops.{stopped_after}
+use Rattle.saw_link.proofs.Stops.{registering_stops}
 use Rattle.saw_link.proofs.moves.register_all.Goals as goal
 
 pub loop-standing-init : goal.loop-standing-init
@@ -20,4 +19,5 @@ loop-standing-preserved g c =
 
 pub returns-in-Err-clause-stopped : goal.returns-in-Err-clause-stopped
 returns-in-Err-clause-stopped g c = let l = c.loop-standing in
-    stopped_after _ _ _ l.invariant.entering.moves _ l.standing Registers _ l.invariant.entering.ran c.in-Err.ensures.troubled
+    registering_stops c.in-Err.trouble _ _ _ _ _ l.invariant.entering (search rules) c.in-Err.ensures.troubled
+    (λ is. c.in-Err.ensures.early (ap Err is))
