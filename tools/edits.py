@@ -5,7 +5,8 @@ Usage, from the top of the repository: python3 -B tools/edits.py [--keep] [CRATE
 
 Without names it takes each crate that has a folder in edits/. The crates and those below them, as they stand here, are
 copied into a scratch folder (under TMPDIR, else /tmp) with their folders out/, so that no library is built again; the
-edits of edits/ stand there in the place of those of the gate, and `rt must-fail` tries them. --keep keeps that folder.
+edits of edits/ stand there in the place of those of the gate, and `rt must-fail` tries them. --keep keeps that folder. Let no
+`rt check` run here while the folders are copied.
 An edit that does not apply or that no goal refuses, only a name that it took away or a limit of the prover, is bad.
 --dry proves nothing: it tests that each edit applies, those of the gate too.
 The last line has the counts; the status is 0 only if all are refused (under --dry: only if all apply).
@@ -15,6 +16,7 @@ import glob
 import os
 import re
 import shutil
+import signal
 import subprocess
 import sys
 import tempfile
@@ -137,11 +139,15 @@ def tried(crates, room):
     came = {}
     words = ["rt", "must-fail", *crates]
     with subprocess.Popen(words, cwd=room, stdout=subprocess.PIPE, stderr=subprocess.STDOUT, text=True) as run:
-        for line in run.stdout:
-            print(line, end="", flush=True)
-            told = TOLD.match(line)
-            if told:
-                came[told[1], told[2]] = outcome_of(told[3])
+        try:
+            for line in run.stdout:
+                print(line, end="", flush=True)
+                told = TOLD.match(line)
+                if told:
+                    came[told[1], told[2]] = outcome_of(told[3])
+        except BaseException:
+            run.terminate()
+            raise
     return came
 
 
@@ -168,6 +174,8 @@ def main(words):
     if "--dry" in flags:
         gate = [path.split("/")[1] for path in glob.glob("crates/*/must-fail")]
         return 0 if dry(named or sorted({*sides, *gate})) else 1
+    # So that the folder is removed when the tool is told to stop.
+    signal.signal(signal.SIGTERM, lambda number, _: sys.exit(128 + number))
     room = tempfile.mkdtemp(prefix="edits-")
     try:
         return 0 if prove(named or sides, room) else 1
