@@ -1,5 +1,5 @@
 -- How far processors elsewhere have begun.
-use Rattle.std.proofs.Common.{◌≡◌, ◌⊎◌, inl, inr, ℕ, zero, suc, ◌+◌, ◌<◌, ◌≤◌, Bool, true, List, [], ◌∷◌, length, drop, take, refl, ap₂, subst, arith}
+use Rattle.std.proofs.Common.{◌≡◌, ◌⊎◌, inl, inr, ℕ, zero, suc, ◌+◌, ◌<◌, ◌≤◌, Bool, true, List, [], ◌∷◌, length, drop, set, take, refl, sym, ap₂, subst, ◌∙◌, get_or-set_other, length-set, arith}
 use Rattle.std.specs.Prelude.{All, slice_index_or}
 use Rattle.std.proofs.lemmas.List.Elements.{All-cons, All-nil}
 use Rattle.saw_report.specs.declared.run_fault.RunFault.{RunFault}
@@ -48,13 +48,22 @@ module _ {R : Type 0} (begun : R → Bool) where
     behind = same_behind olds news (place + 1) count (λ k d low. behind k d (omega (arith, low)));
   }
 
+  -- the one at the place was asked, and did not begin
+  pub stops_set : (olds news : List R) (place : ℕ) (new : R) → length news ≡ length olds
+      → ((k : ℕ) (d : R) → k < place → Has (slice_index_or news k d))
+      → ((k : ℕ) (d : R) → place ≤ k → slice_index_or news k d ≡ slice_index_or olds k d) → StopsAt begun olds (set news place new)
+  stops_set olds news place new count front behind =
+      stops_at olds (set news place new) place (length-set news place new ∙ count)
+      (λ k d low. subst Has (sym (get_or-set_other news place k new d (omega (arith, low)))) (front k d low))
+      (λ k d low. get_or-set_other news place k new d (omega (arith, low)) ∙ behind k d (omega (arith, low)))
+
   -- none was asked
   pub none_asked : (remotes : List R) → StopsAt begun remotes remotes
   none_asked remotes = record { place = 0; before = All-nil Has; behind = refl }
 
-  pub have_so : (olds news : List R) (still other : Type 0) → (still → other) → HaveBegun begun olds news still → HaveBegun begun olds news other
-  have_so olds news still other so (inl all) = inl all
-  have_so olds news still other so (inr stops) = inr (stops.0, so stops.1)
+  pub have_so : (olds news : List R) (still other : Type 0) → HaveBegun begun olds news still → (still → other) → HaveBegun begun olds news other
+  have_so olds news still other (inl all) so = inl all
+  have_so olds news still other (inr stops) so = inr (stops.0, so stops.1)
 
 -- ---- the status then
 

@@ -37,9 +37,9 @@ returns-in-Err-clause-answered g c =
     (returns-in-Err-clause-ended g c)
 
 pub returns-in-Ok-clause-begun : goal.returns-in-Ok-clause-begun
-returns-in-Ok-clause-begun g c = λ asks. have_so g.R.Station.begun _ _ _ _ (λ still. absurd still.3) (c.in-Ok.ensures.begun asks)
+returns-in-Ok-clause-begun g c = λ asks. have_so g.R.Station.begun _ _ _ _ (c.in-Ok.ensures.begun asks) (λ still. absurd still.3)
 
 pub returns-in-Err-clause-begun : goal.returns-in-Err-clause-begun
 returns-in-Err-clause-begun g c = λ asks.
-    have_so g.R.Station.begun _ _ _ _ (λ still. (still.0, still.1, still.2, stopped_status c.in-Err.fault _ _ _ c.tell.ensures.told still.3))
-    (c.in-Err.ensures.begun asks)
+    have_so g.R.Station.begun _ _ _ _ (c.in-Err.ensures.begun asks)
+    (λ still. (still.0, still.1, still.2, stopped_status c.in-Err.fault _ _ _ c.tell.ensures.told still.3))
