@@ -1,5 +1,5 @@
 -- How long the messages of a stream are.
-use Rattle.std.proofs.Common.{◌+◌, ◌≤◌, ◌++◌, ◌≡◌, List, [], ◌∷◌, length, arith}
+use Rattle.std.proofs.Common.{◌+◌, ◌≤◌, ◌++◌, ◌≡◌, ℕ, false, List, [], ◌∷◌, length, arith}
 use Rattle.std.specs.List.{AllByRecursion}
 use Rattle.saw_messages.specs.Batches.{batch_header_pieces, batch_pieces}
 use Rattle.saw_messages.specs.Blocks.{block_pieces}
