@@ -1,6 +1,6 @@
 //! The line of a fault that ended a run.
 
-ghost use Rattle.std.specs.Prelude.{◌≡◌, ◌≤◌, ◌+◌, ◌++◌, true, false, length, IfOk, MatchOption, OnOk};
+ghost use Rattle.std.specs.Prelude.{◌≡◌, ◌≤◌, ◌+◌, ◌++◌, true, false, length, IfOk, MatchOption, OnOk, OnSome};
 ghost use Rattle.arrayvec.specs.ArrayVec.{array_vec_len};
 ghost use Rattle.saw_report.specs.Lines.{spaced};
 ghost use Rattle.saw_report.specs.RunFaults.{fault_line, fault_words, is_long, node_digits, status_of};
@@ -112,7 +112,8 @@ fn short_line(fault: &RunFault) -> ShortLine
 
 /// The line of a fault, made without memory. `None`: it tells two nodes, which may be long.
 pub fn short_fault_line(fault: &RunFault) -> Option<ShortLine>
-    ensures { MatchOption result (is_long fault.now ≡ true) (λ line. line.items ≡ fault_line fault.now) }
+    ensures line { MatchOption result (is_long fault.now ≡ true) (λ line. line.items ≡ fault_line fault.now) }
+    ensures short { OnSome result (is_long fault.now ≡ false) }
 {
     match fault {
         RunFault::Collision { kept: _, given: _ } => None,

@@ -23,7 +23,7 @@ returns-in_err-command g c =
           c.args.remotes.now.items)
           c.in_err-command.ensures.memory);
       unasked = λ is. refl;
-      begun = λ asks. rw (p.1, p.2) (inr (none_asked g.R.Station.begun c.args.remotes.now.items, (refl, refl, refl, inr c.in_err-command.ensures.memory)));
+      begun = λ asks. rw (p.1, p.2) (inr (none_asked g.R.Station.begun c.args.remotes.now.items, (refl, refl, refl, inr refl)));
     }
 
 pub returns-in-None : goal.returns-in-None
