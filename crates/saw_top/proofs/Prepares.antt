@@ -1,7 +1,7 @@
 -- Who vouches and what may be published, by what the shelf gave.
-use Rattle.std.proofs.Common.{◌≡◌, ◌⊎◌, inl, inr, ℕ, zero, suc, ◌<◌, ◌≤◌, true, false, List, [], ◌∷◌, length, cond, Option, Some, None, Result, Ok, Err}
+use Rattle.std.proofs.Common.{◌≡◌, ℕ, zero, suc, ◌<◌, ◌≤◌, true, false, List, [], ◌∷◌, length, cond, Option, Some, None, Result, Ok, Err}
 use Rattle.std.proofs.Common.{refl, sym, ap, subst, ◌∙◌, arith}
-use Rattle.std.specs.Prelude.{IfOk, IfSome, is_some, nat_lt, option_map}
+use Rattle.std.specs.Prelude.{IfOk, IfSome, is_some, nat_lt, option_map, unwrap_or}
 use Rattle.std.specs.Global.{Vec}
 use Rattle.std.specs.Str.{bytes_eq}
 use Rattle.std.proofs.lemmas.Bool.Decides.{nat_tests}
@@ -58,7 +58,7 @@ some_file max (Ok list) within = (Some list.items, (refl, within))
 some_file max (Err shelves.Missing) within = (None, refl)
 some_file max (Err shelves.TooLong) within = (Some (some_list (suc max)).0, ((some_list (suc max)).0, refl, rw (some_list (suc max)).1 (omega arith)))
 some_file max (Err shelves.Failed) within = (None, tt)
-some_file max (Err shelves.OutOfMemory) within = (None, tt)
+some_file max (Err shelves.OutOfMemory) within = (Some [], ([], refl, omega arith))
 
 -- the file of a name, where it is told, or else some file
 file_at : (result : Result (Vec ℕ) ShelfFault) (held : Option Files) (name : List ℕ) (max : ℕ) → IfOk result (λ list. length list.items ≤ max)
@@ -243,7 +243,7 @@ module _ (accepts : Accepts) (signing : Signing) (batches : Option (List ℕ)) (
 
     module _ (list : Vec ℕ) (fetched : Fetches before.tells name max_list (Ok list)) (within : length list.items ≤ max_list) where
       -- a list that is none
-      pub bad_list : (after : End Files) (e : AttestFault) → (e ≡ lists.OutOfMemory) ⊎ (option_map lists.BadLine (first_bad_line list.items) ≡ Some e)
+      pub bad_list : (after : End Files) (e : AttestFault) → e ≡ unwrap_or (option_map lists.BadLine (first_bad_line list.items)) lists.OutOfMemory
           → Prepares accepts signing (Some name) batches before after (Err (fault_of_list e))
       bad_list after e why =
           let file = file_at (Ok list) before.tells name max_list within fetched in
@@ -252,19 +252,13 @@ module _ (accepts : Accepts) (signing : Signing) (batches : Option (List ℕ)) (
             files = at.0;
             held = at.1;
             by = fault_first after at.0 ⊥ (λ none. absurd none) (fault_of_list e)
-                (by_why at.0 (list_is (at.0 name) list.items (at.2 ∙ file.2.0) within) why);
+                (by_found at.0 (first_bad_line list.items) (list_is (at.0 name) list.items (at.2 ∙ file.2.0) within) why);
           }
         where
-          by_line : (files : Files) (found : Option ℕ) → listed (files name) ≡ attested list.items found → option_map lists.BadLine found ≡ Some e
-              → ComesBy ⊥ (listed (files name)) (Err (fault_of_list e))
-          by_line files None same bad = absurd cc
-          by_line files (Some line) same bad = let which : e ≡ lists.BadLine line = cc in rw which (same, refl)
-
-          by_why : (files : Files) → listed (files name) ≡ attested list.items (first_bad_line list.items)
-              → (e ≡ lists.OutOfMemory) ⊎ (option_map lists.BadLine (first_bad_line list.items) ≡ Some e)
-              → ComesBy ⊥ (listed (files name)) (Err (fault_of_list e))
-          by_why files same (inl none) = rw none tt
-          by_why files same (inr bad) = by_line files (first_bad_line list.items) same bad
+          by_found : (files : Files) (found : Option ℕ) → listed (files name) ≡ attested list.items found
+              → e ≡ unwrap_or (option_map lists.BadLine found) lists.OutOfMemory → ComesBy ⊥ (listed (files name)) (Err (fault_of_list e))
+          by_found files None same why = rw why tt
+          by_found files (Some line) same why = rw why (same, refl)
 
       -- the list is known
       pub holds_list : (middle : End Files) → middle.tells ≡ before.tells → HoldsKnown middle (Some (name, list.items))

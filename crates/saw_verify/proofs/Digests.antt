@@ -1,5 +1,5 @@
 -- Digests as hex digits.
-use Rattle.std.proofs.Common.{◌≡◌, ◌*◌, ◌<◌, ◌==◌, ℕ, List, length, true, arith, ◌∙◌, ap, subst, sym}
+use Rattle.std.proofs.Common.{◌≡◌, ◌==◌, ℕ, List, length, true, arith}
 use Rattle.std.specs.List.{list_all}
 use Rattle.std.proofs.lemmas.Bool.{and_from, eq-eqb}
 use Rattle.hex.specs.Hex.{IsBytes, encode_lower, lower_digits}

@@ -1,20 +1,12 @@
 -- The place of the first bad line.
-use Rattle.std.proofs.Common.{◌≡◌, ℕ, suc, zero, ◌+◌, ◌<◌, ◌≤◌, Bool, true, false, ◌||◌, not, cond, List, [], ◌∷◌, length, get_or, map, Some, None}
-use Rattle.std.proofs.Common.{refl, ap, inl, inr, arith, eqb}
+use Rattle.std.proofs.Common.{◌≡◌, ℕ, suc, zero, ◌+◌, ◌<◌, ◌≤◌, Bool, true, false, ◌||◌, not, cond, List, [], ◌∷◌, length, get_or, Some, None}
+use Rattle.std.proofs.Common.{refl, inl, inr, arith, eqb}
 use Rattle.std.specs.List.{list_any, position, position_or_len, onto_first}
 use Rattle.std.proofs.lemmas.Bool.{cases_lt, lt-ltb, eqb-false, and_parts, not-true}
-use Rattle.std.proofs.lemmas.List.{length-map}
 use Rattle.std.proofs.lemmas.List.Quantifiers.{position-Some}
 use Rattle.saw_verify.specs.Lists.{lines_of, is_empty, is_triple, is_bad_line}
 
 -- ---- the first place in any list
-
-position_or_len-map : {X Y : Type 0} (f : X → Y) (p : Y → Bool) (xs : List X) → position_or_len p (map f xs) ≡ position_or_len (λ x. p (f x)) xs
-position_or_len-map f p [] = refl
-position_or_len-map f p (x ∷ xs) = ap (λ n. cond (not (p (f x))) (1 + n) 0) (position_or_len-map f p xs)
-
-pub position-map : {X Y : Type 0} (f : X → Y) (p : Y → Bool) (xs : List X) → position p (map f xs) ≡ position (λ x. p (f x)) xs
-position-map f p xs = rw (position_or_len-map f p xs, length-map xs f) refl
 
 module _ {X : Type 0} (p : X → Bool) where
   none_after : (here : Bool) (n m : ℕ) (rest : Bool) → (m ≤ n → rest ≡ false) → suc m ≤ cond (not here) (1 + n) 0 → (here || rest) ≡ false

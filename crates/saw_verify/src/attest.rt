@@ -1,6 +1,6 @@
 //! Attestation lists: signatures that were tested elsewhere.
 
-ghost use Rattle.std.specs.Prelude.{◌≡◌, ◌+◌, ◌<◌, ◌≤◌, ◌^◌, ◌-◌, ◌&&◌, ◌⊎◌, ◌∷◌, ◌++◌, [], ℕ, List, length, map, take, drop, option_map, Some, None, IfOk, IfErr, OnOk};
+ghost use Rattle.std.specs.Prelude.{◌≡◌, ◌+◌, ◌<◌, ◌≤◌, ◌^◌, ◌-◌, ◌&&◌, ◌∷◌, ◌++◌, [], ℕ, List, length, map, take, drop, option_map, unwrap_or, None, IfOk, IfErr, OnOk};
 ghost use Rattle.std.specs.List.{list_all, position};
 ghost use Rattle.std.specs.Str.{bytes_eq};
 ghost use Rattle.arrayvec.specs.ArrayVec.{array_vec_len};
@@ -49,14 +49,15 @@ impl AttestVerifier {
         ensures accepts { IfOk result (λ v. (key message signature : List ℕ)
             → ⟦<AttestVerifier as Verifier>⟧.accepts v key message signature ≡ attests bytes.now key message signature) }
         ensures ok { OnOk result (first_bad_line bytes.now ≡ None) }
-        ensures fault { IfErr result (λ e. (e ≡ faults.OutOfMemory)
-            ⊎ (option_map faults.BadLine (first_bad_line bytes.now) ≡ Some e)) }
+        // A bad line is told whether there is memory or not.
+        ensures fault { IfErr result (λ e. e
+            ≡ unwrap_or (option_map faults.BadLine (first_bad_line bytes.now)) faults.OutOfMemory) }
     {
-        let lines = split_lines(alloc, bytes)?;
-        if let Some(index) = bad_index(&lines) {
+        if let Some(index) = bad_index(bytes) {
             let line = index as u32 + 1;
             return Err(AttestFault::BadLine { line });
         }
+        let lines = split_lines(alloc, bytes)?;
         let held = hold(alloc, &lines)?;
         Ok(AttestVerifier { lines: held })
     }
@@ -111,10 +112,13 @@ fn is_bad_line(line: &[u8]) -> bool
     !line.is_empty() && !is_triple(line)
 }
 
-fn bad_index(lines: &[&[u8]]) -> Option<usize>
-    ensures { result ≡ position is_bad_line (map (λ line. line.now) lines.now) }
+// The place of the first bad line. It takes no memory.
+fn bad_index(bytes: &[u8]) -> Option<usize>
+    ensures { result ≡ position is_bad_line (lines_of bytes.now) }
 {
-    lines.iter().position(|line| is_bad_line(line))
+    bytes
+        .split(|byte| *byte == b'\n')
+        .position(|line| is_bad_line(line))
 }
 
 fn hold(alloc: Global, lines: &[&[u8]]) -> Result<BTreeSet<Vec<u8>>, AllocError>
