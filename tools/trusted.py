@@ -279,7 +279,7 @@ def cited(item, books):
         if c[0] == "here":
             items.add(c[1])
         else:
-            target, name = c[1], c[2].replace("◌", "")
+            target, name = passed_on(c[1], c[2].replace("◌", ""), books)
             if target[0] == "type":
                 types.add(target[1:])
             elif target in books:
@@ -290,6 +290,19 @@ def cited(item, books):
             else:
                 print(f"no such file: {target}, named in {spec.key}", file=sys.stderr)
     return items, types
+
+
+# Where a name is defined that another file passes on by `pub use`, and the type of a constructor that is named by it.
+def passed_on(target, name, books):
+    if target[0] != "type" and target not in books and "." in target[1]:
+        file, _, data = target[1].rpartition(".")
+        target, name = (target[0], file), data
+    while target[0] != "type" and target in books and name not in books[target].items:
+        onward = books[target].uses.get(name)
+        if not onward or not onward[0]:
+            break
+        target, name = onward[0], onward[1].replace("◌", "")
+    return target, name
 
 
 # ---- the sources
@@ -362,7 +375,7 @@ def contract(source, name):
 def resolve(names, books):
     items, types = set(), set()
     for target, name in names:
-        name = name.replace("◌", "")
+        target, name = passed_on(target, name.replace("◌", ""), books)
         if target[0] == "type":
             types.add(target[1:])
         elif target in books and name in books[target].items:

@@ -1,11 +1,4 @@
 pub mod States
 pub mod Preparations
 pub mod Clashes
-pub mod Below
-pub mod Children
-pub mod Merges
-pub mod Changes
-pub mod Reading
-pub mod Roots
-pub mod Parts
 pub mod Inside

@@ -1,8 +1,8 @@
 -- What is prepared for a map that may become known.
 use Rattle.std.specs.Prelude.{ℕ, List}
-use Rattle.saw_store.specs.declared.new_node.NewNode.{NewNode}
+use Rattle.saw_runs.specs.declared.pieces.NewPiece.{NewPiece}
 
--- its root, and nodes of it, among them all that no known map has
+-- its root, and pieces of it, among them all that no known map has
 pub record Preparation : Type 0 where
   pub root : List ℕ
-  pub news : List NewNode
+  pub news : List NewPiece

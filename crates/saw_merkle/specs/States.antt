@@ -8,7 +8,8 @@ use Rattle.saw_address.specs.Maps.{AreAddresses, StateMap, no_entries}
 use Rattle.saw_context.specs.Outcome.{map_after}
 use Rattle.saw_messages.specs.declared.outcome.Change.{Change}
 use Rattle.saw_node.specs.Trees.{root_of_map}
-use Rattle.saw_merkle.specs.declared.tree.Listed.{Listed}
+pub use Rattle.saw_runs.specs.Below.{listed_as}
+pub use Rattle.saw_runs.specs.declared.listing.Listed.{Listed}
 
 -- the map of each known root
 abbrev pub States : Type 0
@@ -49,7 +50,3 @@ pub record Updates (hash : List ℕ → List ℕ) (old : States) (root : List �
   pub answer_is : answer ≡ root_of_map hash (map_after (map_at old root) changes)
   pub known : new ≡ knows hash old (map_after (map_at old root) changes)
   pub stays : Stays old new
-
--- an entry as it is listed
-abbrev pub listed_as : Listed → List ℕ × List ℕ
-listed_as listed = (listed.address, listed.value)

@@ -1,19 +1,13 @@
-//! The state's tree over shared nodes: a map for each known root.
+//! The states of a journal: a map for each known root, over shared pieces.
 #![tactic(auto)]
 
-mod changing;
-mod children;
-mod flat;
-mod gathering;
+mod plain;
 mod prepared;
-mod reading;
-mod rooting;
-mod sharing;
-mod single;
 mod state;
 mod tree;
 
-pub use flat::change_map;
+pub use plain::change_map;
 pub use prepared::Prepared;
+pub use saw_runs::Listed;
 pub use state::State;
-pub use tree::{Listed, Tree};
+pub use tree::Tree;

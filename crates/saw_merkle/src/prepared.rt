@@ -3,15 +3,15 @@
 ghost use Rattle.std.specs.Prelude.{◌≡◌};
 
 use saw_node::NodeHash;
-use saw_store::NewNode;
+use saw_runs::NewPiece;
 use saw_wire::Items;
 use std::marker::Model;
 
-/// The root of a map, and nodes of it, among them all that no known map has.
+/// The root of a map, and pieces of it, among them all that no known map has.
 #[derive(Drop)]
 pub struct Prepared {
     pub(crate) root: NodeHash,
-    pub(crate) news: Items<NewNode>,
+    pub(crate) news: Items<NewPiece>,
 }
 
 impl Model for Prepared {

@@ -1,42 +1,41 @@
 //! The states of a journal.
 
-ghost use Rattle.std.specs.Prelude.{◌≡◌, ◌≤◌, [], ◌∷◌, None, Some, IfErr, IfOk, IfSome, IsSome, OnErr, OnOk};
+ghost use Rattle.std.specs.Prelude.{◌≡◌, ◌≤◌, [], ◌∷◌, None, Some, List, Option, ℕ, IfErr, IfOk, IfSome, IsSome, OnErr, OnOk};
 ghost use Rattle.std.specs.FinMap as finite;
 ghost use Rattle.saw_address.specs.Maps.{no_entries};
 ghost use Rattle.saw_context.specs.Changed.{AreRising};
 ghost use Rattle.saw_context.specs.Outcome.{map_after};
-ghost use Rattle.saw_node.specs.Nodes.{encoding_of, shape_of};
+ghost use Rattle.saw_node.specs.Nodes.{encoding_of};
 ghost use Rattle.saw_node.specs.Trees.{root_of_map};
-ghost use Rattle.saw_store.specs.News.{AreNamed, with_all};
-ghost use Rattle.saw_store.specs.Stores.{with_node};
+ghost use Rattle.saw_runs.specs.Entries.{AreNamed, Entry, entry_of};
+ghost use Rattle.saw_runs.specs.Entries.Entry.{OfNode};
+ghost use Rattle.saw_runs.specs.Keeping.{AddsPieces, AreClear};
+ghost use Rattle.saw_runs.specs.Readings.{read_at};
 ghost use Rattle.saw_merkle.specs.Clashes.{AreTold, AreToldWith, IsClashFor, IsPreparedFor};
 ghost use Rattle.saw_merkle.specs.Inside.{HasMore, HasSame};
 ghost use Rattle.saw_merkle.specs.States.{AreRooted, IsRooted, Updates, knows, map_at, state_at};
 
-use crate::flat::{Flat, moved};
 use crate::prepared::Prepared;
-use crate::rooting::{changed_root, show_addresses};
 use crate::tree::Tree;
 use saw_messages::Change;
 use saw_node::{Node, NodeHash, NodeHasher};
-use saw_store::{NewNode, NodeStore, StoreFault};
+use saw_runs::{NewPiece, Piece, Tables, changed_root, test_all};
+use saw_store::{StoreFault, hash_of_node};
 use saw_wire::Items;
 use std::alloc::{AllocError, Global};
-use std::collections::{BTreeMap, BTreeSet};
+use std::collections::BTreeSet;
 use std::marker::{Model, PhantomData};
 use std::thread::Threads;
 
 /// The map of each known root, seen as a finite map from roots to maps. Each root is that of its map, which has only
-/// addresses, and no two different nodes of the maps have one hash.
+/// addresses, and no two different pieces of the maps have one hash: forks, leaves, and the runs of only children between them.
 ///
-/// The maps share their nodes, and an update adds those along the paths of the changed addresses. The whole map of one
-/// root, as a rule the latest, lies beside them for fast reads.
+/// The maps share their pieces, and an update adds those along the paths of the changed addresses.
 pub struct State<H: NodeHasher> {
     alloc: Global,
-    store: NodeStore<H>,
+    tables: Tables<H>,
     roots: BTreeSet<NodeHash>,
     empty: NodeHash,
-    flat: Option<Flat>,
     of: PhantomData<H>,
 }
 
@@ -45,16 +44,16 @@ impl<H: NodeHasher> Drop for State<H> {
     fn drop(self) {
         let State {
             alloc: _,
-            store: _store,
+            tables: _tables,
             roots: _roots,
             empty: _,
-            flat: _flat,
             of: _,
         } = self;
     }
 }
 
 impl<H: NodeHasher> Model for State<H> {
+    ghost use Rattle.saw_runs.specs.Readings.{read_at};
     ghost use Rattle.saw_merkle.specs.Inside.{IsSound, states_of};
     ghost use Rattle.saw_merkle.specs.States.{States, states_code};
 
@@ -62,26 +61,28 @@ impl<H: NodeHasher> Model for State<H> {
 
     ghost coded = { states_code };
 
-    ghost view = { λ s. states_of s.store s.roots.keys };
+    ghost view = { λ s. states_of (read_at s.tables) s.roots.keys };
 
-    ghost invariant = { λ s. IsSound H.hash_of s.store s.roots.keys s.empty s.flat };
+    ghost invariant = { λ s. IsSound H.hash_of (read_at s.tables) s.roots.keys s.empty };
 }
 
-// Keeps nodes and makes a root known, or neither.
+// Keeps pieces and makes a root known, or neither.
 fn join<H: NodeHasher>(
-    store: &mut NodeStore<H>,
+    alloc: Global,
+    tables: &mut Tables<H>,
     roots: &mut BTreeSet<NodeHash>,
     root: NodeHash,
-    news: Vec<NewNode>,
+    news: Vec<NewPiece>,
 ) -> Result<(), AllocError>
-    requires { AreNamed H.hash_of news.items }
-    ensures store { OnOk result (store.new ≡ with_all H.hash_of store.old news.items) }
+    requires named { AreNamed H.hash_of news.items }
+    requires clear { AreClear (read_at tables.old) news.items }
+    ensures tables { OnOk result (AddsPieces (read_at tables.old) (read_at tables.new) news.items) }
     ensures roots { OnOk result (HasMore roots.old.keys roots.new.keys root) }
-    ensures err_store { OnErr result (store.new ≡ store.old) }
+    ensures err_tables { OnErr result ((h : List ℕ) → read_at tables.new h ≡ read_at tables.old h) }
     ensures err_roots { OnErr result (HasSame roots.old.keys roots.new.keys) }
 {
     let is_new = roots.insert(root)?;
-    if let Err(fault) = store.put_all(news) {
+    if let Err(fault) = tables.put_all(alloc, news) {
         if is_new {
             roots.remove(&root);
         }
@@ -90,15 +91,30 @@ fn join<H: NodeHasher>(
     Ok(())
 }
 
-// The hash of the node without anything, which is kept.
-fn put_empty<H: NodeHasher>(alloc: Global, store: &mut NodeStore<H>) -> Result<NodeHash, AllocError>
-    ensures hash { IfOk result (λ hash. hash ≡ H.hash_of (encoding_of (record { value = None; children = [] }))) }
-    ensures kept { OnOk result (store.new ≡ with_node H.hash_of store.old (record { value = None; children = [] })) }
+// The node without anything, which is the empty map's.
+fn empty_piece<H: NodeHasher>(alloc: Global) -> Result<NewPiece, AllocError>
+    ensures piece { IfOk result (λ made. entry_of made.piece ≡ OfNode (record { value = None; children = [] })) }
+    ensures hash { IfOk result (λ made. made.hash ≡ H.hash_of (encoding_of (record { value = None; children = [] }))) }
 {
-    match store.put(Node::empty(alloc)) {
-        Ok(empty) => Ok(empty),
-        Err(_) => Err(AllocError),
-    }
+    let node = Node::empty(alloc);
+    let hash = hash_of_node::<H>(alloc, &node)?;
+    Ok(NewPiece {
+        hash,
+        piece: Piece::Node(node),
+    })
+}
+
+// Tables that have this piece alone.
+fn only_piece<H: NodeHasher>(alloc: Global, piece: NewPiece) -> Result<Tables<H>, AllocError>
+    requires { AreNamed H.hash_of (piece ∷ []) }
+    ensures { IfOk result (λ made. (none : List ℕ → Option Entry) × ((h : List ℕ) → none h ≡ None)
+        × AddsPieces none (read_at made) (piece ∷ [])) }
+{
+    let mut tables = Tables::new(alloc)?;
+    let mut news = Vec::new(alloc);
+    news.push(piece)?;
+    tables.put_all(alloc, news)?;
+    Ok(tables)
 }
 
 // A set of one root.
@@ -115,31 +131,28 @@ impl<H: NodeHasher> State<H> {
     pub fn new(alloc: Global) -> Result<Self, AllocError>
         ensures { IfOk result (λ s. s ≡ knows H.hash_of finite.empty no_entries) }
     {
-        let mut store = NodeStore::<H>::new(alloc)?;
-        let empty = put_empty(alloc, &mut store)?;
+        let piece = empty_piece::<H>(alloc)?;
+        let empty = piece.hash;
+        let tables = only_piece::<H>(alloc, piece)?;
         let roots = only_root(alloc, empty)?;
         Ok(State {
             alloc,
-            store,
+            tables,
             roots,
             empty,
-            flat: Some(Flat {
-                root: empty,
-                map: BTreeMap::new(alloc),
-                away: 0,
-            }),
             of: PhantomData,
         })
     }
 
     /// That each known root is the root of its map, which has only addresses, that the empty map is known, and that no two
-    /// different nodes of the maps have one hash.
+    /// different pieces of the maps have one hash. Nodes inside a run are hashed and not kept: they are told apart by nothing,
+    /// and nothing is looked up by their hashes.
     pub fn sound(&self)
         ensures empty { state_at self.now (root_of_map H.hash_of no_entries) ≡ Some no_entries }
         ensures rooted { AreRooted H.hash_of self.now }
         ensures told { AreTold H.hash_of self.now }
     {
-        let _ = &self.store;
+        let _ = &self.tables;
     }
 
     /// The map of a known root. `None`: the root is not known.
@@ -150,26 +163,15 @@ impl<H: NodeHasher> State<H> {
         if !self.roots.contains(root) {
             return None;
         }
-        let flat = match &self.flat {
-            None => None,
-            Some(flat) => {
-                if flat.root == *root {
-                    Some(&flat.map)
-                } else {
-                    None
-                }
-            }
-        };
         Some(Tree {
             alloc: self.alloc,
-            store: &self.store,
+            tables: &self.tables,
             root: *root,
-            flat,
         })
     }
 
-    /// The root after changes of a known root's map, with the nodes that the new map needs, hashed by so many workers.
-    /// Nothing is made known or kept. `Collision`: the new map has a node that clashes.
+    /// The root after changes of a known root's map, with the pieces that the new map needs, hashed by so many
+    /// workers. Nothing is made known or kept. `Collision`: the new map has a node that clashes.
     pub fn prepare<T: Threads + Sync>(
         &self,
         rt: &T,
@@ -185,19 +187,18 @@ impl<H: NodeHasher> State<H> {
         ensures clash { IfErr result
             (IsClashFor H.hash_of self.now (map_after (map_at self.now root.now) changes.now)) }
     {
-        show_addresses(changes);
         let mut news = Vec::new(self.alloc);
         let root = changed_root(
             rt,
             self.alloc,
-            &self.store,
+            &self.tables,
             &self.empty,
             root,
             changes,
             workers as usize,
             &mut news,
         )?;
-        self.store.test_all(&news)?;
+        test_all(self.alloc, &self.tables, &news)?;
         Ok(Prepared {
             root,
             news: Items::from_vec(news),
@@ -218,9 +219,13 @@ impl<H: NodeHasher> State<H> {
         ensures err { OnErr result (self.new ≡ self.old) }
     {
         let Prepared { root: answer, news } = prepared;
-        join(&mut self.store, &mut self.roots, answer, news.into_vec())?;
-        let flat = self.flat.take();
-        self.flat = moved(self.alloc, &self.store, flat, root, &answer, changes);
+        join(
+            self.alloc,
+            &mut self.tables,
+            &mut self.roots,
+            answer,
+            news.into_vec(),
+        )?;
         Ok(answer)
     }
 

@@ -47,3 +47,18 @@ fn each_root_keeps_its_map(rt: HostRuntime) -> Result<(), Fail> {
     assert!(rt; seen(&state, &empty_root(), 0)? == (false, 0));
     Ok(())
 }
+
+#[test]
+fn a_fork_of_many_entries_is_switched(rt: HostRuntime) -> Result<(), Fail> {
+    let alloc = rt.alloc();
+    let mut state: State<Sha512Half> = State::new(alloc)?;
+    let first = grown(&rt, alloc, &mut state, &empty_root(), 0, 1_000)?;
+    let second = grown(&rt, alloc, &mut state, &first, 10_000, 10)?;
+    let other = grown(&rt, alloc, &mut state, &first, 20_000, 10)?;
+    let third = grown(&rt, alloc, &mut state, &second, 30_000, 10)?;
+    assert!(rt; seen(&state, &second, 10_005)? == (true, 1_010));
+    assert!(rt; seen(&state, &other, 10_005)? == (false, 1_010));
+    assert!(rt; seen(&state, &other, 20_005)? == (true, 1_010));
+    assert!(rt; seen(&state, &third, 999)? == (true, 1_020));
+    Ok(())
+}

@@ -1,4 +1,4 @@
-//! Tests of states over shared nodes: roots by several workers, reads after a fork, and nodes that clash.
+//! Tests of states over shared pieces: roots by several workers, reads after a fork, and nodes that clash.
 #![tactic(auto)]
 
 #[cfg(test)]
@@ -7,5 +7,7 @@ mod clashes;
 mod forks;
 #[cfg(test)]
 mod many;
+#[cfg(test)]
+mod shapes;
 #[cfg(test)]
 mod workers;

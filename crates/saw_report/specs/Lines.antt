@@ -6,7 +6,7 @@ use Rattle.saw_checks.specs.declared.fault.BatchFault.{BatchFault}
 use Rattle.saw_checks.specs.declared.fault.BatchFault.TheVariants as batches
 use Rattle.saw_checks.specs.declared.fault.StructureFault.{StructureFault}
 use Rattle.saw_checks.specs.declared.fault.StructureFault.TheVariants as blocks
-use Rattle.saw_merkle.specs.declared.tree.Listed.{Listed}
+use Rattle.saw_merkle.specs.States.{Listed}
 use Rattle.saw_messages.specs.declared.outcome.Reason.{Reason}
 use Rattle.saw_messages.specs.declared.outcome.Reason.TheVariants as reasons
 use Rattle.saw_messages.specs.declared.receipt.Receipt.{Receipt}

@@ -9,4 +9,4 @@ mod store;
 pub use fault::StoreFault;
 pub use laws::{clear_nodes_are_kept, last_node_stays};
 pub use new_node::NewNode;
-pub use store::{NodeStore, hash_of_node};
+pub use store::{NodeStore, copy_node, hash_of_node, is_same_node};

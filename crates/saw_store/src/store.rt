@@ -103,10 +103,10 @@ impl<H: NodeHasher> NodeStore<H> {
                 Ok(())
             }
             Some(kept) => {
-                if is_same(kept, &node) {
+                if is_same_node(kept, &node) {
                     return Ok(());
                 }
-                let kept = copied(self.alloc, kept)?;
+                let kept = copy_node(self.alloc, kept)?;
                 Err(StoreFault::Collision { kept, given: node })
             }
         }
@@ -208,8 +208,8 @@ pub fn hash_of_node<H: NodeHasher>(alloc: Global, node: &Node) -> Result<NodeHas
     Ok(H::hash(&encoding))
 }
 
-// Whether two nodes have the same value and the same children.
-fn is_same(first: &Node, second: &Node) -> bool
+/// Whether two nodes have the same value and the same children.
+pub fn is_same_node(first: &Node, second: &Node) -> bool
     ensures { IsTrue result ↔ (shape_of first.now ≡ shape_of second.now) }
 {
     is_same_value(first.value(), second.value()) && first.children() == second.children()
@@ -220,11 +220,11 @@ fn test_same(alloc: Global, kept: &Node, given: &Node) -> Result<(), StoreFault>
     ensures same { OnOk result (shape_of kept.now ≡ shape_of given.now) }
     ensures apart { IfErr result (IsToldApart (shape_of kept.now) (shape_of given.now)) }
 {
-    if is_same(kept, given) {
+    if is_same_node(kept, given) {
         return Ok(());
     }
-    let kept = copied(alloc, kept)?;
-    let given = copied(alloc, given)?;
+    let kept = copy_node(alloc, kept)?;
+    let given = copy_node(alloc, given)?;
     Err(StoreFault::Collision { kept, given })
 }
 
@@ -238,8 +238,8 @@ fn is_same_value(first: Option<&Bytes>, second: Option<&Bytes>) -> bool
     }
 }
 
-// The same node anew.
-fn copied(alloc: Global, node: &Node) -> Result<Node, AllocError>
+/// The same node anew.
+pub fn copy_node(alloc: Global, node: &Node) -> Result<Node, AllocError>
     ensures { IfOk result (λ copy. shape_of copy ≡ shape_of node.now) }
 {
     let children = copied_children(alloc, node.children())?;

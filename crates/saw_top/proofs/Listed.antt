@@ -9,9 +9,8 @@ use Rattle.saw_context.proofs.Keys.{entries-empty}
 use Rattle.saw_journal.proofs.Linking.{head_so}
 use Rattle.saw_receipts.specs.Heads.{head_of}
 use Rattle.saw_journal.specs.Ledger.{map_under}
-use Rattle.saw_merkle.specs.States.{States, listed_as, state_at}
+use Rattle.saw_merkle.specs.States.{Listed, States, listed_as, state_at}
 use Rattle.saw_receipts.specs.declared.block.BlockRecord.{BlockRecord}
-use Rattle.saw_merkle.specs.declared.tree.Listed.{Listed}
 use Rattle.saw_report.specs.Lines.{listed_line}
 use Rattle.saw_top.specs.Listing.{entries_under, entry_line, listing, listing_status}
 

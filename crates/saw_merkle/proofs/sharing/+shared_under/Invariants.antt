@@ -1,4 +1,0 @@
-use Rattle.saw_merkle.proofs.sharing.+shared_under.Given as goal
-
-abbrev pub decreases-shared_under : goal.decreases-shared_under
-decreases-shared_under g l = l.levels

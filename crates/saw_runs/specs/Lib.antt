@@ -1,0 +1,16 @@
+pub mod Places
+pub mod Runs
+pub mod Tables
+pub mod Entries
+pub mod Readings
+pub mod Keeping
+pub mod Apart
+pub mod Told
+pub mod Pieces
+pub mod OfMaps
+pub mod Lowers
+pub mod Listing
+pub mod Below
+pub mod Changes
+pub mod Parts
+pub mod Idle

@@ -1,0 +1,23 @@
+//! The state's tree kept as runs, forks and leaves.
+#![tactic(auto)]
+
+mod changing;
+mod effective;
+mod kids;
+mod listing;
+mod lowers;
+mod pieces;
+mod reading;
+mod roots;
+mod run;
+mod sharing;
+mod tables;
+mod testing;
+
+pub use listing::{Listed, list_below};
+pub use pieces::{NewPiece, Piece};
+pub use reading::value_below;
+pub use roots::changed_root;
+pub use run::{Run, hash_up};
+pub use tables::{Found, Tables};
+pub use testing::test_all;
