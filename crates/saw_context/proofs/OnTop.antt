@@ -34,7 +34,7 @@ value_at-map_after m (change ∷ changes) at =
     value_at-map_after (changed_at m change.address change.value) changes at
     ∙ ap (value_after changes at) (value_at-changed_at m change.address change.value at)
 
-value_after_apart : (changes : List Change) (at : List ℕ) (below : Option (List ℕ))
+pub value_after_apart : (changes : List Change) (at : List ℕ) (below : Option (List ℕ))
     → AllByRecursion (λ change. bytes_eq change.address at ≡ false) changes → value_after changes at below ≡ below
 value_after_apart [] at below apart = refl
 value_after_apart (change ∷ changes) at below apart =

@@ -237,7 +237,7 @@ impl Overlay {
         ensures front { OnErr result (HasFront changed_by_all self.old changes.now self.new) }
     {
         for change in changes {
-            self.change(copy_of_change(alloc, change)?)?;
+            self.change(change.try_clone(alloc)?)?;
         }
         Ok(())
     }
@@ -267,19 +267,6 @@ fn below<B: Base>(alloc: Global, view: &View, base: &B, at: &Address) -> Result<
             None => Ok(Bytes::new(alloc)),
         },
     }
-}
-
-fn copy_of_change(alloc: Global, change: &Change) -> Result<Change, AllocError>
-    ensures { IfOk result (λ made. made ≡ change.now) }
-{
-    let value = match &change.value {
-        Some(value) => Some(value.try_clone(alloc)?),
-        None => None,
-    };
-    Ok(Change {
-        address: change.address,
-        value,
-    })
 }
 
 fn copy_of(alloc: Global, value: &Option<Bytes>) -> Result<Bytes, AllocError>

@@ -1,4 +1,4 @@
-//! Tests of workers: stations that answer only while others run, or once another was answered.
+//! Tests of workers: stations that answer only while others run, or once another was answered; and of their job queues.
 #![tactic(auto)]
 
 #[cfg(test)]
@@ -11,3 +11,5 @@ mod meeting;
 mod meets;
 #[cfg(test)]
 mod reruns;
+#[cfg(test)]
+mod seats;

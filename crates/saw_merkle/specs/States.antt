@@ -9,6 +9,8 @@ use Rattle.saw_context.specs.Outcome.{map_after}
 use Rattle.saw_messages.specs.declared.outcome.Change.{Change}
 use Rattle.saw_node.specs.Trees.{root_of_map}
 pub use Rattle.saw_runs.specs.Below.{listed_as}
+pub use Rattle.saw_runs.specs.Differing.{IsDifference}
+pub use Rattle.saw_runs.specs.Paths.{path_of}
 pub use Rattle.saw_runs.specs.declared.listing.Listed.{Listed}
 
 -- the map of each known root

@@ -13,13 +13,13 @@ ghost use Rattle.saw_runs.specs.Keeping.{AddsPieces, AreClear};
 ghost use Rattle.saw_runs.specs.Readings.{read_at};
 ghost use Rattle.saw_merkle.specs.Clashes.{AreTold, AreToldWith, IsClashFor, IsPreparedFor};
 ghost use Rattle.saw_merkle.specs.Inside.{HasMore, HasSame};
-ghost use Rattle.saw_merkle.specs.States.{AreRooted, IsRooted, Updates, knows, map_at, state_at};
+ghost use Rattle.saw_merkle.specs.States.{AreRooted, IsDifference, IsRooted, Updates, knows, map_at, state_at};
 
 use crate::prepared::Prepared;
 use crate::tree::Tree;
 use saw_messages::Change;
 use saw_node::{Node, NodeHash, NodeHasher};
-use saw_runs::{NewPiece, Piece, Tables, changed_root, test_all};
+use saw_runs::{NewPiece, Piece, Tables, changed_root, difference, test_all};
 use saw_store::{StoreFault, hash_of_node};
 use saw_wire::Items;
 use std::alloc::{AllocError, Global};
@@ -168,6 +168,18 @@ impl<H: NodeHasher> State<H> {
             tables: &self.tables,
             root: *root,
         })
+    }
+
+    /// The changes that lead from one known root's map to another's, in address order. It costs what lies along the ways to
+    /// the entries that differ.
+    pub fn difference(&self, from: &NodeHash, to: &NodeHash) -> Result<Vec<Change>, AllocError>
+        requires from { IsSome (state_at self.now from.now) }
+        requires to { IsSome (state_at self.now to.now) }
+        ensures { IfOk result (λ changes.
+            IsDifference (map_at self.now from.now) (map_at self.now to.now) changes.items) }
+    {
+        let changes = difference(self.alloc, &self.tables, from, to)?;
+        Ok(changes)
     }
 
     /// The root after changes of a known root's map, with the pieces that the new map needs, hashed by so many

@@ -4,11 +4,13 @@ ghost use Rattle.std.specs.Prelude.{◌≡◌, map, IfOk};
 ghost use Rattle.std.specs.FinMap as finite;
 ghost use Rattle.std.specs.List.{filter};
 ghost use Rattle.saw_address.specs.Prefixes.{covers};
-ghost use Rattle.saw_merkle.specs.States.{listed_as};
+ghost use Rattle.saw_node.specs.Nodes.{shape_of};
+ghost use Rattle.saw_node.specs.Trees.{root_of_map};
+ghost use Rattle.saw_merkle.specs.States.{listed_as, path_of};
 
 use saw_address::{Address, Base, Prefix};
-use saw_node::{NodeHash, NodeHasher};
-use saw_runs::{Listed, Tables, list_below, value_below};
+use saw_node::{Node, NodeHash, NodeHasher};
+use saw_runs::{Listed, Tables, list_below, path_below, value_below};
 use std::alloc::{AllocError, Global};
 use std::marker::Model;
 
@@ -56,5 +58,22 @@ impl<'a, H: NodeHasher> Tree<'a, H> {
     {
         let listed = list_below(self.alloc, self.tables, &self.root, prefix)?;
         Ok(listed)
+    }
+
+    /// The root that it is the map of. It takes no memory.
+    pub fn root(&self) -> NodeHash
+        ensures { result ≡ root_of_map H.hash_of self.now }
+    {
+        self.root
+    }
+
+    /// The nodes of its tree at the address's first 0, 1, 2, .. bytes, up to the first one that has no child for the next
+    /// byte, or down to the address's own.
+    pub fn path(&self, at: &Address) -> Result<Vec<Node>, AllocError>
+        ensures { IfOk result
+            (λ nodes. map shape_of nodes.items ≡ path_of H.hash_of (finite.entries self.now) at.now) }
+    {
+        let nodes = path_below(self.alloc, self.tables, &self.root, at)?;
+        Ok(nodes)
     }
 }

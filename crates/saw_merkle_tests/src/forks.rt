@@ -1,5 +1,6 @@
 //! Reads of several roots.
 
+use crate::differences::led;
 use crate::many::{address_of, many};
 use saw_address::{Base, Prefix};
 use saw_merkle::State;
@@ -52,13 +53,14 @@ fn each_root_keeps_its_map(rt: HostRuntime) -> Result<(), Fail> {
 fn a_fork_of_many_entries_is_switched(rt: HostRuntime) -> Result<(), Fail> {
     let alloc = rt.alloc();
     let mut state: State<Sha512Half> = State::new(alloc)?;
-    let first = grown(&rt, alloc, &mut state, &empty_root(), 0, 1_000)?;
-    let second = grown(&rt, alloc, &mut state, &first, 10_000, 10)?;
-    let other = grown(&rt, alloc, &mut state, &first, 20_000, 10)?;
+    let first = grown(&rt, alloc, &mut state, &empty_root(), 0, 100)?;
+    let second = grown(&rt, alloc, &mut state, &first, 10_000, 10_000)?;
+    let other = grown(&rt, alloc, &mut state, &first, 20_000, 10_000)?;
     let third = grown(&rt, alloc, &mut state, &second, 30_000, 10)?;
-    assert!(rt; seen(&state, &second, 10_005)? == (true, 1_010));
-    assert!(rt; seen(&state, &other, 10_005)? == (false, 1_010));
-    assert!(rt; seen(&state, &other, 20_005)? == (true, 1_010));
-    assert!(rt; seen(&state, &third, 999)? == (true, 1_020));
+    assert!(rt; seen(&state, &second, 10_005)? == (true, 10_100));
+    assert!(rt; seen(&state, &other, 10_005)? == (false, 10_100));
+    assert!(rt; seen(&state, &other, 20_005)? == (true, 10_100));
+    assert!(rt; seen(&state, &third, 99)? == (true, 10_110));
+    assert!(rt; led(&rt, &state, &second, &other)? == 20_000);
     Ok(())
 }

@@ -1,12 +1,18 @@
-//! Tests of states over shared pieces: roots by several workers, reads after a fork, and nodes that clash.
+//! Tests of states over shared pieces: roots by several workers, reads after a fork, paths and proofs, differences, and nodes that clash.
 #![tactic(auto)]
 
 #[cfg(test)]
 mod clashes;
 #[cfg(test)]
+mod differences;
+#[cfg(test)]
 mod forks;
 #[cfg(test)]
 mod many;
+#[cfg(test)]
+mod paths;
+#[cfg(test)]
+mod proofs;
 #[cfg(test)]
 mod shapes;
 #[cfg(test)]

@@ -35,7 +35,7 @@ fn address(seed: &mut u64) -> Address {
 }
 
 /// A few changes: entries that are set, and some of the map's that are taken out, in late rounds more of these.
-fn block(
+pub(crate) fn block(
     alloc: Global,
     seed: &mut u64,
     late: bool,

@@ -1,8 +1,11 @@
 //! What a transaction does.
 
+ghost use Rattle.std.specs.Prelude.{◌≡◌, IfOk};
+
 use crate::receipt::Event;
 use saw_address::Address;
 use saw_wire::{Bytes, Items};
+use std::alloc::{AllocError, Global};
 
 /// Why a transaction is invalid.
 #[derive(Clone, Copy, Debug, PartialEq, Eq)]
@@ -26,6 +29,22 @@ pub enum Reason {
 pub struct Change {
     pub address: Address,
     pub value: Option<Bytes>,
+}
+
+impl Change {
+    /// A copy of the whole.
+    pub fn try_clone(&self, alloc: Global) -> Result<Self, AllocError>
+        ensures { IfOk result (λ made. made ≡ self.now) }
+    {
+        let value = match &self.value {
+            Some(value) => Some(value.try_clone(alloc)?),
+            None => None,
+        };
+        Ok(Change {
+            address: self.address,
+            value,
+        })
+    }
 }
 
 /// What a transaction does.

@@ -32,14 +32,14 @@ all_flat : {X A : Type 0} (P : A → Type 0) (f : X → List A) → ((x : X) →
 all_flat P f each [] = tt
 all_flat P f each (x ∷ xs) = all_append P (f x) (flat_map f xs) (each x) (all_flat P f each xs)
 
-abbrev IsUnder : List ℕ → List ℕ × List ℕ → Type 0
+abbrev pub IsUnder : List ℕ → List ℕ × List ℕ → Type 0
 IsUnder place e = covers place e.0 ≡ true
 
 under_shorter : (place rest : List ℕ) (es : Entries) → AllByRecursion (IsUnder (place ++ rest)) es → AllByRecursion (IsUnder place) es
 under_shorter place rest es all = all_weaker (IsUnder (place ++ rest)) (IsUnder place) (λ e under. covers-shorter place rest e.0 under) es all
 
 module _ (read : List ℕ → Option Entry) where
-  read_under_place : (levels : ℕ) (place path bottom : List ℕ) → AllByRecursion (IsUnder place) (read_below read levels place path bottom)
+  pub read_under_place : (levels : ℕ) (place path bottom : List ℕ) → AllByRecursion (IsUnder place) (read_below read levels place path bottom)
   unfolding read_below
   read_under_place zero place [] bottom = value (entry_value (read bottom))
     where

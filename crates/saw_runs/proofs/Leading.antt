@@ -56,11 +56,11 @@ covers_taken at i = ap (covers (take i at)) (sym (take-append-drop i at)) ∙ co
 pub size_of : (at : List ℕ) → is_address at ≡ true → length at ≡ 35
 size_of at is = eqb-true (length at) 35 (and_parts (nat_eq (length at) 35) (list_all (λ b. nat_lt b 256) at) is).0
 
-small_of : (at : List ℕ) (i : ℕ) → is_address at ≡ true → i < 35 → get_or at i 0 < 256
+pub small_of : (at : List ℕ) (i : ℕ) → is_address at ≡ true → i < 35 → get_or at i 0 < 256
 small_of at i is lt = let size = size_of at is in small_at at i (and_parts (nat_eq (length at) 35) (list_all (λ b. nat_lt b 256) at) is).1 (omega (arith, size, lt))
 
 -- bytes that an address begins with
-taken_covers : (p q : List ℕ) → covers p q ≡ true → take (length p) q ≡ p
+pub taken_covers : (p q : List ℕ) → covers p q ≡ true → take (length p) q ≡ p
 taken_covers [] q h = refl
 taken_covers (x ∷ p) [] h = absurd (true≢false (sym h))
 taken_covers (x ∷ p) (y ∷ q) h =
@@ -112,7 +112,7 @@ module _ (hash : List ℕ → List ℕ) (R : List ℕ → Entry → Type 0) (m :
       ]
 
 module _ (hash : List ℕ → List ℕ) (read : List ℕ → Option Entry) (m : StateMap) (at : List ℕ) (i : ℕ) (h : List ℕ) (there : IsAt hash read m at i h) where
-  not_missing : read h ≡ None → ⊥
+  pub not_missing : read h ≡ None → ⊥
   not_missing none = elim there.told [
     | inl node ↦ no_some (sym none ∙ told_node hash (IsRead read) (finite.entries m) there.levels (take i at) h node)
     | inr run ↦ no_some (sym none ∙ run.3)
@@ -122,7 +122,7 @@ module _ (hash : List ℕ → List ℕ) (read : List ℕ → Option Entry) (m : 
       no_some e = cc
 
   -- a run that is read tells it
-  run_told : (path bottom : List ℕ) → read h ≡ Some (OfRun path bottom) → (path ≢ []) × IsTold hash (IsRead read) (finite.entries m) there.levels (take i at) path bottom
+  pub run_told : (path bottom : List ℕ) → read h ≡ Some (OfRun path bottom) → (path ≢ []) × IsTold hash (IsRead read) (finite.entries m) there.levels (take i at) path bottom
   run_told path bottom is = elim there.told [
     | inl node ↦ absurd (apart (sym is ∙ told_node hash (IsRead read) (finite.entries m) there.levels (take i at) h node))
     | inr run ↦
@@ -147,7 +147,7 @@ module _ (hash : List ℕ → List ℕ) (read : List ℕ → Option Entry) (m : 
       not_nil e = cc
 
   -- so does a node
-  node_told : (shape : Shape) → read h ≡ Some (OfNode shape)
+  pub node_told : (shape : Shape) → read h ≡ Some (OfNode shape)
       → (shape ≡ node_at hash (finite.entries m) there.levels (take i at)) × IsTold hash (IsRead read) (finite.entries m) there.levels (take i at) [] h
   node_told shape is = elim there.told [
     | inl node ↦ (same (sym is ∙ told_node hash (IsRead read) (finite.entries m) there.levels (take i at) h node), node)
@@ -185,16 +185,16 @@ module _ (hash : List ℕ → List ℕ) (read : List ℕ → Option Entry) (m : 
         let parts = and_parts (covers (take i at) at) (covers path (drop (length (take i at)) at)) (sym (covers_parts (take i at) path at) ∙ whole) in
         both_ways _ off (ap (λ n. covers path (drop n at)) (sym place_size) ∙ parts.1)))
 
-    abbrev low : ℕ
+    abbrev pub low : ℕ
     low = there.levels - 1
 
-    up : there.levels ≡ suc (there.levels - 1)
+    pub up : there.levels ≡ suc (there.levels - 1)
     up = let d = there.deep in omega (arith, d, within)
 
-    next_place : take (i + 1) at ≡ take i at ++ get_or at i 0 ∷ []
+    pub next_place : take (i + 1) at ≡ take i at ++ get_or at i 0 ∷ []
     next_place = let size = size_of at is in take_more at i 0 (omega (arith, size, within))
 
-    child_is : (shape : Shape) → read h ≡ Some (OfNode shape) → at_byte (get_or at i 0) shape.children ≡ hashes_of hash low (take i at) m (get_or at i 0)
+    pub child_is : (shape : Shape) → read h ≡ Some (OfNode shape) → at_byte (get_or at i 0) shape.children ≡ hashes_of hash low (take i at) m (get_or at i 0)
     child_is shape found =
         let small : get_or at i 0 < 256 = small_of at i is within in
         ap (λ (s : Shape). at_byte (get_or at i 0) s.children)

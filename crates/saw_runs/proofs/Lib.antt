@@ -24,3 +24,6 @@ pub mod Descending
 pub mod Adding
 pub mod Noted
 pub mod Clashing
+pub mod OnPath
+pub mod Between
+pub mod SideBySide

@@ -41,10 +41,10 @@ unfolding IsStrictlySortedBy
 rising_without [] c rest h = h.1
 rising_without (x ∷ left) c rest h = (keys_without _ left c rest h.0, rising_without left c rest h.1)
 
-not_less : Equal ≡ Less → ⊥
+pub not_less : Equal ≡ Less → ⊥
 not_less e = cc
 
-less_apart : (x y : List ℕ) → slice_cmp nat_cmp x y ≡ Less → bytes_eq x y ≡ false
+pub less_apart : (x y : List ℕ) → slice_cmp nat_cmp x y ≡ Less → bytes_eq x y ≡ false
 less_apart x y less = false_from_ne_true (bytes_eq x y) (λ same.
     not_less (sym (tied_itself nat_list_cmp_total x) ∙ ap (slice_cmp nat_cmp x) ((bytes_eq-Decides x y).0 same) ∙ less))
 

@@ -1,5 +1,5 @@
 -- New pieces by their kinds and places, and where two pieces of one hash are apart.
-use Rattle.std.specs.Prelude.{◌≡◌, ◌≢◌, ◌<◌, ◌+◌, ℕ, cond, List, [], ◌∷◌, ◌++◌, drop, length, slice_index_or, take, Option, Some, None}
+use Rattle.std.specs.Prelude.{◌≡◌, ◌≢◌, ◌<◌, ℕ, cond, List, [], ◌∷◌, ◌++◌, drop, length, slice_index_or, take, Option, Some, None}
 use Rattle.std.specs.Map.{lookup}
 use Rattle.std.specs.Str.{bytes_eq}
 use Rattle.saw_node.specs.Nodes.{Shape}

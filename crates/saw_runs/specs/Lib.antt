@@ -14,3 +14,5 @@ pub mod Below
 pub mod Changes
 pub mod Parts
 pub mod Idle
+pub mod Paths
+pub mod Differing

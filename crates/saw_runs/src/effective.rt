@@ -61,22 +61,9 @@ fn copies(alloc: Global, changes: &[Change]) -> Result<Vec<Change>, AllocError>
 {
     let mut made = Vec::with_capacity(alloc, changes.len())?;
     for change in changes {
-        made.push(copied(alloc, change)?)?;
+        made.push(change.try_clone(alloc)?)?;
     }
     Ok(made)
-}
-
-fn copied(alloc: Global, change: &Change) -> Result<Change, AllocError>
-    ensures { IfOk result (λ made. made ≡ change.now) }
-{
-    let value = match &change.value {
-        Some(value) => Some(value.try_clone(alloc)?),
-        None => None,
-    };
-    Ok(Change {
-        address: change.address,
-        value,
-    })
 }
 
 // Copies those that are not idle behind the others.
@@ -94,7 +81,7 @@ fn add_active<H>(
 {
     for change in changes {
         if !is_idle(tables, root, change) {
-            left.push(copied(alloc, change)?)?;
+            left.push(change.try_clone(alloc)?)?;
         }
     }
     Ok(())

@@ -2,10 +2,12 @@
 #![tactic(auto)]
 
 mod changing;
+mod differing;
 mod effective;
 mod kids;
 mod listing;
 mod lowers;
+mod paths;
 mod pieces;
 mod reading;
 mod roots;
@@ -14,7 +16,9 @@ mod sharing;
 mod tables;
 mod testing;
 
+pub use differing::difference;
 pub use listing::{Listed, list_below};
+pub use paths::path_below;
 pub use pieces::{NewPiece, Piece};
 pub use reading::value_below;
 pub use roots::changed_root;

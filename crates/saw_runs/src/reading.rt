@@ -30,8 +30,8 @@ pub fn value_below<'a, H>(tables: &'a Tables<H>, root: &NodeHash, at: &Address) 
     value_read(tables, &place.1)
 }
 
-// One step down: behind a run whose bytes the address has, or to the child at the next byte.
-fn step<H>(
+/// One step down: behind a run whose bytes the address has, or to the child at the next byte.
+pub(crate) fn step<H>(
     tables: &Tables<H>,
     hash: &NodeHash,
     bytes: &[u8],

@@ -19,8 +19,6 @@ use std::collections::HashMap;
 use std::marker::{Model, PhantomData};
 
 /// Keeps one node for each hash. It is seen as the finite map from hashes to nodes.
-///
-/// Nodes lie in the order in which they were put, so an only child that was put right before its node lies beside it.
 #[derive(Drop)]
 pub struct NodeStore<H> {
     alloc: Global,
@@ -44,22 +42,6 @@ impl<H> NodeStore<H> {
         ensures { option_map shape_of (option_copied result) ≡ kept_at self.now hash.now }
     {
         self.nodes.get(hash)
-    }
-
-    /// The node that is kept under a hash, and a place to look at first for its like. Where the node lies at the place that
-    /// is handed in, nothing is searched for; no clause promises the place.
-    pub fn find(&self, hash: &NodeHash, near: usize) -> Option<(usize, &Node)>
-        ensures { option_map (λ found. shape_of found.1.now) result ≡ kept_at self.now hash.now }
-    {
-        if let Some((kept, node)) = self.nodes.get_index(near) {
-            if *kept == *hash {
-                return Some((near, node));
-            }
-        }
-        match self.nodes.get_full(hash) {
-            None => None,
-            Some((place, _, node)) => Some((place, node)),
-        }
     }
 }
 

@@ -34,6 +34,8 @@ fn laws_of_messages_and_roots(_rt: HostRuntime) {
     saw_node::same_root::<OneByte>();
     saw_node::order_does_not_show::<Sha512Half>();
     saw_node::order_does_not_show::<OneByte>();
+    saw_proofs::checked_entries_are::<Sha512Half>();
+    saw_proofs::told_proofs_are_good::<Sha512Half>();
 }
 
 #[test]
@@ -79,6 +81,8 @@ fn laws_of_schedules(_rt: HostRuntime) {
     saw_schedule::never_stuck();
     saw_schedule::no_needless_rerun();
     saw_schedule::few_reruns();
+    saw_tickets::claimed_once();
+    saw_tickets::claimed_is_issued();
 }
 
 #[test]

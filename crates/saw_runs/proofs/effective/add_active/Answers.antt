@@ -4,7 +4,7 @@ use Rattle.saw_messages.specs.declared.outcome.Change.{Change}
 use Rattle.saw_runs.specs.Idle.{AreActive, IsActive, StandsFor}
 use Rattle.saw_runs.specs.Readings.{read_at}
 use Rattle.saw_runs.proofs.Skipping.{one_skipped, one_taken}
-use Rattle.saw_runs.proofs.effective.add_active.Goals.{then-not-is_idle+in_ok-copied+in_ok-push, else-not-is_idle}
+use Rattle.saw_runs.proofs.effective.add_active.Goals.{then-not-is_idle+in_ok-try_clone+in_ok-push, else-not-is_idle}
 use Rattle.saw_runs.proofs.effective.add_active.Goals as goal
 
 pub loop-change-preserved : goal.loop-change-preserved
@@ -13,9 +13,9 @@ loop-change-preserved g c =
     let here = c.change-item.result in
     let all = c.args.left.now.items ++ c.args.changes.now in
     elim c.if-not-is_idle.branch [
-      | then-not-is_idle+in_ok-copied+in_ok-push w ↦
+      | then-not-is_idle+in_ok-try_clone+in_ok-push w ↦
           let is : c.if-not-is_idle.left.items ≡ l.left.items ++ here ∷ [] =
-          ap (λ v. v.items) w.left-is ∙ w.in_ok-push.ensures.items ∙ ap (λ (x : Change). l.left.items ++ x ∷ []) w.in_ok-copied.ensures in
+          ap (λ v. v.items) w.left-is ∙ w.in_ok-push.ensures.items ∙ ap (λ (x : Change). l.left.items ++ x ∷ []) w.in_ok-try_clone.ensures in
           record {
             stands = one_taken (read_at c.args.tables.now) c.args.root.now l.left.items c.args.changes.now all l.change-index here c.change-item.is
                 c.loop-change-test.true l.invariant.stands c.if-not-is_idle.left.items is;

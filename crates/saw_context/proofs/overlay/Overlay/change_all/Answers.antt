@@ -9,4 +9,4 @@ loop-change-preserved c =
     let i = c.loop-change.change-index in
     let change = c.change-item.result in
     let more : take (i + 1) xs ≡ take i xs ++ change ∷ [] = take_more xs i change c.loop-change-test.true ∙ ap (λ e. take i xs ++ e ∷ []) (sym c.change-item.is) in
-    rw (more, changed_by_all-push, ← c.loop-change.invariant, ← c.in_ok-copy_of_change.ensures) c.in_ok-change.ensures.ok
+    rw (more, changed_by_all-push, ← c.loop-change.invariant, ← c.in_ok-try_clone.ensures) c.in_ok-change.ensures.ok

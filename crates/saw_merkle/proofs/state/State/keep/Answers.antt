@@ -1,4 +1,4 @@
-use Rattle.std.proofs.Common.{ap, subst, sym, refl, ◌∙◌, List, ℕ}
+use Rattle.std.proofs.Common.{ap, subst, sym, refl, ◌∙◌}
 use Rattle.std.proofs.Math.Path.{fun_ext}
 use Rattle.std.proofs.lemmas.Result.{err_from_is_err_and}
 use Rattle.saw_context.specs.Outcome.{map_after}

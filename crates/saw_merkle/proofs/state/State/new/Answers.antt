@@ -1,4 +1,4 @@
-use Rattle.std.proofs.Common.{[], refl}
+use Rattle.std.proofs.Common.{refl}
 use Rattle.saw_runs.specs.Readings.{read_at}
 use Rattle.saw_merkle.proofs.Sound.{empty_sound, empty_states}
 use Rattle.saw_merkle.proofs.state.State.new.Goals as goal

@@ -1,0 +1,2 @@
+pub mod TicketHistory
+pub mod Seats
