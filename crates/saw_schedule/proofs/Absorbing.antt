@@ -1,5 +1,5 @@
 -- Changes gone through, one after another.
-use Rattle.std.proofs.Common.{◌≡◌, ◌<◌, ◌≤◌, ◌+◌, ◌-◌, ℕ, suc, Bool, true, false, cond, List, [], ◌∷◌, ◌++◌, filter, length, take, Some, None, slice_get, refl, sym, ap, subst, ◌∙◌, arith, bytes_eq, append-nil, if◌then◌else◌, ◌⊎◌, inl, inr, true≢false}
+use Rattle.std.proofs.Common.{◌≢◌, ◌≡◌, ◌<◌, ◌≤◌, ◌+◌, ◌-◌, ℕ, suc, Bool, true, false, cond, List, [], ◌∷◌, ◌++◌, filter, length, take, Some, None, slice_get, refl, sym, ap, subst, ◌∙◌, arith, bytes_eq, append-nil, if◌then◌else◌, ◌⊎◌, inl, inr, true≢false}
 use Rattle.std.specs.FinMap as finite
 use Rattle.std.specs.List.{AllByRecursion}
 use Rattle.std.proofs.lemmas.List.{append_assoc, length-take-le, take_all, take_more}
@@ -80,7 +80,7 @@ module _ (steps : List Step) (slots : Slots) (old : Lasts) (change : Change) (so
   other-is at e = after-is at ∙ (rw e (append-nil (before at)))
 
   module _ (new : Lasts) (added : IsAdded old new change.address left) (held : test left ≡ true)
-      (layers : (q : List ℕ) → finite.get new.layers q ≡ (if bytes_eq change.address q then entry_at steps left else finite.get old.layers q)) (undone : new.undone ≡ old.undone) where
+      (layers : old.wide ≡ true → (q : List ℕ) → finite.get new.layers q ≡ (if bytes_eq change.address q then entry_at steps left else finite.get old.layers q)) (undone : new.undone ≡ old.undone) where
     list-here : (at : List ℕ) → bytes_eq change.address at ≡ true → lefts_at new at ≡ lefts_at old at ++ left ∷ []
     list-here at e = subst (λ (x : List ℕ). lefts_at new x ≡ lefts_at old x ++ left ∷ []) ((bytes_eq-Decides change.address at).0 e) added.here
 
@@ -88,7 +88,7 @@ module _ (steps : List Step) (slots : Slots) (old : Lasts) (change : Change) (so
     list-other at e = added.others at (λ is. absurd (true≢false (sym ((bytes_eq-Decides change.address at).1 (sym is)) ∙ e)))
 
     next : Lasts
-    next = record { lists = new.lists; layers = new.layers; undone = new.undone; place = old.place; change = old.change + 1 }
+    next = record { lists = new.lists; layers = new.layers; undone = new.undone; wide = old.wide; place = old.place; change = old.change + 1 }
 
     below : (at : List ℕ) (b : Bool) → bytes_eq change.address at ≡ b → AllByRecursion (λ one. one.place < length steps) (lefts_at new at)
     below at true e = rw (list-here at e) (all-append (λ (one : Left). one.place < length steps) (lefts_at old at) (left ∷ []) (so.below at) (within-place, tt))
@@ -100,34 +100,40 @@ module _ (steps : List Step) (slots : Slots) (old : Lasts) (change : Change) (so
         (ap (λ (all : List Left). all ++ filter test (left ∷ [])) (so.are at))
     are at false e = rw (list-other at e, other-is at e) (so.are at)
 
+    only : (at : List ℕ) → length at ≢ 35 → (b : Bool) → bytes_eq change.address at ≡ b → lefts_at new at ≡ []
+    only at short true e = absurd (short (sym (ap (λ (x : List ℕ). length x) ((bytes_eq-Decides change.address at).0 e)) ∙ added.whole))
+    only at short false e = list-other at e ∙ so.only at short
+
     shown : (at : List ℕ) (b : Bool) → bytes_eq change.address at ≡ b
-        → (finite.get new.layers at ≡ shown_by steps (last_held test (after at))) ⊎ IsUndoneAt steps slots new.undone at
-    shown at true e = inl (layers at ∙ rw (e, here-is at e, last-append test (before at) left held) refl)
+        → (old.wide ≡ true → finite.get new.layers at ≡ shown_by steps (last_held test (after at))) ⊎ IsUndoneAt steps slots new.undone at
+    shown at true e = inl (λ wide. layers wide at ∙ rw (e, here-is at e, last-append test (before at) left held) refl)
     shown at false e = elim (so.shown at) [
-      | inl right ↦ inl (layers at ∙ rw (e, other-is at e) right)
+      | inl right ↦ inl (λ wide. layers wide at ∙ rw (e, other-is at e) (right wide))
       | inr lost ↦ inr (rw undone lost)
     ]
 
     -- a held change more
-    pub one-more-left : AreLastsOf steps slots (record { lists = new.lists; layers = new.layers; undone = new.undone; place = old.place; change = old.change + 1 })
+    pub one-more-left : AreLastsOf steps slots (record { lists = new.lists; layers = new.layers; undone = new.undone; wide = old.wide; place = old.place; change = old.change + 1 })
     one-more-left = record {
       within = so.within;
       some = let i = inside in omega (arith, i);
       below = λ at. below at (bytes_eq change.address at) refl;
       are = λ at. are at (bytes_eq change.address at) refl;
+      only = λ at short. only at short (bytes_eq change.address at) refl;
       shown = λ at. shown at (bytes_eq change.address at) refl;
       idle = rw undone so.idle;
     }
 
   -- a change more that is not held
-  pub one-passed : test left ≡ false → AreLastsOf steps slots (record { lists = old.lists; layers = old.layers; undone = old.undone; place = old.place; change = old.change + 1 })
+  pub one-passed : test left ≡ false → AreLastsOf steps slots (record { lists = old.lists; layers = old.layers; undone = old.undone; wide = old.wide; place = old.place; change = old.change + 1 })
   one-passed fails = record {
     within = so.within;
     some = let i = inside in omega (arith, i);
     below = so.below;
     are = λ at. so.are at ∙ sym (same at (bytes_eq change.address at) refl);
+    only = so.only;
     shown = λ at. elim (so.shown at) [
-      | inl right ↦ inl (right ∙ ap (shown_by steps) (sym (last at (bytes_eq change.address at) refl)))
+      | inl right ↦ inl (λ wide. right wide ∙ ap (shown_by steps) (sym (last at (bytes_eq change.address at) refl)))
       | inr lost ↦ inr lost
     ];
     idle = so.idle;
@@ -144,11 +150,11 @@ module _ (steps : List Step) (slots : Slots) (old : Lasts) (change : Change) (so
 -- the next change was gone through
 pub next-through : (steps : List Step) (slots : Slots) (old new : Lasts) (change : Change) → AreLastsOf steps slots old → slice_get (changes_at steps old.place) old.change ≡ Some change
     → Holds steps slots old new change.address (record { place = old.place; change = old.change }) → new.undone ≡ old.undone
-    → AreLastsOf steps slots (record { lists = new.lists; layers = new.layers; undone = new.undone; place = old.place; change = old.change + 1 })
+    → AreLastsOf steps slots (record { lists = new.lists; layers = new.layers; undone = new.undone; wide = old.wide; place = old.place; change = old.change + 1 })
 next-through steps slots old new change so there holds undone = go (is_held_at steps slots (record { place = old.place; change = old.change })) refl
   where
     go : (b : Bool) → is_held_at steps slots (record { place = old.place; change = old.change }) ≡ b
-        → AreLastsOf steps slots (record { lists = new.lists; layers = new.layers; undone = new.undone; place = old.place; change = old.change + 1 })
+        → AreLastsOf steps slots (record { lists = new.lists; layers = new.layers; undone = new.undone; wide = old.wide; place = old.place; change = old.change + 1 })
     go true e = one-more-left steps slots old change so there new (holds.added e) e (holds.shown e) undone
     go false e = let same = holds.passed e in rw (same.0, same.1, undone) (one-passed steps slots old change so there e)
 
@@ -177,14 +183,15 @@ module _ (steps : List Step) (slots : Slots) (lasts : Lasts) (so : AreLastsOf st
     | inr past ↦ absurd (let p : length steps ≤ lasts.place = past.0 in omega (arith, further, p))
   ]
 
-  pub step-over : AreLastsOf steps slots (record { lists = lasts.lists; layers = lasts.layers; undone = lasts.undone; place = lasts.place + 1; change = 0 })
+  pub step-over : AreLastsOf steps slots (record { lists = lasts.lists; layers = lasts.layers; undone = lasts.undone; wide = lasts.wide; place = lasts.place + 1; change = 0 })
   step-over = record {
     within = omega (arith, further);
     some = omega arith;
     below = so.below;
     are = λ at. so.are at ∙ ap (filter (is_held_at steps slots)) (all_over at);
+    only = so.only;
     shown = λ at. elim (so.shown at) [
-      | inl right ↦ inl (right ∙ ap (λ (all : List Left). shown_by steps (last_held (is_held_at steps slots) all)) (all_over at))
+      | inl right ↦ inl (λ wide. right wide ∙ ap (λ (all : List Left). shown_by steps (last_held (is_held_at steps slots) all)) (all_over at))
       | inr lost ↦ inr lost
     ];
     idle = so.idle;
@@ -192,13 +199,14 @@ module _ (steps : List Step) (slots : Slots) (lasts : Lasts) (so : AreLastsOf st
 
 -- where nothing was added all stays so
 pub same-lefts : (steps : List Step) (slots : Slots) (old new : Lasts) → AreLastsOf steps slots old → ((at : List ℕ) → lefts_at new at ≡ lefts_at old at) → new.layers ≡ old.layers → new.undone ≡ old.undone
-    → new.place ≡ old.place → new.change ≡ old.change → AreLastsOf steps slots new
-same-lefts steps slots old new so same layers undone place change = record {
+    → new.wide ≡ old.wide → new.place ≡ old.place → new.change ≡ old.change → AreLastsOf steps slots new
+same-lefts steps slots old new so same layers undone wide place change = record {
   within = rw place so.within;
   some = rw (place, change) so.some;
   below = λ at. rw (same at) (so.below at);
   are = λ at. rw (place, change, same at) (so.are at);
-  shown = λ at. rw (place, change, layers, undone) (so.shown at);
+  only = λ at short. same at ∙ so.only at short;
+  shown = λ at. rw (place, change, layers, undone, wide) (so.shown at);
   idle = rw undone so.idle;
 }
 

@@ -1,5 +1,5 @@
 -- One more change of an address.
-use Rattle.std.proofs.Common.{◌≡◌, ◌≢◌, ℕ, Bool, true, false, List, [], ◌∷◌, ◌++◌, Option, Some, None, Vec, refl, sym, ap, subst, ◌∙◌, bytes_eq, IsSome, OnErr, Result, Ok, Err}
+use Rattle.std.proofs.Common.{length, ◌≡◌, ◌≢◌, ℕ, Bool, true, false, List, [], ◌∷◌, ◌++◌, Option, Some, None, Vec, refl, sym, ap, subst, ◌∙◌, bytes_eq, IsSome, OnErr, Result, Ok, Err}
 use Rattle.std.proofs.lemmas.Map.Text.{is_eq-slice_cmp}
 use Rattle.std.proofs.lemmas.Slice.Eq.{bytes_eq-Decides}
 use Rattle.std.specs.BTreeMap.{UpdatesBy, get, is_at}
@@ -21,8 +21,9 @@ other at q apart = is_eq-slice_cmp at q ∙ go (bytes_eq at q) refl
 pub is-added : (old new : Lasts) (at : List ℕ) (left : Left) (list : Vec Left Global) → get (slice_cmp nat_cmp) new.lists at ≡ Some list
     → list.items ≡ lefts_at old at ++ left ∷ []
     → ((q : List ℕ) → is_at (slice_cmp nat_cmp at) q ≡ false → get (slice_cmp nat_cmp) new.lists q ≡ get (slice_cmp nat_cmp) old.lists q)
-    → IsAdded old new at left
-is-added old new at left list here more others = record {
+    → length at ≡ 35 → IsAdded old new at left
+is-added old new at left list here more others whole = record {
+  whole = whole;
   here = ap items_in here ∙ more;
   others = λ q apart. ap items_in (others q (other at q apart));
 }
@@ -44,8 +45,8 @@ module _ (old new : Lasts) (at : List ℕ) (was list : Vec Left Global) (there :
   changes = updates (subst (λ (o : Option (Vec Left Global)). IsSome o) there refl)
 
   -- the list that is there gets one more
-  pub written : (left : Left) → list.items ≡ was.items ++ left ∷ [] → IsAdded old new at left
-  written left more = is-added old new at left list changes.1 (more ∙ ap (λ (o : Option (Vec Left Global)). items_in o ++ left ∷ []) there) changes.2
+  pub written : (left : Left) → list.items ≡ was.items ++ left ∷ [] → length at ≡ 35 → IsAdded old new at left
+  written left more whole = is-added old new at left list changes.1 (more ∙ ap (λ (o : Option (Vec Left Global)). items_in o ++ left ∷ []) there) changes.2 whole
 
   -- the list that is there stays as it was
   pub kept : list.items ≡ was.items → (q : List ℕ) → lefts_at new q ≡ lefts_at old q
@@ -57,10 +58,10 @@ module _ (old new : Lasts) (at : List ℕ) (was list : Vec Left Global) (there :
 
 -- a first change of an address
 pub inserted : (old mid new : Lasts) (at : List ℕ) (left : Left) (list : Vec Left Global) → None ≡ get (slice_cmp nat_cmp) old.lists at → mid.lists ≡ old.lists
-    → list.items ≡ [] ++ left ∷ [] → UpdatesBy (slice_cmp nat_cmp) (slice_cmp nat_cmp at) mid.lists new.lists (Some list) → IsAdded old new at left
-inserted old mid new at left list none same items updates =
+    → list.items ≡ [] ++ left ∷ [] → UpdatesBy (slice_cmp nat_cmp) (slice_cmp nat_cmp at) mid.lists new.lists (Some list) → length at ≡ 35 → IsAdded old new at left
+inserted old mid new at left list none same items updates whole =
     is-added old new at left list updates.1 (items ∙ ap (λ (o : Option (Vec Left Global)). items_in o ++ left ∷ []) none)
-    (λ q apart. updates.2 q apart ∙ ap (λ lists. get (slice_cmp nat_cmp) lists q) same)
+    (λ q apart. updates.2 q apart ∙ ap (λ lists. get (slice_cmp nat_cmp) lists q) same) whole
 
 pub on_err : {A E : Type 0} (P : Type 0) (r : Result A E) → P → OnErr r P
 on_err P (Ok x) p = tt

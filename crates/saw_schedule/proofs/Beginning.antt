@@ -1,5 +1,5 @@
 -- What a schedule keeps before any step.
-use Rattle.std.proofs.Common.{◌≡◌, ◌<◌, ◌≤◌, ◌^◌, ℕ, zero, suc, List, [], ◌∷◌, length, map, sum, get_or, Option, Some, None, slice_get, vec_capacity, refl, sym, ap, subst, ◌∙◌, arith, Bool, inl, inr, true≢false}
+use Rattle.std.proofs.Common.{true, false, ◌≡◌, ◌<◌, ◌≤◌, ◌^◌, ℕ, zero, suc, List, [], ◌∷◌, length, map, sum, get_or, Option, Some, None, slice_get, vec_capacity, refl, sym, ap, subst, ◌∙◌, arith, Bool, inl, inr, true≢false}
 use Rattle.std.proofs.lemmas.List.{length-map}
 use Rattle.std.specs.Global.{Global}
 use Rattle.std.specs.List.{AllByRecursion}
@@ -34,6 +34,7 @@ use Rattle.saw_schedule.specs.declared.slots.Slots.{Slots}
 use Rattle.saw_schedule.proofs.Counting.{count-cons}
 use Rattle.saw_schedule.proofs.Layouts.{length-starts, start-at, starts-are, sum-sizes}
 use Rattle.saw_schedule.proofs.Settleds.{settled-rise}
+use Rattle.saw_schedule.specs.LookedUp.{do_read_whole}
 use Rattle.saw_schedule.proofs.Undoing.{with_undone}
 
 -- all wait, and nothing is settled
@@ -118,8 +119,8 @@ pub begun-schedule : (plan : Plan) (txs : List (Arc Tx Global)) (named : Edges) 
     → AreEdges named (length txs) → AreEarlier named (length txs) → ((i j : ℕ) → j < i → is_edge named j i ≡ names_in (shapes_of txs) i j)
     → AreSlotsOf (order_in (begun plan)) (sizes_in (begun plan)) (settled (order_in (begun plan)) (initial (sizes_in (begun plan)))) [] last
     → last.running ≡ 0 → IsNothing (length txs) (with_undone lasts before) → AreIdle last.queue.marks lasts.undone
-    → IsScheduleOf (begun plan) txs named last lasts capacity
-begun-schedule plan txs named slots last lasts before capacity txs_are few edges earlier names are running none idle = record {
+    → (lasts.wide ≡ false → do_read_whole txs ≡ true) → IsScheduleOf (begun plan) txs named last lasts capacity
+begun-schedule plan txs named slots last lasts before capacity txs_are few edges earlier names are running none idle whole = record {
   txs_are = txs_are;
   counted = few;
   replay = tt;
@@ -133,9 +134,11 @@ begun-schedule plan txs named slots last lasts before capacity txs_are few edges
     some = rw none.change (omega arith);
     below = λ at. rw (none.none at) tt;
     are = λ at. rw (none.none at, none.place, none.change) refl;
-    shown = λ at. inl (none.no_layers at ∙ rw (none.place, none.change) refl);
+    only = λ at short. none.none at;
+    shown = λ at. inl (λ wide. none.no_layers at ∙ rw (none.place, none.change) refl);
     idle = idle;
   };
+  whole = whole;
   rising = settled-rise (order_in (begun plan)) (initial (sizes_in (begun plan))) last.kept.items (λ i j one other at v w less a b is_one is_other. absurd (none≢some v a));
   room = rw running (omega arith);
   few = rw running (omega arith);

@@ -280,6 +280,7 @@ module _ (h : History) (txs : List (Arc Tx Global)) (named : Edges) (slots : Slo
             names = is.names;
             slots_are = subst (λ (x : State). AreSlotsOf (order_in h) (sizes_in h) x (h.steps ++ Finish done ∷ []) last) (sym state) (settles (order_in h) (sizes_in h) mid mid-open mid-slots);
             lasts_are = settled-on (h.steps ++ Finish done ∷ []) new last undone lasts mid-lasts kept_last marks_last leaves;
+            whole = is.whole;
             rising = subst (λ (x : State). DoPlacesRise x last.kept.items) (sym state)
                 (settled-rise (order_in h) mid last.kept.items (subst (λ (k : _). DoPlacesRise mid k.items) (sym kept_last)
                 (mid-rise new.kept.items kept_others (λ one e. (kept_here one runs.kept e runs.stands).place_is))));

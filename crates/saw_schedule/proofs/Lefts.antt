@@ -116,7 +116,7 @@ same-or-found P Q f g (x ∷ xs) all each = go (each x all.0) (same-or-found P Q
 
 -- ---- the end of a list
 
-none-passes : (test : Left → Bool) (xs : List Left) → filter test xs ≡ [] → last_held test xs ≡ None
+pub none-passes : (test : Left → Bool) (xs : List Left) → filter test xs ≡ [] → last_held test xs ≡ None
 none-passes test xs none = last-filter test xs ∙ ap (last_held test) none
 
 -- none is left where all were passed

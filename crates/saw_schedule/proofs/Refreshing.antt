@@ -27,7 +27,7 @@ module _ (steps : List Step) (slots : Slots) where
 
   module _ (old new : Lasts) (at : List ℕ) (so : AreLastsOf steps slots old) (n : ℕ) (here : lefts_at new at ≡ take n (lefts_at old at))
       (held : filter test (lefts_at new at) ≡ filter test (lefts_at old at)) (others : (q : List ℕ) → bytes_eq at q ≡ false → lefts_at new q ≡ lefts_at old q)
-      (layers : new.layers ≡ old.layers) (undone : new.undone ≡ old.undone) (place : new.place ≡ old.place) (change : new.change ≡ old.change) where
+      (layers : new.layers ≡ old.layers) (undone : new.undone ≡ old.undone) (wide : new.wide ≡ old.wide) (place : new.place ≡ old.place) (change : new.change ≡ old.change) where
     same-held : (q : List ℕ) (b : Bool) → bytes_eq at q ≡ b → filter test (lefts_at new q) ≡ filter test (lefts_at old q)
     same-held q true e = subst (λ (x : List ℕ). filter test (lefts_at new x) ≡ filter test (lefts_at old x)) ((bytes_eq-Decides at q).0 e) held
     same-held q false e = ap (filter test) (others q e)
@@ -37,13 +37,23 @@ module _ (steps : List Step) (slots : Slots) where
         (rw here (all-take (λ (left : Left). left.place < length steps) n (lefts_at old at) (so.below at)))
     still-below q false e = rw (others q e) (so.below q)
 
+    still-none : (q : List ℕ) → length q ≢ 35 → (b : Bool) → bytes_eq at q ≡ b → lefts_at new q ≡ []
+    still-none q short true e = subst (λ (x : List ℕ). lefts_at new x ≡ []) ((bytes_eq-Decides at q).0 e)
+        (here ∙ (ap (take n) (so.only at (λ long. short (sym (ap (λ (x : List ℕ). length x) ((bytes_eq-Decides at q).0 e)) ∙ long))) ∙ none-of n))
+      where
+        none-of : (n : ℕ) → take {A = Left} n [] ≡ []
+        none-of zero = refl
+        none-of (suc n) = refl
+    still-none q short false e = others q e ∙ so.only q short
+
     pub shortened : AreLastsOf steps slots new
     shortened = record {
       within = rw place so.within;
       some = rw (place, change) so.some;
       below = λ q. still-below q (bytes_eq at q) refl;
       are = λ q. rw (place, change) (same-held q (bytes_eq at q) refl ∙ so.are q);
-      shown = λ q. rw (place, change, layers, undone) (so.shown q);
+      only = λ q short. still-none q short (bytes_eq at q) refl;
+      shown = λ q. rw (place, change, layers, undone, wide) (so.shown q);
       idle = rw undone so.idle;
     }
 
@@ -56,9 +66,9 @@ module _ (steps : List Step) (slots : Slots) where
   module _ (old new : Lasts) (at : List ℕ) (so : AreLastsOf steps slots old)
       (layers : (q : List ℕ) → finite.get new.layers q
       ≡ (if bytes_eq at q then shown_by steps (last_held test (lefts_to steps old.place old.change at)) else finite.get old.layers q))
-      (lists : new.lists ≡ old.lists) (undone : new.undone ≡ old.undone) (place : new.place ≡ old.place) (change : new.change ≡ old.change) where
+      (lists : new.lists ≡ old.lists) (undone : new.undone ≡ old.undone) (wide : new.wide ≡ old.wide) (place : new.place ≡ old.place) (change : new.change ≡ old.change) where
     right-here : (q : List ℕ) → bytes_eq at q ≡ true → IsRightAt steps slots new q
-    right-here q e =
+    right-here q e = λ _.
         layers q ∙ rw (e, place, change)
         (ap (λ (x : List ℕ). shown_by steps (last_held test (lefts_to steps old.place old.change x))) ((bytes_eq-Decides at q).0 e))
 
@@ -67,7 +77,7 @@ module _ (steps : List Step) (slots : Slots) where
       where
         go : (b : Bool) → bytes_eq at q ≡ b → IsRightAt steps slots new q
         go true e = right-here q e
-        go false e = layers q ∙ rw (e, place, change) right
+        go false e = λ is_wide. layers q ∙ rw (e, place, change) (right (sym wide ∙ is_wide))
 
     pub right-now : IsRightAt steps slots new at
     right-now = right-here at ((bytes_eq-Decides at at).1 refl)
@@ -78,6 +88,7 @@ module _ (steps : List Step) (slots : Slots) where
       some = rw (place, change) so.some;
       below = λ q. rw lists (so.below q);
       are = λ q. rw (place, change, lists) (so.are q);
+      only = λ q short. rw lists (so.only q short);
       shown = λ q. elim (so.shown q) [
         | inl right ↦ inl (right-other q right)
         | inr lost ↦ inr (rw undone lost)
@@ -88,7 +99,7 @@ module _ (steps : List Step) (slots : Slots) where
   -- ---- an undone result was gone through
 
   module _ (old new : Lasts) (k : ℕ) (so : AreLastsOf steps slots old) (inside : k < length old.undone) (right : (at : List ℕ) → IsChangedBy steps (place_in slots.kept.items k) at → IsRightAt steps slots old at)
-      (lists : new.lists ≡ old.lists) (layers : new.layers ≡ old.layers) (undone : new.undone ≡ set old.undone k false) (place : new.place ≡ old.place) (change : new.change ≡ old.change) where
+      (lists : new.lists ≡ old.lists) (layers : new.layers ≡ old.layers) (undone : new.undone ≡ set old.undone k false) (wide : new.wide ≡ old.wide) (place : new.place ≡ old.place) (change : new.change ≡ old.change) where
     same-or : (a b : ℕ) → (a ≡ b) ⊎ (a ≢ b)
     same-or a b = grind arith
 
@@ -102,7 +113,7 @@ module _ (steps : List Step) (slots : Slots) where
     is-in i apart in_it = ap (λ (flags : List Bool). get_or flags i false) undone ∙ (get_or-set_other old.undone k i false false apart ∙ in_it)
 
     right-so : (q : List ℕ) → IsRightAt steps slots old q → IsRightAt steps slots new q
-    right-so q here = rw (layers, place, change) here
+    right-so q here = λ is_wide. rw (layers, place, change) (here (sym wide ∙ is_wide))
 
     pub gone-through : AreLastsOf steps slots new
     gone-through = record {
@@ -110,6 +121,7 @@ module _ (steps : List Step) (slots : Slots) where
       some = rw (place, change) so.some;
       below = λ q. rw lists (so.below q);
       are = λ q. rw (place, change, lists) (so.are q);
+      only = λ q short. rw lists (so.only q short);
       shown = λ q. elim (so.shown q) [
         | inl here ↦ inl (right-so q here)
         | inr lost ↦ elim (same-or lost.0 k) [

@@ -116,6 +116,7 @@ module _ (h : History) (txs : List (Arc Tx Global)) (named : Edges) (slots : Slo
         slots_are = subst (λ (st : State). AreSlotsOf (order_in h) (sizes_in h) st (h.steps ++ step ∷ []) new) (sym state)
             (slot-changes (order_in h) (sizes_in h) (state_of h) h.steps step slots new i slot attempts is.slots_are c);
         lasts_are = lasts_on;
+        whole = is.whole;
         rising = subst (λ (st : State). DoPlacesRise st new.kept.items) (sym state) rise;
         room = rw long enough;
         few = rw long few;

@@ -15,7 +15,7 @@ use Rattle.saw_context.specs.declared.view.View.{View}
 use Rattle.saw_context.specs.declared.view.ViewEntry.{ViewEntry}
 use Rattle.saw_machine.specs.Laws.{IsKept, last_below}
 use Rattle.saw_machine.specs.Machine as machine
-use Rattle.saw_machine.specs.Machine.{Closed, Held, IsReady, Running, Slot, Slots as Machine, State, Task, Waiting, closed_in, is_closed, made, next, put, seen, task_of, view_of}
+use Rattle.saw_machine.specs.Machine.{Closed, Held, IsReady, Running, Slot, Slots as Machine, State, Task, View as Shown, Waiting, closed_in, is_closed, made, next, put, seen, task_of, view_of}
 use Rattle.saw_machine.proofs.Lasts.{no-later-change, view-is-last}
 use Rattle.saw_machine.proofs.Puts.{put-other, put-same}
 use Rattle.saw_ready.specs.Marks.{is_valid, is_waiting}
@@ -107,8 +107,8 @@ module _ (h : History) (txs : List (Arc Tx Global)) (named : Edges) (slots : Slo
       go false e = rw (reads ∙ e, e) refl
 
   module _ (mid : Slots) (queue : mid.queue ≡ with_mark slots.queue k marks.Running) (kept_mid : mid.kept ≡ slots.kept) (job : Job) (view : Arc View Global)
-      (made_job : IsJobAt txs named mid lasts.layers k job view)
-      (shown : (at : List ℕ) → finite.get lasts.layers at ≡ last_below st.slots (length slots.queue.marks) at) where
+      (seen : Shown) (made_job : IsJobAt txs named mid seen k job view)
+      (shown : (at : List ℕ) → seen at ≡ last_below st.slots (length slots.queue.marks) at) where
     abbrev tx : Arc Tx Global
     tx = tx-there.0
 

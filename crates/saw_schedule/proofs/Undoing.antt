@@ -3,7 +3,7 @@ use Rattle.std.proofs.Common.{◌≡◌, ◌≢◌, ◌<◌, ◌≤◌, ◌+◌,
 use Rattle.std.specs.FinMap as finite
 use Rattle.std.specs.List.{AllByRecursion}
 use Rattle.std.proofs.lemmas.Bool.{and_parts, eqb-true}
-use Rattle.std.proofs.lemmas.List.{take-append-le}
+use Rattle.std.proofs.lemmas.List.{append-nil, take-append-le, take_all}
 use Rattle.saw_messages.specs.declared.outcome.Change.{Change}
 use Rattle.saw_context.specs.declared.job.Done.{Done}
 use Rattle.saw_context.specs.declared.view.ViewEntry.{ViewEntry}
@@ -19,12 +19,13 @@ use Rattle.saw_schedule.specs.Lasts.{changes_at, changes_if, lefts_at, lefts_in,
 use Rattle.saw_schedule.specs.Layering.{AreIdle, AreLastsOf, IsChangedBy, IsRightAt, IsUndoneAt, lefts_to}
 use Rattle.saw_schedule.specs.Places.{place_by, place_in}
 use Rattle.saw_schedule.specs.Settling.{LeavesUndone}
-use Rattle.saw_schedule.specs.Shown.{done_at, done_by, entry_at, entry_by, is_held_at, is_held_by, is_place_of, last_held, shown_by}
+use Rattle.saw_schedule.specs.Shown.{done_at, done_by, entry_at, entry_by, is_held_at, is_held_by, is_place_of, last_held, shown_at, shown_by}
 use Rattle.saw_schedule.specs.declared.kept.Kept.{Kept}
 use Rattle.saw_schedule.specs.declared.lasts.Lasts.{Lasts}
 use Rattle.saw_schedule.specs.declared.lasts.Left.{Left}
 use Rattle.saw_schedule.specs.declared.slots.Slots.{Slots}
 use Rattle.saw_schedule.specs.declared.step.Step.{Step}
+use Rattle.saw_schedule.specs.declared.step.Step.TheVariants.{Take}
 use Rattle.saw_schedule.proofs.Lefts.{IsChangeOf, all-stand, all-weaker, none-past, of-last, place-there, same-or-found, same-within}
 
 -- the change is of a result that is held no more
@@ -41,7 +42,7 @@ pub record Goes (steps steps' : List Step) (slots slots' : Slots) (undone undone
   pub idle : AreIdle slots'.queue.marks undone'
 
 abbrev pub with_undone : Lasts → List Bool → Lasts
-with_undone lasts undone = record { lists = lasts.lists; layers = lasts.layers; undone = undone; place = lasts.place; change = lasts.change }
+with_undone lasts undone = record { lists = lasts.lists; layers = lasts.layers; undone = undone; wide = lasts.wide; place = lasts.place; change = lasts.change }
 
 le-cases : (a b : ℕ) → a ≤ b → (a < b) ⊎ (a ≡ b)
 le-cases a b l = grind (arith, l)
@@ -94,7 +95,7 @@ module _ (steps steps' : List Step) (slots slots' : Slots) (undone' : List Bool)
   -- where nothing was lost what is shown is right
   right-still : (at : List ℕ) → IsRightAt steps slots lasts at → IsRightAt steps' slots' (with_undone lasts undone') at ⊎ IsUndoneAt steps' slots' undone' at
   right-still at right = elim (same-or-found (IsChangeOf steps at) (λ left. IsUndoneBy slots' undone' left) was is (lefts_to steps lasts.place lasts.change at) (all-stand steps at lasts.place lasts.change) each) [
-    | inl same ↦ inl (right ∙ (sym (shown-same at (last_held was (lefts_to steps lasts.place lasts.change at)) refl)
+    | inl same ↦ inl (λ wide. right wide ∙ (sym (shown-same at (last_held was (lefts_to steps lasts.place lasts.change at)) refl)
         ∙ (ap (shown_by steps') (sym same) ∙ ap (λ (all : List Left). shown_by steps' (last_held is all)) (sym (to-same at)))))
     | inr (left, stands, by) ↦
         let inside = place-there steps left.place left.change stands.0 stands.1 in
@@ -119,12 +120,25 @@ module _ (steps steps' : List Step) (slots slots' : Slots) (undone' : List Bool)
         (all-weaker (λ left. left.place < length steps) (λ left. is left ≡ true → was left ≡ true) (lefts_at lasts at) was-held (so.below at))
         (stand-inside at) (so.are at)
         ∙ ap (filter is) (sym (to-same at));
+    only = so.only;
     shown = λ at. elim (so.shown at) [
       | inl right ↦ right-still at right
       | inr lost ↦ inr (goes.undone_on at lost)
     ];
     idle = goes.idle;
   }
+
+-- where all steps were gone through all changes were
+pub through : (steps : List Step) (place change : ℕ) → place ≡ length steps → (at : List ℕ) → lefts_to steps place change at ≡ lefts_of 0 steps at
+through steps place change e at = rw (e, nothing, none-of change) (append-nil (lefts_of 0 (take (length steps) steps) at)
+    ∙ ap (λ (all : List Step). lefts_of 0 all at) (take_all (length steps) steps (omega arith)))
+  where
+    none-of : (n : ℕ) → take {A = Change} n [] ≡ []
+    none-of zero = refl
+    none-of (suc n) = refl
+
+    nothing : changes_at steps (length steps) ≡ []
+    nothing = none-past steps (length steps) (omega arith)
 
 -- ---- one slot is changed, and a step comes behind
 
@@ -201,6 +215,44 @@ module _ (steps : List Step) (step : Step) (slots slots' : Slots) (lasts : Lasts
 
   pub put-on : AreLastsOf more slots' lasts
   put-on = goes-on steps more slots slots' lasts.undone lasts so goes-put
+
+-- ---- one slot is changed, and no step comes
+
+module _ (steps : List Step) (slots slots' : Slots) (lasts : Lasts) (k : ℕ) (m : Mark) (so : AreLastsOf steps slots lasts) (puts : Puts steps slots slots' lasts.undone k m) where
+  -- any step serves
+  abbrev some_step : Step
+  some_step = Take (record { index = 0; attempt = 0 })
+
+  held-marked : (left : Left) → left.place < length steps → is_held_at steps slots' left ≡ is_held_at steps slots left
+  held-marked left inside = held-put steps some_step slots slots' lasts k m so puts left inside (done_at steps left.place)
+
+  goes-marked : Goes steps steps slots slots' lasts.undone lasts.undone
+  goes-marked = record {
+    longer = omega arith;
+    gets = λ place less. refl;
+    takes = λ place within. refl;
+    held = λ left inside. inl (held-marked left inside);
+    undone_on = λ at lost.
+        let apart : lost.0 ≢ k = λ e. puts.apart (subst (λ (n : ℕ). IsIn lasts.undone n) e lost.1) in
+        (lost.0, lost.1, subst (λ (place : ℕ). IsChangedBy steps place at) (sym (ap place_by (puts.others lost.0 apart))) lost.2);
+    idle = (goes-put steps some_step slots slots' lasts k m so puts).idle;
+  }
+
+  pub marked-on : AreLastsOf steps slots' lasts
+  marked-on = goes-on steps steps slots slots' lasts.undone lasts so goes-marked
+
+  -- what is shown is the same
+  pub marked-shown : (at : List ℕ) → shown_at steps slots' at ≡ shown_at steps slots at
+  marked-shown at = ap (shown_by steps) (elim (same-or-found (IsChangeOf steps at) (λ left. ⊥) (is_held_at steps slots) (is_held_at steps slots') (lefts_of 0 steps at) stand each) [
+    | inl same ↦ same
+    | inr (left, stands, never) ↦ absurd never
+  ])
+    where
+      stand : AllByRecursion (IsChangeOf steps at) (lefts_of 0 steps at)
+      stand = subst (λ (lefts : List Left). AllByRecursion (IsChangeOf steps at) lefts) (through steps (length steps) 0 refl at) (all-stand steps at (length steps) 0)
+
+      each : (left : Left) → IsChangeOf steps at left → (is_held_at steps slots' left ≡ is_held_at steps slots left) ⊎ ⊥
+      each left stands = inl (held-marked left (place-there steps left.place left.change stands.0 stands.1))
 
 -- ---- batches are settled
 

@@ -1,5 +1,5 @@
 -- What a schedule keeps, and when it is that of a state.
-use Rattle.std.specs.Prelude.{◌≡◌, ◌<◌, ◌≤◌, ◌+◌, ℕ, suc, List, [], ◌∷◌, length, Option, Some, None, get_or, slice_get, sum_by, vec_capacity, ⊤, ◌^◌}
+use Rattle.std.specs.Prelude.{◌≡◌, ◌<◌, ◌≤◌, ◌+◌, ℕ, suc, false, true, List, [], ◌∷◌, length, Option, Some, None, get_or, slice_get, sum_by, vec_capacity, ⊤, ◌^◌}
 use Rattle.std.specs.Arc.{arc_value}
 use Rattle.std.specs.FinMap as finite
 use Rattle.std.specs.Global.{Global}
@@ -21,6 +21,7 @@ use Rattle.saw_ready.specs.declared.edges.Edges.{Edges}
 use Rattle.saw_ready.specs.declared.mark.Mark.{Mark}
 use Rattle.saw_ready.specs.declared.mark.Mark.TheVariants as marks
 use Rattle.saw_schedule.specs.Layering.{AreLastsOf}
+use Rattle.saw_schedule.specs.LookedUp.{do_read_whole}
 use Rattle.saw_schedule.specs.Layout.{ends_of}
 use Rattle.saw_schedule.specs.Histories.{History, IsReplay, order_in, sizes_in, state_of, txs_in}
 use Rattle.saw_schedule.specs.Shows.{Shows, is_edge}
@@ -135,6 +136,7 @@ pub record IsScheduleOf (h : History) (txs : List (Arc Tx Global)) (named : Edge
   pub names : AreNamesOf (order_in h) named
   pub slots_are : AreSlotsOf (order_in h) (sizes_in h) (state_of h) h.steps slots
   pub lasts_are : AreLastsOf h.steps slots lasts
+  pub whole : lasts.wide ≡ false → do_read_whole txs ≡ true
   pub rising : DoPlacesRise (state_of h) slots.kept.items
   pub room : length h.steps + slots.running ≤ capacity
   pub few : slots.running ≤ length h.steps

@@ -24,8 +24,9 @@ items_in (Some list) = list.items
 abbrev pub lefts_at : Lasts → List ℕ → List Left
 lefts_at lasts at = items_in (get (slice_cmp nat_cmp) lasts.lists at)
 
--- one more change of an address
+-- one more change of a whole address
 pub record IsAdded (old new : Lasts) (at : List ℕ) (left : Left) : Type 0 where
+  pub whole : length at ≡ 35
   pub here : lefts_at new at ≡ lefts_at old at ++ left ∷ []
   pub others : (address : List ℕ) → address ≢ at → lefts_at new address ≡ lefts_at old address
 

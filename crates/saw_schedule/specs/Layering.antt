@@ -1,5 +1,5 @@
 -- What the changes of held results show, and how far the layers that are kept are that.
-use Rattle.std.specs.Prelude.{◌≡◌, ◌<◌, ◌≤◌, ◌⊎◌, ◌++◌, ℕ, suc, Bool, true, false, if◌then◌else◌, List, [], drop, filter, length, take, Some, get_or, slice_get}
+use Rattle.std.specs.Prelude.{◌≡◌, ◌≢◌, ◌<◌, ◌≤◌, ◌⊎◌, ◌++◌, ℕ, suc, Bool, true, false, if◌then◌else◌, List, [], drop, filter, length, take, Some, get_or, slice_get}
 use Rattle.std.specs.FinMap as finite
 use Rattle.std.specs.List.{AllByRecursion}
 use Rattle.std.specs.Str.{bytes_eq}
@@ -33,25 +33,28 @@ pub record AreIdle (marks : List Mark) (undone : List Bool) : Type 0 where
   pub long : length undone ≡ length marks
   pub are : (i : ℕ) → IsIn undone i → IsIdle (get_or marks i Waiting)
 
--- the layers show the last change of the address that is held
+-- the layers, where they show any, show the last change of the address that is held
 abbrev pub IsRightAt : List Step → Slots → Lasts → List ℕ → Type 0
 IsRightAt steps slots lasts at =
-    finite.get lasts.layers at ≡ shown_by steps (last_held (is_held_at steps slots) (lefts_to steps lasts.place lasts.change at))
+    lasts.wide ≡ true
+    → finite.get lasts.layers at ≡ shown_by steps (last_held (is_held_at steps slots) (lefts_to steps lasts.place lasts.change at))
 
 -- The steps before the place and the first few changes of the step there were gone through: all changes of held results
--- are kept, and the layers show the last of each address, but for those of results that are held no more.
+-- are kept, by whole addresses, and the layers show the last of each address, but for those of results that are held no
+-- more.
 pub record AreLastsOf (steps : List Step) (slots : Slots) (lasts : Lasts) : Type 0 where
   pub within : lasts.place ≤ length steps
   pub some : lasts.change ≤ length (changes_at steps lasts.place)
   pub below : (at : List ℕ) → AllByRecursion (λ left. left.place < length steps) (lefts_at lasts at)
   pub are : (at : List ℕ) → filter (is_held_at steps slots) (lefts_at lasts at) ≡ filter (is_held_at steps slots) (lefts_to steps lasts.place lasts.change at)
+  pub only : (at : List ℕ) → length at ≢ 35 → lefts_at lasts at ≡ []
   pub shown : (at : List ℕ) → IsRightAt steps slots lasts at ⊎ IsUndoneAt steps slots lasts.undone at
   pub idle : AreIdle slots.queue.marks lasts.undone
 
 -- a change of an address was added where its result is held: it is what the layers show there
 pub record Holds (steps : List Step) (slots : Slots) (old new : Lasts) (at : List ℕ) (left : Left) : Type 0 where
   pub added : is_held_at steps slots left ≡ true → IsAdded old new at left
-  pub shown : is_held_at steps slots left ≡ true → (q : List ℕ) → finite.get new.layers q ≡ (if bytes_eq at q then entry_at steps left else finite.get old.layers q)
+  pub shown : is_held_at steps slots left ≡ true → old.wide ≡ true → (q : List ℕ) → finite.get new.layers q ≡ (if bytes_eq at q then entry_at steps left else finite.get old.layers q)
   pub passed : is_held_at steps slots left ≡ false → (new.lists ≡ old.lists) × (new.layers ≡ old.layers)
 
 -- the one before the place passes the test, and none from there on

@@ -9,6 +9,7 @@ pub mod Inside
 pub mod Settling
 pub mod Shown
 pub mod Layering
+pub mod LookedUp
 pub mod Jobs
 pub mod Begun
 pub mod Places

@@ -1,6 +1,9 @@
 //! Where each address was changed, as results came, and the last held change of each.
 
-ghost use Rattle.std.specs.Prelude.{◌≡◌, ◌<◌, ◌≤◌, ◌+◌, ℕ, List, length, option_map, slice_get, ◌^◌, IfOk, IsSome, OnErr, OnOk};
+ghost use Rattle.std.specs.Prelude.{true, if◌then◌else◌, ◌≡◌, ◌<◌, ◌≤◌, ◌+◌, ℕ, List, length, option_map, slice_get, ◌^◌, IfOk, IsSome, OnErr, OnOk};
+ghost use Rattle.std.specs.FinMap as finite;
+ghost use Rattle.std.specs.Str.{bytes_eq};
+ghost use Rattle.saw_schedule.specs.Shown.{entry_at};
 ghost use Rattle.saw_schedule.specs.Lasts.{IsAdded, IsNothing, changes_at, lefts_at};
 ghost use Rattle.saw_schedule.specs.Layering.{AreLastsOf, Holds};
 
@@ -25,10 +28,12 @@ pub(crate) struct Left {
 pub(crate) struct Lasts {
     /// For each address, in the order in which they came, those that were held.
     pub(crate) lists: BTreeMap<Address, Vec<Left>>,
-    /// The last held one of each address.
+    /// The last held one of each address, where some transaction reads below a prefix; else nothing.
     pub(crate) layers: Layers,
     /// Transactions whose results are held no more, while the layers may show them.
     pub(crate) undone: ReadySet,
+    /// Whether some transaction reads below a prefix that is no whole address.
+    pub(crate) wide: bool,
     pub(crate) place: usize,
     pub(crate) change: usize,
 }
@@ -40,6 +45,7 @@ impl Drop for Lasts {
             lists: _lists,
             layers: _layers,
             undone: _undone,
+            wide: _,
             place: _,
             change: _,
         } = self;
@@ -60,15 +66,24 @@ pub(crate) fn change_at<'a>(steps: &'a [Step], place: usize, n: usize) -> Option
     changes.as_slice().get(n)
 }
 
+// An address has 35 bytes, which a proof knows of what it lends.
+fn show_whole(at: &Address)
+    ensures { length at.now ≡ 35 }
+{
+    let _bytes = at.as_slice();
+}
+
 impl Lasts {
     /// No changes, of so many transactions.
-    pub(crate) fn new(alloc: Global, count: usize) -> Result<Self, AllocError>
-        ensures { IfOk result (IsNothing count) }
+    pub(crate) fn new(alloc: Global, count: usize, wide: bool) -> Result<Self, AllocError>
+        ensures nothing { IfOk result (IsNothing count) }
+        ensures wide { IfOk result (λ lasts. lasts.wide ≡ wide) }
     {
         Ok(Lasts {
             lists: BTreeMap::new(alloc),
             layers: Layers::new(alloc),
             undone: ReadySet::new(alloc, count)?,
+            wide,
             place: 0,
             change: 0,
         })
@@ -80,7 +95,9 @@ impl Lasts {
         ensures err { OnErr result ((address : List ℕ) → lefts_at self.new address ≡ lefts_at self.old address) }
         ensures stays { (self.new.place ≡ self.old.place) × (self.new.change ≡ self.old.change) }
         ensures layers { (self.new.layers ≡ self.old.layers) × (self.new.undone ≡ self.old.undone) }
+        ensures wide { self.new.wide ≡ self.old.wide }
     {
+        show_whole(&at);
         if let Some(list) = self.lists.get_mut(&at) {
             list.push(left)?;
             return Ok(());
@@ -89,6 +106,24 @@ impl Lasts {
         list.push(left)?;
         self.lists.insert(at, list)?;
         Ok(())
+    }
+
+    // The layers with a change on top, where they show any.
+    fn shown_with(
+        &self,
+        alloc: Global,
+        steps: &[Step],
+        at: Address,
+        left: Left,
+    ) -> Result<Layers, AllocError>
+        ensures { IfOk result (λ made. self.now.wide ≡ true → (q : List ℕ) → finite.get made q
+            ≡ (if bytes_eq at q then entry_at steps.now left else finite.get self.now.layers q)) }
+    {
+        if self.wide {
+            self.layers.with(alloc, at, entry_at(alloc, steps, left)?)
+        } else {
+            Ok(Layers::new(alloc))
+        }
     }
 
     // Adds a change where its result is held: it is what the layers show at its address. An `Err` adds nothing.
@@ -106,11 +141,12 @@ impl Lasts {
         ensures same { OnErr result (self.new.layers ≡ self.old.layers) }
         ensures stays { (self.new.place ≡ self.old.place) × (self.new.change ≡ self.old.change) }
         ensures undone { self.new.undone ≡ self.old.undone }
+        ensures wide { self.new.wide ≡ self.old.wide }
     {
         if !is_held(steps, slots, left) {
             return Ok(());
         }
-        let layers = self.layers.with(alloc, at, entry_at(alloc, steps, left)?)?;
+        let layers = self.shown_with(alloc, steps, at, left)?;
         self.add(alloc, at, left)?;
         self.layers = layers;
         Ok(())
@@ -128,6 +164,7 @@ impl Lasts {
         requires so { AreLastsOf steps.now slots.now self.old }
         ensures so { AreLastsOf steps.now slots.now self.new }
         ensures ok { OnOk result (self.new.place ≡ self.old.place + 1) }
+        ensures wide { self.new.wide ≡ self.old.wide }
     {
         while let Some(change) = change_at(steps, self.place, self.change) {
             let left = Left {
@@ -153,6 +190,7 @@ impl Lasts {
         requires so { AreLastsOf steps.now slots.now self.old }
         ensures so { AreLastsOf steps.now slots.now self.new }
         ensures ok { OnOk result (self.new.place ≡ length steps.now) }
+        ensures wide { self.new.wide ≡ self.old.wide }
     {
         while self.place < steps.len() {
             self.absorb_step(alloc, steps, slots)?;

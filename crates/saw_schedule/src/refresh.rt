@@ -43,7 +43,32 @@ fn trim(steps: &[Step], slots: &Slots, lefts: &mut Vec<Left>) -> Option<Left>
     Some(lefts[end - 1])
 }
 
+// The last change whose result is held.
+fn held_in(steps: &[Step], slots: &Slots, lefts: &[Left]) -> Option<Left>
+    requires long { length slots.now.kept.items ≡ length slots.now.queue.marks }
+    ensures { result ≡ last_held (is_held_at steps.now slots.now) lefts.now }
+{
+    let end = held_end(steps, slots, lefts);
+    if end == 0 {
+        return None;
+    }
+    Some(lefts[end - 1])
+}
+
 impl Lasts {
+    /// The last held change of an address.
+    pub(crate) fn last_of(&self, steps: &[Step], slots: &Slots, at: &Address) -> Option<Left>
+        requires long { length slots.now.kept.items ≡ length slots.now.queue.marks }
+        requires so { AreLastsOf steps.now slots.now self.now }
+        ensures { result ≡ last_held (is_held_at steps.now slots.now)
+            (lefts_to steps.now self.now.place self.now.change at.now) }
+    {
+        match self.lists.get(at) {
+            Some(lefts) => held_in(steps, slots, lefts),
+            None => None,
+        }
+    }
+
     // The last held change of an address; those behind it are kept no more.
     fn last_at(&mut self, steps: &[Step], slots: &Slots, at: Address) -> Option<Left>
         requires long { length slots.now.kept.items ≡ length slots.now.queue.marks }
@@ -53,6 +78,7 @@ impl Lasts {
             (lefts_to steps.now self.old.place self.old.change at) }
         ensures stays { (self.new.place ≡ self.old.place) × (self.new.change ≡ self.old.change) }
         ensures layers { (self.new.layers ≡ self.old.layers) × (self.new.undone ≡ self.old.undone) }
+        ensures wide { self.new.wide ≡ self.old.wide }
     {
         match self.lists.get_mut(&at) {
             Some(lefts) => trim(steps, slots, lefts),
@@ -74,8 +100,12 @@ impl Lasts {
         ensures right { OnOk result (IsRightAt steps.now slots.now self.new at) }
         ensures others { (q : List ℕ) → IsRightAt steps.now slots.now self.old q → IsRightAt steps.now slots.now self.new q }
         ensures stays { (self.new.place ≡ self.old.place) × (self.new.undone ≡ self.old.undone) }
+        ensures wide { self.new.wide ≡ self.old.wide }
     {
         let last = self.last_at(steps, slots, at);
+        if !self.wide {
+            return Ok(());
+        }
         let entry = shown_by(alloc, steps, last)?;
         self.layers = self.layers.with(alloc, at, entry)?;
         Ok(())
@@ -95,6 +125,7 @@ impl Lasts {
         ensures right { OnOk result ((at : List ℕ) → IsChangedBy steps.now place at → IsRightAt steps.now slots.now self.new at) }
         ensures others { (q : List ℕ) → IsRightAt steps.now slots.now self.old q → IsRightAt steps.now slots.now self.new q }
         ensures stays { (self.new.place ≡ self.old.place) × (self.new.undone ≡ self.old.undone) }
+        ensures wide { self.new.wide ≡ self.old.wide }
     {
         let mut n = 0;
         while let Some(change) = change_at(steps, place, n) {
@@ -115,7 +146,7 @@ impl Lasts {
         requires so { AreLastsOf steps.now slots.now self.old }
         ensures so { AreLastsOf steps.now slots.now self.new }
         ensures ok { OnOk result (IsEmpty self.new.undone) }
-        ensures stays { self.new.place ≡ self.old.place }
+        ensures stays { (self.new.place ≡ self.old.place) × (self.new.wide ≡ self.old.wide) }
     {
         let mut from = 0;
         while let Some(k) = self.undone.next_from(from) {

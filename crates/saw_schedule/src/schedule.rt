@@ -8,7 +8,9 @@ ghost use Rattle.saw_ready.specs.Edges.{AreEarlier, AreEdges};
 ghost use Rattle.saw_ready.specs.declared.mark.Mark.TheVariants.{Invalid, Running, Valid, Waiting};
 ghost use Rattle.saw_ready.specs.Queues.{with_mark};
 ghost use Rattle.saw_ready.specs.Sets.{IsEmpty};
-ghost use Rattle.saw_schedule.specs.Layering.{AreIdle};
+ghost use Rattle.saw_schedule.specs.Layering.{AreIdle, AreLastsOf};
+ghost use Rattle.saw_schedule.specs.LookedUp.{are_whole, do_read_whole};
+ghost use Rattle.saw_schedule.specs.Shown.{shown_at};
 ghost use Rattle.saw_schedule.specs.Jobs.{IsJobAt};
 ghost use Rattle.saw_schedule.specs.Inside.{AreSlotsOf, IsPlacedAt, IsRunning};
 ghost use Rattle.saw_schedule.specs.Orders.{names_in};
@@ -25,12 +27,12 @@ use crate::lasts::Lasts;
 use crate::results::Results;
 use crate::slots::{Slots, settle};
 use crate::step::Step;
-use crate::view::view_over;
-use saw_context::{Done, Job, Layers, Ticket, View};
+use crate::view::view_of;
+use saw_context::{Done, Job, Ticket, View};
 use saw_messages::{Outcome, Tx};
 use saw_plan::Plan;
 use saw_ready::{Edges, Mark, Queue, ReadySet};
-use saw_wire::Items;
+use saw_wire::{Items, Text};
 use std::alloc::{AllocError, Global};
 use std::marker::Model;
 use std::sync::Arc;
@@ -163,13 +165,14 @@ fn add_step(steps: &mut Vec<Step>, step: Step)
     }
 }
 
-// The job of a transaction that may be taken, and its view once more.
+// The job of a transaction that was taken, once all steps were gone through, and its view once more.
 fn job_of(
     alloc: Global,
     txs: &[Arc<Tx>],
     named: &Edges,
     slots: &Slots,
-    layers: &Layers,
+    steps: &[Step],
+    lasts: &Lasts,
     k: usize,
 ) -> Result<(Job, Arc<View>), AllocError>
     requires long { length slots.now.kept.items ≡ length slots.now.queue.marks }
@@ -177,11 +180,15 @@ fn job_of(
     requires inside { k < length slots.now.queue.marks }
     requires there { k < length txs.now }
     requires few { k < 2 ^ 32 }
-    ensures { IfOk result (λ made. IsJobAt txs.now named.now slots.now layers.now k made.0 made.1) }
+    requires so { AreLastsOf steps.now slots.now lasts.now }
+    requires all { lasts.now.place ≡ length steps.now }
+    requires none { IsEmpty lasts.now.undone }
+    requires whole { lasts.now.wide ≡ false → do_read_whole txs.now ≡ true }
+    ensures { IfOk result (λ made. IsJobAt txs.now named.now slots.now (shown_at steps.now slots.now) k made.0 made.1) }
 {
     let tx = txs[k].clone()?;
     let texts = tx.header.inputs.as_slice();
-    let view = Arc::new(alloc, view_over(alloc, layers, texts)?)?;
+    let view = Arc::new(alloc, view_of(alloc, steps, slots, lasts, texts)?)?;
     let kept = view.clone()?;
     let job = Job {
         ticket: Ticket {
@@ -210,6 +217,19 @@ fn keep_job(kept: &mut Vec<Kept>, k: usize, job: &Job, view: Arc<View>)
         failed: job.dependency_failed,
         place: 0,
     };
+}
+
+fn are_whole(texts: &[Text]) -> bool
+    ensures { result ≡ are_whole texts.now }
+{
+    texts.iter().all(|text| text.len() >= 70)
+}
+
+// Whether no transaction reads below a prefix that is shorter than an address.
+fn do_read_whole(txs: &[Arc<Tx>]) -> bool
+    ensures { result ≡ do_read_whole txs.now }
+{
+    txs.iter().all(|tx| are_whole(tx.header.inputs.as_slice()))
 }
 
 // All wait, and what can be settled is.
@@ -245,7 +265,8 @@ impl Schedule {
     {
         let txs = plan.transactions(alloc)?;
         let named = named(alloc, txs.as_slice())?;
-        let mut lasts = Lasts::new(alloc, txs.len())?;
+        let wide = !do_read_whole(txs.as_slice());
+        let mut lasts = Lasts::new(alloc, txs.len(), wide)?;
         let slots = begin(alloc, &plan, txs.as_slice(), &named, &mut lasts.undone)?;
         Ok(Schedule {
             plan,
@@ -273,7 +294,8 @@ impl Schedule {
             self.txs.as_slice(),
             &self.named,
             &self.slots,
-            &self.lasts.layers,
+            &self.steps,
+            &self.lasts,
             k,
         );
         let Ok((job, view)) = found else {

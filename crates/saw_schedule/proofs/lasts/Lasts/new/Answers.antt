@@ -4,8 +4,8 @@ use Rattle.std.specs.FinMap as finite
 use Rattle.std.specs.Ordering.{nat_cmp}
 use Rattle.saw_schedule.proofs.lasts.Lasts.new.Goals as goal
 
-pub returns : goal.returns
-returns c = record {
+pub returns-clause-nothing : goal.returns-clause-nothing
+returns-clause-nothing c = record {
   none = λ at. rw c.new.ensures.empty refl;
   no_layers = λ at. rw c.new-2.ensures (finite.get-empty (slice_cmp nat_cmp) at);
   long = c.in_ok-new.ensures.0;

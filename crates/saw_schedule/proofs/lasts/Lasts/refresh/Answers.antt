@@ -20,11 +20,11 @@ loop-k-preserved c =
     ap place_by (slice_get_read c.args.slots.now.kept.items (length c.args.slots.now.kept.items) k c.index.result.now refl
     (let long = c.requires.long in let all = l.invariant.0.idle.long in omega (arith, inside, long, all)) c.index.ensures) in (
       gone-through c.args.steps.now c.args.slots.now by
-          (record { lists = by.lists; layers = by.layers; undone = c.remove.new.self; place = by.place; change = by.change }) k c.refresh_by.ensures.so inner
-          (λ at changed. c.in_ok-refresh_by.ensures.right at (subst (λ (p : ℕ). IsChangedBy c.args.steps.now p at) place changed)) refl refl c.remove.ensures refl refl,
+          (record { lists = by.lists; layers = by.layers; undone = c.remove.new.self; wide = by.wide; place = by.place; change = by.change }) k c.refresh_by.ensures.so inner
+          (λ at changed. c.in_ok-refresh_by.ensures.right at (subst (λ (p : ℕ). IsChangedBy c.args.steps.now p at) place changed)) refl refl c.remove.ensures refl refl refl,
       subst (λ (flags : List Bool). NoneIn flags 0 (k + 1)) (sym (c.remove.ensures ∙ ap (λ (flags : List Bool). set flags k false) same))
           (none-before l.self.undone l.from k l.invariant.1 next.3 inside),
       rw (c.remove.ensures, length-set by.undone k false) (omega (arith, inner)),
-      c.refresh_by.ensures.stays.0 ∙ l.invariant.3,
+      (c.refresh_by.ensures.stays.0 ∙ l.invariant.3.0, c.refresh_by.ensures.wide ∙ l.invariant.3.1),
       ap (λ (flags : List Bool). length flags) c.remove.ensures ∙ (length-set by.undone k false ∙ (ap (λ (flags : List Bool). length flags) same ∙ l.invariant.4)),
     )

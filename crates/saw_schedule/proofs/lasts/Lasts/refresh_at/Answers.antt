@@ -14,6 +14,6 @@ returns-clause-so c =
     c.in_ok-entry.ensures ∙ ap (shown_by c.args.steps.now)
     (c.last_at-last.ensures.last ∙ rw (c.last_at-last.ensures.stays.0, c.last_at-last.ensures.stays.1) refl) in
     shown-anew c.args.steps.now c.args.slots.now mid
-    (record { lists = mid.lists; layers = c.in_ok-self.field-0; undone = mid.undone; place = mid.place; change = mid.change })
+    (record { lists = mid.lists; layers = c.in_ok-self.field-0; undone = mid.undone; wide = mid.wide; place = mid.place; change = mid.change })
     c.args.at c.last_at-last.ensures.so
-    (λ q. c.in_ok-self.ensures q ∙ ap (λ (one : Option ViewEntry). if bytes_eq c.args.at q then one else finite.get mid.layers q) entry) refl refl refl refl
+    (λ q. c.in_ok-self.ensures q ∙ ap (λ (one : Option ViewEntry). if bytes_eq c.args.at q then one else finite.get mid.layers q) entry) refl refl refl refl refl
