@@ -9,7 +9,7 @@ use Rattle.std.proofs.lemmas.List.Sorted.{list_any-IsPermutation}
 use Rattle.std.proofs.lemmas.Map.Keys.{any_passes_from_place}
 use Rattle.saw_predtree.specs.Searches.{AreWidest, IsCovered}
 use Rattle.saw_predtree.specs.Trees.{is_one_of}
-use Rattle.saw_predtree.proofs.Coverings.{covers-itself}
+use Rattle.saw_predtree.proofs.Coverings.{covers-itself, covers-trans}
 use Rattle.saw_predtree.proofs.Members.{any-left, any-parts, any-right, bytes-same, one-same}
 
 -- what stands at a place is one of the keys
@@ -27,17 +27,30 @@ one-of-first n keys key h =
 pub covered-of-first : (n : ℕ) (keys : List (List ℕ)) (key : List ℕ) → IsCovered (take n keys) key → IsCovered keys key
 covered-of-first n keys key is = record { key = is.key; one = one-of-first n keys is.key is.one; above = is.above }
 
--- the same prefixes in another order
-pub one-in-order : (prefixes keys sorted : List (List ℕ)) (key : List ℕ) → keys ≡ prefixes → IsPermutation keys sorted → is_one_of sorted key ≡ is_one_of prefixes key
-one-in-order prefixes keys sorted key same order =
-    sym (list_any-IsPermutation (λ (other : List ℕ). bytes_eq other key) keys sorted order) ∙ ap (λ (all : List (List ℕ)). is_one_of all key) same
+-- the widest in another order
+pub widest-in-order : (prefixes others keys sorted : List (List ℕ)) → IsPermutation keys sorted → AreWidest prefixes others keys → AreWidest prefixes others sorted
+widest-in-order prefixes others keys sorted order are = record {
+  among = λ key h. are.among key (same key ∙ h);
+  covering = λ prefix h. elim (are.covering prefix h) [
+    | inl under ↦ inl (record { key = under.key; one = sym (same under.key) ∙ under.one; above = under.above })
+    | inr under ↦ inr under
+  ];
+}
+  where
+    same : (key : List ℕ) → is_one_of keys key ≡ is_one_of sorted key
+    same key = list_any-IsPermutation (λ (other : List ℕ). bytes_eq other key) keys sorted order
 
--- of the same prefixes the same are widest
-pub widest-same : (prefixes all others keys : List (List ℕ)) → ((key : List ℕ) → is_one_of all key ≡ is_one_of prefixes key) → AreWidest all others keys
-    → AreWidest prefixes others keys
-widest-same prefixes all others keys same are = record {
-  among = λ key h. sym (same key) ∙ are.among key h;
-  covering = λ prefix h. are.covering prefix (same prefix ∙ h);
+-- the widest of the widest
+pub widest-of-widest : (prefixes all others keys : List (List ℕ)) → AreWidest prefixes others all → AreWidest all others keys → AreWidest prefixes others keys
+widest-of-widest prefixes all others keys are inner = record {
+  among = λ key h. are.among key (inner.among key h);
+  covering = λ prefix h. elim (are.covering prefix h) [
+    | inl under ↦ elim (inner.covering under.key under.one) [
+      | inl more ↦ inl (record { key = more.key; one = more.one; above = covers-trans more.key under.key prefix more.above under.above })
+      | inr more ↦ inr (record { key = more.key; one = more.one; above = covers-trans more.key under.key prefix more.above under.above })
+    ]
+    | inr under ↦ inr under
+  ];
 }
 
 -- ---- the walk

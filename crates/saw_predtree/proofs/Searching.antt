@@ -1,5 +1,5 @@
 -- What a search along a key and below it finds.
-use Rattle.std.proofs.Common.{◌≡◌, ℕ, zero, suc, ◌+◌, ◌≤◌, ◌<◌, Bool, true, false, ◌||◌, ◌==◌, ◌⊎◌, inl, inr, List, [], ◌∷◌, ◌++◌, length, get_or, take, Option, Some, None, sym, ap, ◌∙◌, add-one, arith}
+use Rattle.std.proofs.Common.{◌≡◌, ℕ, zero, suc, ◌+◌, ◌≤◌, ◌<◌, Bool, true, false, ◌||◌, ◌==◌, ◌⊎◌, inl, inr, List, [], ◌∷◌, ◌++◌, length, length-take-le, get_or, take, Option, Some, None, refl, sym, ap, ◌∙◌, add-one, arith}
 use Rattle.std.proofs.lemmas.Bool.{cases_lt, or_cases, or_left, or_right, true≢false}
 use Rattle.std.proofs.lemmas.List.{append-nil, append_assoc, get_or_past, take_all}
 use Rattle.std.proofs.lemmas.List.Folds.{list_any_more}
@@ -54,6 +54,15 @@ module _ (usage : Usage) (places : Places) (lengths : List Bool) (marked : AreMa
   ]
 
 -- ---- above
+
+-- where no length is marked none is met
+pub above-none : (usage : Usage) (places : Places) (lengths : List Bool) (key : List ℕ) (n : ℕ) → AreMarked lengths (writer_at places) (readers_at places) → n ≤ length key + 1
+    → ((m : ℕ) → m < n → get_or lengths m false ≡ false) → met_above usage places key n ≡ []
+above-none usage places lengths key zero marked within bare = refl
+above-none usage places lengths key (suc n) marked within bare =
+    sym (none-met usage places lengths marked (take n key) (met_above usage places key n)
+    (ap (λ (m : ℕ). get_or lengths m false) (length-take-le n key (omega (arith, within))) ∙ bare n (omega arith)))
+    ∙ above-none usage places lengths key n marked (omega (arith, within)) (λ m less. bare m (omega (arith, less)))
 
 above-found : (usage : Usage) (places : Places) (key : List ℕ) (n j : ℕ) → is_in (met_above usage places key n) j ≡ true
     → (m : ℕ) × (m < n) × (is_in (met_at usage places (take m key)) j ≡ true)

@@ -2,21 +2,22 @@
 
 ghost use Rattle.std.specs.Prelude.{◌≡◌, ◌⊎◌, true, IfOk};
 ghost use Rattle.saw_predtree.specs.Searches.{AreWidest, IsAbove, IsCovered};
-ghost use Rattle.saw_predtree.specs.Trees.{is_one_of};
 
 use crate::key::Key;
 use saw_address::Prefix;
 use std::alloc::{AllocError, Global};
 
-// The prefixes as keys, in order.
-fn sorted(alloc: Global, prefixes: &[Prefix]) -> Result<Vec<Key>, AllocError>
-    ensures { IfOk result (λ keys. (key : _) → is_one_of keys.items key ≡ is_one_of prefixes.now key) }
+// Those of the prefixes that none of the other keys covers, as keys.
+fn uncovered(alloc: Global, prefixes: &[Prefix], others: &[Key]) -> Result<Vec<Key>, AllocError>
+    ensures { IfOk result (λ keys. AreWidest prefixes.now others.now keys.items) }
 {
     let mut keys = Vec::new(alloc);
     for prefix in prefixes {
-        keys.push(Key::new(prefix.as_slice()))?;
+        let key = Key::new(prefix.as_slice());
+        if !is_under(others, &key) {
+            keys.push(key)?;
+        }
     }
-    keys.sort_unstable();
     Ok(keys)
 }
 
@@ -80,7 +81,11 @@ pub(crate) fn widest(
 ) -> Result<Vec<Key>, AllocError>
     ensures { IfOk result (λ keys. AreWidest prefixes.now others.now keys.items) }
 {
-    let all = sorted(alloc, prefixes)?;
+    let mut all = uncovered(alloc, prefixes, others)?;
+    if all.len() < 2 {
+        return Ok(all);
+    }
+    all.sort_unstable();
     let kept = keep_widest(alloc, all.as_slice(), others)?;
     Ok(kept)
 }

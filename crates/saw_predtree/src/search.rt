@@ -1,6 +1,6 @@
 //! Whom prefixes meet in the tree.
 
-ghost use Rattle.std.specs.Prelude.{◌≡◌, ◌++◌, ◌+◌, ◌≤◌, false, get_or, length, take, OnOk};
+ghost use Rattle.std.specs.Prelude.{◌≡◌, ◌++◌, ◌+◌, ◌≤◌, ◌<◌, ℕ, false, get_or, length, take, OnOk};
 ghost use Rattle.saw_address.specs.Prefixes.{covers, overlaps};
 ghost use Rattle.saw_predtree.specs.Places.{met_at, readers_at, writer_at};
 ghost use Rattle.saw_predtree.specs.Searches.{Gathers, met_above, overlaps_any};
@@ -57,6 +57,18 @@ fn gather_first(
     gather_at(usage, places, &Key::new(&bytes[..len]), found)
 }
 
+// A length below which none is marked.
+fn least_marked(lengths: &[bool]) -> usize
+    ensures { (n : ℕ) → n < result → get_or lengths.now n false ≡ false }
+{
+    for n in 0..lengths.len() {
+        if lengths[n] {
+            return n;
+        }
+    }
+    lengths.len()
+}
+
 // Adds whom one meets at the prefixes of a key, itself among them.
 fn gather_above(
     usage: Usage,
@@ -69,7 +81,8 @@ fn gather_above(
         → found.new.items ≡ found.old.items ++ met_above usage places.now key.now (length key.now + 1)) }
 {
     let bytes = key.as_slice();
-    for len in 0..bytes.len() + 1 {
+    let end = bytes.len() + 1;
+    for len in least_marked(lengths).min(end)..end {
         gather_first(usage, places, lengths, bytes, len, found)?;
     }
     Ok(())

@@ -1,5 +1,5 @@
 -- Changes gone through, one after another.
-use Rattle.std.proofs.Common.{◌≢◌, ◌≡◌, ◌<◌, ◌≤◌, ◌+◌, ◌-◌, ℕ, suc, Bool, true, false, cond, List, [], ◌∷◌, ◌++◌, filter, length, take, Some, None, slice_get, refl, sym, ap, subst, ◌∙◌, arith, bytes_eq, append-nil, if◌then◌else◌, ◌⊎◌, inl, inr, true≢false}
+use Rattle.std.proofs.Common.{◌≢◌, ◌≡◌, ◌<◌, ◌≤◌, ◌+◌, ◌-◌, ℕ, suc, Bool, true, false, List, [], ◌∷◌, ◌++◌, filter, length, take, Some, None, slice_get, refl, sym, ap, subst, ◌∙◌, arith, bytes_eq, append-nil, if◌then◌else◌, ◌⊎◌, inl, inr, true≢false}
 use Rattle.std.specs.FinMap as finite
 use Rattle.std.specs.List.{AllByRecursion}
 use Rattle.std.proofs.lemmas.List.{append_assoc, length-take-le, take_all, take_more}
@@ -7,7 +7,7 @@ use Rattle.std.proofs.lemmas.Option.{slice_get_cases, get_or_from_slice_get}
 use Rattle.std.proofs.lemmas.Slice.Eq.{bytes_eq-Decides}
 use Rattle.saw_messages.specs.declared.outcome.Change.{Change}
 use Rattle.saw_schedule.specs.Lasts.{IsAdded, changes_at, changes_in, lefts_at, lefts_in, lefts_of}
-use Rattle.saw_schedule.specs.Layering.{AreLastsOf, Holds, IsRightAt, IsUndoneAt, lefts_to}
+use Rattle.saw_schedule.specs.Layering.{AreLastsOf, Holds, IsUndoneAt, lefts_to}
 use Rattle.saw_schedule.specs.Shown.{entry_at, is_held_at, last_held, shown_by}
 use Rattle.saw_schedule.specs.declared.lasts.Lasts.{Lasts}
 use Rattle.saw_schedule.specs.declared.lasts.Left.{Left}

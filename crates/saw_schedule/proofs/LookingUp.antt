@@ -1,5 +1,5 @@
 -- Whole addresses, looked up one by one.
-use Rattle.std.proofs.Common.{◌≡◌, ◌≢◌, ◌≤◌, ◌+◌, ◌*◌, ◌==◌, ◌&&◌, ◌||◌, ◌%◌, ℕ, zero, suc, nat_eq, nat_le, Bool, true, false, if◌then◌else◌, List, [], ◌∷◌, ◌++◌, length, filter, Option, Some, None, refl, sym, ap, subst, ◌∙◌, arith, ◌⊎◌, inl, inr, true≢false}
+use Rattle.std.proofs.Common.{◌≡◌, ◌≢◌, ◌*◌, ◌==◌, ◌&&◌, ◌||◌, ◌%◌, ℕ, nat_eq, nat_le, Bool, true, false, if◌then◌else◌, List, [], ◌∷◌, ◌++◌, length, filter, Option, None, refl, sym, ap, ◌∙◌, arith, ◌⊎◌, inl, inr, true≢false}
 use Rattle.std.proofs.lemmas.Bool.{and_from, and_parts, eqb-true, eq-eqb}
 use Rattle.std.proofs.lemmas.Slice.Eq.{bytes_eq-Decides}
 use Rattle.std.specs.FinMap as finite
@@ -16,7 +16,7 @@ use Rattle.saw_context.proofs.Views.{get-layers_of}
 use Rattle.saw_machine.specs.Machine.{View}
 use Rattle.saw_schedule.specs.Layering.{AreLastsOf}
 use Rattle.saw_schedule.specs.LookedUp.{IsLookedUp, is_one_of}
-use Rattle.saw_schedule.specs.Shown.{is_held_at, last_held, shown_at, shown_by}
+use Rattle.saw_schedule.specs.Shown.{is_held_at, shown_at, shown_by}
 use Rattle.saw_schedule.specs.declared.lasts.Lasts.{Lasts}
 use Rattle.saw_schedule.specs.declared.slots.Slots.{Slots}
 use Rattle.saw_schedule.specs.declared.step.Step.{Step}
@@ -137,9 +137,10 @@ module _ (shown : View) (texts : List (List ℕ)) (view : Seen) (is : IsLookedUp
       some : (q : List ℕ) (b : Bool) → one_of q ≡ b → (one_of q || bytes_eq at q) ≡ true → (length q ≡ 35) × (are_covering (texts ++ text ∷ []) q ≡ true)
       some q true e either = let was = is.some q e in (was.0, covering-more text q ∙ rw was.1 refl)
       some q false e either =
-          let same_q : at ≡ q = (bytes_eq-Decides at q).0 (rw e at either) in
-          (ap (λ (x : List ℕ). length x) (sym same_q) ∙ long,
-          covering-more text q ∙ (ap (λ (b : Bool). are_covering texts q || b) (covered q ∙ (ap (covers at) (sym same_q) ∙ covers-itself at)) ∙ or-true (are_covering texts q)))
+          let same_q : at ≡ q = (bytes_eq-Decides at q).0 (rw e at either) in (
+            ap (λ (x : List ℕ). length x) (sym same_q) ∙ long,
+            covering-more text q ∙ (ap (λ (b : Bool). are_covering texts q || b) (covered q ∙ (ap (covers at) (sym same_q) ∙ covers-itself at)) ∙ or-true (are_covering texts q)),
+          )
 
       all : (q : List ℕ) → length q ≡ 35 → (b : Bool) → are_covering texts q ≡ b → (are_covering texts q || text_covers text q) ≡ true
           → (is_one_of new.inputs.items q ≡ true) ⊎ (shown q ≡ None)

@@ -1,16 +1,14 @@
 -- The layers are brought up to date where results are held no more.
-use Rattle.std.proofs.Common.{◌≡◌, ◌≢◌, ◌<◌, ◌≤◌, ◌+◌, ℕ, zero, suc, Bool, true, false, List, [], ◌∷◌, ◌++◌, filter, length, take, get_or, set, Option, Some, None, Vec, slice_get, refl, sym, ap, subst, ◌∙◌, arith, ◌⊎◌, inl, inr, true≢false, bytes_eq, get_or-set_same, get_or-set_other, length-set, if◌then◌else◌}
+use Rattle.std.proofs.Common.{◌≡◌, ◌≢◌, ◌<◌, ◌≤◌, ◌+◌, ℕ, zero, suc, Bool, true, false, List, [], ◌∷◌, filter, length, take, get_or, set, Some, None, slice_get, refl, sym, ap, subst, ◌∙◌, arith, ◌⊎◌, inl, inr, true≢false, bytes_eq, get_or-set_same, get_or-set_other, length-set, if◌then◌else◌}
 use Rattle.std.specs.FinMap as finite
-use Rattle.std.specs.Global.{Global}
 use Rattle.std.specs.List.{AllByRecursion}
 use Rattle.std.proofs.lemmas.Option.{slice_get_cases}
 use Rattle.std.proofs.lemmas.Slice.Eq.{bytes_eq-Decides}
 use Rattle.saw_messages.specs.declared.outcome.Change.{Change}
-use Rattle.saw_context.specs.declared.view.ViewEntry.{ViewEntry}
 use Rattle.saw_ready.specs.Hits.{IsIn}
-use Rattle.saw_ready.specs.Sets.{IsEmpty, IsNext, NoneIn}
+use Rattle.saw_ready.specs.Sets.{IsEmpty, NoneIn}
 use Rattle.saw_schedule.specs.Lasts.{changes_at, lefts_at}
-use Rattle.saw_schedule.specs.Layering.{AreLastsOf, IsChangedBy, IsRightAt, IsUndoneAt, lefts_to}
+use Rattle.saw_schedule.specs.Layering.{AreLastsOf, IsChangedBy, IsRightAt, lefts_to}
 use Rattle.saw_schedule.specs.Places.{place_in}
 use Rattle.saw_schedule.specs.Shown.{is_held_at, last_held, shown_by}
 use Rattle.saw_schedule.specs.declared.lasts.Lasts.{Lasts}

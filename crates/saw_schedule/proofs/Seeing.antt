@@ -1,5 +1,5 @@
 -- What a view says of a read.
-use Rattle.std.proofs.Common.{◌≡◌, ℕ, false, ◌&&◌, ◌==◌, List, Option, Some, None, is_none, refl}
+use Rattle.std.proofs.Common.{◌≡◌, ℕ, false, ◌&&◌, ◌==◌, Option, Some, None, is_none, refl}
 use Rattle.std.specs.Str.{bytes_eq}
 use Rattle.saw_context.specs.Conversation.{body_of}
 use Rattle.saw_context.specs.declared.reads.Origin.TheVariants.{Layer, Base}

@@ -1,13 +1,12 @@
 -- A text covers the addresses that the prefix which it is written for covers.
-use Rattle.std.proofs.Common.{◌≡◌, ◌<◌, ◌≤◌, ◌+◌, ◌-◌, ◌/◌, ◌%◌, ℕ, Bool, true, false, ◌&&◌, ◌||◌, ◌==◌, nat_eq, nat_le, nat_lt, List, [], ◌∷◌, length, take, slice_index, refl, sym, ap, ◌∙◌, arith, ◌⊎◌, inl, inr, true≢false, if◌then◌else◌, Option, Some, None, get_or}
+use Rattle.std.proofs.Common.{◌≡◌, ◌<◌, ◌≤◌, ◌-◌, ◌/◌, ◌%◌, ℕ, Bool, true, false, ◌&&◌, ◌==◌, nat_eq, nat_le, nat_lt, List, [], ◌∷◌, length, slice_index, refl, sym, ap, ◌∙◌, arith, ◌⊎◌, inl, inr, true≢false, if◌then◌else◌}
 use Rattle.std.specs.List.{list_all, starts_with}
-use Rattle.std.proofs.lemmas.List.Folds.{list_any_more}
 use Rattle.std.proofs.lemmas.List.{get_or_past}
 use Rattle.std.proofs.lemmas.Bool.{agree_below_at, and_from, and_parts, eqb-true, eq-eqb}
 use Rattle.hex.specs.Hex.{encode_lower, encode_with, lower_digits}
 use Rattle.saw_address.specs.Prefixes.{covers}
 use Rattle.saw_address.specs.Texts.{is_hex_digit, is_prefix_text}
-use Rattle.saw_context.specs.Conversation.{are_covering, text_covers}
+use Rattle.saw_context.specs.Conversation.{text_covers}
 
 abbrev digit : ℕ → ℕ
 digit k = slice_index lower_digits k

@@ -1,12 +1,10 @@
 -- What the layers show goes on to be right while results come and are undone.
-use Rattle.std.proofs.Common.{◌≡◌, ◌≢◌, ◌<◌, ◌≤◌, ◌+◌, ◌&&◌, ◌==◌, ℕ, zero, suc, Bool, true, false, List, [], ◌∷◌, ◌++◌, filter, length, take, get_or, Option, Some, None, slice_get, refl, sym, ap, subst, ◌∙◌, arith, ◌⊎◌, inl, inr, true≢false, bytes_eq, get_or-set_same, get_or-set_other, length-set, length-append}
-use Rattle.std.specs.FinMap as finite
+use Rattle.std.proofs.Common.{◌≡◌, ◌≢◌, ◌<◌, ◌≤◌, ◌+◌, ◌&&◌, ◌==◌, ℕ, zero, suc, Bool, true, false, List, [], ◌∷◌, ◌++◌, filter, length, take, get_or, Option, Some, None, slice_get, refl, sym, ap, subst, ◌∙◌, arith, ◌⊎◌, inl, inr, true≢false, get_or-set_same, get_or-set_other, length-set, length-append}
 use Rattle.std.specs.List.{AllByRecursion}
-use Rattle.std.proofs.lemmas.Bool.{and_parts, eqb-true}
+use Rattle.std.proofs.lemmas.Bool.{eqb-true}
 use Rattle.std.proofs.lemmas.List.{append-nil, take-append-le, take_all}
 use Rattle.saw_messages.specs.declared.outcome.Change.{Change}
 use Rattle.saw_context.specs.declared.job.Done.{Done}
-use Rattle.saw_context.specs.declared.view.ViewEntry.{ViewEntry}
 use Rattle.saw_ready.specs.Hits.{IsIn}
 use Rattle.saw_ready.specs.Marks.{is_valid}
 use Rattle.saw_ready.specs.Queues.{Waits, with_mark}
@@ -15,7 +13,7 @@ use Rattle.saw_ready.specs.Undone.{AreNoted, IsIdle}
 use Rattle.saw_ready.specs.declared.edges.Edges.{Edges}
 use Rattle.saw_ready.specs.declared.mark.Mark.{Mark}
 use Rattle.saw_ready.specs.declared.mark.Mark.TheVariants as marks
-use Rattle.saw_schedule.specs.Lasts.{changes_at, changes_if, lefts_at, lefts_in, lefts_of}
+use Rattle.saw_schedule.specs.Lasts.{changes_at, changes_if, lefts_at, lefts_of}
 use Rattle.saw_schedule.specs.Layering.{AreIdle, AreLastsOf, IsChangedBy, IsRightAt, IsUndoneAt, lefts_to}
 use Rattle.saw_schedule.specs.Places.{place_by, place_in}
 use Rattle.saw_schedule.specs.Settling.{LeavesUndone}

@@ -55,9 +55,7 @@ fn look_up(
     let Some(prefix) = Prefix::parse(text.as_str()) else {
         return Ok(());
     };
-    view.layers = view
-        .layers
-        .with(alloc, at, entry_at(alloc, steps, left)?)?;
+    view.layers = view.layers.with(alloc, at, entry_at(alloc, steps, left)?)?;
     view.inputs.push(prefix)?;
     Ok(())
 }

@@ -1,7 +1,7 @@
-use Rattle.std.proofs.Common.{ℕ, List, ◌∙◌}
+use Rattle.std.proofs.Common.{◌∙◌}
 use Rattle.std.specs.FinMap as finite
 use Rattle.saw_context.specs.Views.{layers_of}
-use Rattle.saw_schedule.proofs.Seeing.{seen-base, seen-layer, unseen-layer}
+use Rattle.saw_schedule.proofs.Seeing.{seen-layer, unseen-layer}
 use Rattle.saw_schedule.proofs.agreement.is_seen.Goals as goal
 
 pub returns-in-Some : goal.returns-in-Some

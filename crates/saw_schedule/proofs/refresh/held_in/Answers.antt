@@ -1,7 +1,5 @@
-use Rattle.std.proofs.Common.{◌≡◌, ◌-◌, List, Some, suc, get_or, sym, ap, subst, ◌∙◌, arith}
-use Rattle.saw_schedule.specs.Layering.{IsHeldEnd}
+use Rattle.std.proofs.Common.{◌≡◌, ◌-◌, suc, sym, arith}
 use Rattle.saw_schedule.specs.Shown.{is_held_at}
-use Rattle.saw_schedule.specs.declared.lasts.Left.{Left}
 use Rattle.saw_schedule.proofs.Lefts.{at-end, no-end}
 use Rattle.saw_schedule.proofs.refresh.held_in.Goals as goal
 

@@ -1,4 +1,4 @@
-use Rattle.std.proofs.Common.{◌≡◌, ◌-◌, suc, List, Some, refl, sym, ap, subst, ◌∙◌, arith, get_or, take, filter}
+use Rattle.std.proofs.Common.{◌≡◌, ◌-◌, suc, List, Some, sym, ap, subst, ◌∙◌, arith, get_or, filter}
 use Rattle.saw_schedule.specs.Layering.{IsHeldEnd}
 use Rattle.saw_schedule.specs.Shown.{is_held_at}
 use Rattle.saw_schedule.specs.declared.lasts.Left.{Left}

@@ -1,11 +1,10 @@
-use Rattle.std.proofs.Common.{◌≡◌, ℕ, Bool, true, List, Option, Some, None, refl, sym, ap, subst, ◌∙◌, if◌then◌else◌}
+use Rattle.std.proofs.Common.{◌≡◌, ℕ, true, List, Option, None, refl, sym, ap, subst, ◌∙◌, if◌then◌else◌}
 use Rattle.std.specs.FinMap as finite
 use Rattle.std.specs.Str.{bytes_eq}
 use Rattle.hex.specs.Hex.{encode_lower}
 use Rattle.saw_address.specs.Texts.{is_address_text}
 use Rattle.saw_context.specs.declared.view.ViewEntry.{ViewEntry}
 use Rattle.saw_schedule.specs.Shown.{is_held_at, last_held, shown_at, shown_by}
-use Rattle.saw_schedule.specs.declared.lasts.Left.{Left}
 use Rattle.saw_schedule.proofs.LookingUp.{looked-more, looked-past, whole-covers, whole-long, whole-none, whole-same}
 use Rattle.saw_schedule.proofs.Undoing.{through}
 use Rattle.saw_schedule.proofs.view.look_up.Goals as goal

@@ -1,10 +1,7 @@
-use Rattle.std.proofs.Common.{◌≡◌, ℕ, List, Option, Some, None, Result, Ok, Err, IfOk, if◌then◌else◌, ap, ◌∙◌}
-use Rattle.std.specs.FinMap as finite
+use Rattle.std.proofs.Common.{Option, None, Result, Ok, Err, IfOk, if◌then◌else◌, ap, ◌∙◌}
 use Rattle.saw_context.specs.Conversation.{are_covering}
-use Rattle.saw_context.specs.Views.{layers_of}
 use Rattle.saw_context.specs.declared.view.View.{View}
 use Rattle.saw_context.specs.declared.view.ViewEntry.{ViewEntry}
-use Rattle.saw_schedule.specs.LookedUp.{IsLookedUp}
 use Rattle.saw_schedule.specs.Shown.{shown_at}
 use Rattle.saw_schedule.proofs.LookingUp.{looked-all, shown-far}
 use Rattle.saw_schedule.proofs.TakeEnds.{all-shown}

@@ -1,4 +1,4 @@
-use Rattle.std.proofs.Common.{ℕ, List, refl, ◌∙◌}
+use Rattle.std.proofs.Common.{refl, ◌∙◌}
 use Rattle.saw_context.proofs.Views.{get-layers_of}
 use Rattle.saw_schedule.proofs.OverlappingTexts.{texts-cover}
 use Rattle.saw_schedule.proofs.view.view_over.Goals as goal

@@ -1,4 +1,4 @@
-use Rattle.std.proofs.Common.{◌≡◌, ℕ, List, Option, Vec, refl, sym, ap, subst, ◌∙◌, filter, take}
+use Rattle.std.proofs.Common.{ℕ, List, Option, Vec, refl, sym, ap, subst, ◌∙◌, filter, take}
 use Rattle.std.specs.BTreeMap.{BTreeMap}
 use Rattle.std.specs.Global.{Global}
 use Rattle.saw_schedule.specs.Lasts.{items_in}

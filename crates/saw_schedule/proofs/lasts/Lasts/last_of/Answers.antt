@@ -1,4 +1,4 @@
-use Rattle.std.proofs.Common.{List, Option, ap, sym, ◌∙◌}
+use Rattle.std.proofs.Common.{List, Option, ap, ◌∙◌}
 use Rattle.std.specs.Global.{Global}
 use Rattle.std.specs.declared.vec.Vec.{Vec}
 use Rattle.saw_schedule.specs.Lasts.{items_in}

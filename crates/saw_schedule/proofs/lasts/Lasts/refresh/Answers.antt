@@ -1,10 +1,9 @@
-use Rattle.std.proofs.Common.{◌≡◌, ◌<◌, ◌≤◌, ◌+◌, ℕ, Bool, false, List, Some, length, length-set, set, refl, sym, ap, subst, ◌∙◌, arith}
+use Rattle.std.proofs.Common.{◌≡◌, ◌<◌, ◌+◌, ℕ, Bool, false, List, Some, length, length-set, set, refl, sym, ap, subst, ◌∙◌, arith}
 use Rattle.saw_ready.specs.Sets.{IsNext, NoneIn}
-use Rattle.saw_schedule.specs.Layering.{IsChangedBy, IsRightAt}
+use Rattle.saw_schedule.specs.Layering.{IsChangedBy}
 use Rattle.saw_schedule.specs.Places.{place_by, place_in}
-use Rattle.saw_schedule.specs.declared.kept.Kept.{Kept}
 use Rattle.std.proofs.lemmas.Option.{slice_get_read}
-use Rattle.saw_schedule.proofs.Refreshing.{all-empty, gone-through, none-before}
+use Rattle.saw_schedule.proofs.Refreshing.{gone-through, none-before}
 use Rattle.saw_schedule.proofs.lasts.Lasts.refresh.Goals as goal
 
 pub loop-k-preserved : goal.loop-k-preserved

@@ -1,4 +1,4 @@
-use Rattle.std.proofs.Common.{◌≡◌, ℕ, List, Option, refl, sym, ap, ◌∙◌, bytes_eq, if◌then◌else◌}
+use Rattle.std.proofs.Common.{◌≡◌, Option, refl, ap, ◌∙◌, bytes_eq, if◌then◌else◌}
 use Rattle.std.specs.FinMap as finite
 use Rattle.saw_context.specs.declared.view.ViewEntry.{ViewEntry}
 use Rattle.saw_schedule.specs.Layering.{lefts_to}
