@@ -1,7 +1,7 @@
 //! The queue of a plan's transactions.
 
-ghost use Rattle.std.specs.Prelude.{◌≡◌, ◌≤◌, ◌<◌, ◌+◌, ℕ, true, length, get_or, IfOk, IfSome};
-ghost use Rattle.saw_ready.specs.Edges.{AreEarlier, AreEdges};
+ghost use Rattle.std.specs.Prelude.{nat_lt, ◌≡◌, ◌≤◌, ◌<◌, ◌+◌, ℕ, true, length, get_or, IfOk, IfSome};
+ghost use Rattle.saw_ready.specs.Edges.{AreEarlier, AreEdges, begin, finish};
 ghost use Rattle.saw_ready.specs.Fronts.{IsFrontOf};
 ghost use Rattle.saw_ready.specs.Layouts.{AreStarts};
 ghost use Rattle.saw_ready.specs.Marks.{is_valid};
@@ -195,6 +195,14 @@ impl Queue {
         ensures { result ≡ get_or self.now.marks k Waiting }
     {
         self.marks[k]
+    }
+
+    /// Whether the transaction has predecessors.
+    pub fn has_predecessors(&self, k: usize) -> bool
+        requires { k < length self.now.marks }
+        ensures { result ≡ nat_lt (begin self.now.preds k) (finish self.now.preds k) }
+    {
+        self.layout.preds.begin(k) < self.layout.preds.finish(k)
     }
 
     /// The first number that is not settled, or the count.

@@ -247,3 +247,20 @@ looked-none shown view layers inputs = record {
   some = λ at e. absurd (true≢false (sym e ∙ rw inputs refl));
   all = λ at long e. absurd (true≢false (sym e));
 }
+
+-- a view that shows nothing, where nothing is to be shown
+pub shown-nothing : (shown : View) (texts : List (List ℕ)) (view : Seen) → ((at : List ℕ) → finite.get view.layers at ≡ None) → ((at : List ℕ) → are_covering texts at ≡ true → shown at ≡ None)
+    → (at : List ℕ) → finite.get (layers_of view) at ≡ (if are_covering texts at then shown at else None)
+shown-nothing shown texts view layers none at =
+    get-layers_of view at ∙ (rw (layers at) (either (list_any (λ prefix. covers prefix at) view.inputs.items)) ∙ sym (go (are_covering texts at) refl))
+  where
+    nowhere : Option ViewEntry
+    nowhere = None
+
+    either : (b : Bool) → (if b then nowhere else nowhere) ≡ nowhere
+    either true = refl
+    either false = refl
+
+    go : (b : Bool) → are_covering texts at ≡ b → (if b then shown at else None) ≡ None
+    go true e = none at e
+    go false e = refl

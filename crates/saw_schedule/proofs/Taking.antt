@@ -27,6 +27,7 @@ use Rattle.saw_ready.specs.declared.mark.Mark.TheVariants as marks
 use Rattle.saw_schedule.specs.Histories.{History, IsTake, MayHappen, move_of, order_in, state_of, txs_in, with_step}
 use Rattle.saw_schedule.specs.Inside.{DoPlacesRise, IsScheduleOf}
 use Rattle.saw_schedule.specs.Jobs.{IsJobAt}
+use Rattle.saw_schedule.specs.LookedUp.{IsFirst}
 use Rattle.saw_schedule.specs.Shows.{is_closed_mark}
 use Rattle.saw_schedule.specs.declared.kept.Kept.{Kept}
 use Rattle.saw_schedule.specs.declared.lasts.Lasts.{Lasts}
@@ -34,6 +35,7 @@ use Rattle.saw_schedule.specs.declared.slots.Slots.{Slots}
 use Rattle.saw_schedule.specs.declared.step.Step.{Step}
 use Rattle.saw_schedule.specs.declared.step.Step.TheVariants.{Take}
 use Rattle.saw_schedule.proofs.Counting.{count-set}
+use Rattle.saw_schedule.proofs.Firsts.{view-none}
 use Rattle.saw_schedule.proofs.Meetings.{meetings}
 use Rattle.saw_schedule.proofs.NamedFailures.{failed-is, marked-closed}
 use Rattle.saw_schedule.proofs.Replays.{histories-are-kept}
@@ -105,6 +107,11 @@ module _ (h : History) (txs : List (Arc Tx Global)) (named : Edges) (slots : Slo
       go true e = let covers : (order_in h).reads k at ≡ true = reads ∙ e in let inner = may.inside in
           rw (covers, e) (sym (last-cut st.slots at k (length slots.queue.marks) (omega (arith, inner)) (none-later covers)))
       go false e = rw (reads ∙ e, e) refl
+
+  -- what no other precedes reads nothing that is changed
+  pub first-reads : IsFirst slots.queue.preds k → (tx : Arc Tx Global) → slice_get txs k ≡ Some tx → (at : List ℕ) → are_covering (arc_value tx).header.inputs at ≡ true
+      → last_below st.slots (length slots.queue.marks) at ≡ None
+  first-reads first tx there at covers = sym (view-at tx there at ∙ rw covers refl) ∙ view-none (order_in h) slots.queue.preds is.slots_are.shows.edges st.slots k first at
 
   module _ (mid : Slots) (queue : mid.queue ≡ with_mark slots.queue k marks.Running) (kept_mid : mid.kept ≡ slots.kept) (job : Job) (view : Arc View Global)
       (seen : Shown) (made_job : IsJobAt txs named mid seen k job view)

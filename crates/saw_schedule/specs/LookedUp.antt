@@ -1,5 +1,5 @@
 -- What whole addresses show, looked up one by one.
-use Rattle.std.specs.Prelude.{◌≡◌, ◌⊎◌, ℕ, nat_le, Bool, true, List, length, None, if◌then◌else◌}
+use Rattle.std.specs.Prelude.{◌≡◌, ◌⊎◌, ℕ, nat_le, nat_lt, Bool, false, true, List, length, None, if◌then◌else◌}
 use Rattle.std.specs.Arc.{arc_value}
 use Rattle.std.specs.FinMap as finite
 use Rattle.std.specs.Global.{Global}
@@ -10,6 +10,8 @@ use Rattle.saw_messages.specs.declared.tx.Tx.{Tx}
 use Rattle.saw_context.specs.Conversation.{are_covering}
 use Rattle.saw_context.specs.declared.view.View.{View as Shown}
 use Rattle.saw_machine.specs.Machine.{View}
+use Rattle.saw_ready.specs.Edges.{begin, finish}
+use Rattle.saw_ready.specs.declared.edges.Edges.{Edges}
 
 -- no text is shorter than that of an address
 abbrev pub are_whole : List (List ℕ) → Bool
@@ -28,3 +30,7 @@ pub record IsLookedUp (shown : View) (texts : List (List ℕ)) (view : Shown) : 
   pub there : (at : List ℕ) → finite.get view.layers at ≡ (if is_one_of view.inputs.items at then shown at else None)
   pub some : (at : List ℕ) → is_one_of view.inputs.items at ≡ true → (length at ≡ 35) × (are_covering texts at ≡ true)
   pub all : (at : List ℕ) → length at ≡ 35 → are_covering texts at ≡ true → (is_one_of view.inputs.items at ≡ true) ⊎ (shown at ≡ None)
+
+-- no transaction precedes k
+abbrev pub IsFirst : Edges → ℕ → Type 0
+IsFirst preds k = nat_lt (begin preds k) (finish preds k) ≡ false

@@ -1,6 +1,6 @@
 //! The schedule of a plan.
 
-ghost use Rattle.std.specs.Prelude.{◌≡◌, ◌≢◌, ◌+◌, ◌<◌, ◌≤◌, ◌^◌, ◌++◌, ◌∷◌, [], ℕ, Some, true, false, if◌then◌else◌, length, get_or, slice_get, vec_capacity, vec_len, IfOk, OnErr};
+ghost use Rattle.std.specs.Prelude.{◌≡◌, ◌≢◌, ◌+◌, ◌<◌, ◌≤◌, ◌^◌, ◌++◌, ◌∷◌, [], ℕ, List, None, Some, true, false, if◌then◌else◌, length, get_or, slice_get, vec_capacity, vec_len, IfOk, OnErr};
 ghost use Rattle.std.specs.Arc.{arc_value};
 ghost use Rattle.saw_plan.specs.BatchShapes.{shapes_of, transactions_in};
 ghost use Rattle.std.specs.List.{list_any};
@@ -8,8 +8,12 @@ ghost use Rattle.saw_ready.specs.Edges.{AreEarlier, AreEdges};
 ghost use Rattle.saw_ready.specs.declared.mark.Mark.TheVariants.{Invalid, Running, Valid, Waiting};
 ghost use Rattle.saw_ready.specs.Queues.{with_mark};
 ghost use Rattle.saw_ready.specs.Sets.{IsEmpty};
+ghost use Rattle.std.specs.Global.{Global};
+ghost use Rattle.std.specs.declared.sync.Arc.{Arc};
+ghost use Rattle.saw_messages.specs.declared.tx.Tx.{Tx};
+ghost use Rattle.saw_context.specs.Conversation.{are_covering};
 ghost use Rattle.saw_schedule.specs.Layering.{AreIdle, AreLastsOf};
-ghost use Rattle.saw_schedule.specs.LookedUp.{are_whole, do_read_whole};
+ghost use Rattle.saw_schedule.specs.LookedUp.{IsFirst, are_whole, do_read_whole};
 ghost use Rattle.saw_schedule.specs.Shown.{shown_at};
 ghost use Rattle.saw_schedule.specs.Jobs.{IsJobAt};
 ghost use Rattle.saw_schedule.specs.Inside.{AreSlotsOf, IsPlacedAt, IsRunning};
@@ -27,7 +31,7 @@ use crate::lasts::Lasts;
 use crate::results::Results;
 use crate::slots::{Slots, settle};
 use crate::step::Step;
-use crate::view::view_of;
+use crate::view::view_at;
 use saw_context::{Done, Job, Ticket, View};
 use saw_messages::{Outcome, Tx};
 use saw_plan::Plan;
@@ -184,11 +188,13 @@ fn job_of(
     requires all { lasts.now.place ≡ length steps.now }
     requires none { IsEmpty lasts.now.undone }
     requires whole { lasts.now.wide ≡ false → do_read_whole txs.now ≡ true }
+    requires first { IsFirst slots.now.queue.preds k → (tx : Arc Tx Global) → slice_get txs.now k ≡ Some tx → (at : List ℕ)
+        → are_covering (arc_value tx).header.inputs at ≡ true → shown_at steps.now slots.now at ≡ None }
     ensures { IfOk result (λ made. IsJobAt txs.now named.now slots.now (shown_at steps.now slots.now) k made.0 made.1) }
 {
     let tx = txs[k].clone()?;
     let texts = tx.header.inputs.as_slice();
-    let view = Arc::new(alloc, view_of(alloc, steps, slots, lasts, texts)?)?;
+    let view = Arc::new(alloc, view_at(alloc, steps, slots, lasts, texts, k)?)?;
     let kept = view.clone()?;
     let job = Job {
         ticket: Ticket {

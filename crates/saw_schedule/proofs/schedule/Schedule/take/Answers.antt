@@ -1,11 +1,11 @@
-use Rattle.std.proofs.Common.{◌≡◌, ◌+◌, ◌<◌, ◌≤◌, ◌++◌, ◌∷◌, [], ℕ, true, List, length, length-set, vec_capacity, Result, Ok, Err, OnErr, refl, sym, ap, subst, ◌∙◌, arith}
+use Rattle.std.proofs.Common.{◌≡◌, ◌+◌, ◌<◌, ◌≤◌, ◌++◌, ◌∷◌, [], ℕ, nat_lt, true, List, Some, slice_get, length, length-set, vec_capacity, Result, Ok, Err, OnErr, refl, sym, ap, subst, ◌∙◌, arith}
 use Rattle.std.specs.Arc.{arc_value}
 use Rattle.std.specs.Global.{Global}
 use Rattle.std.specs.declared.sync.Arc.{Arc}
 use Rattle.saw_messages.specs.declared.tx.Tx.{Tx}
 use Rattle.saw_machine.specs.Machine.{IsReady}
 use Rattle.saw_schedule.proofs.Replays.{histories-are-kept}
-use Rattle.saw_ready.specs.Edges.{AreEdges}
+use Rattle.saw_ready.specs.Edges.{AreEdges, begin, finish}
 use Rattle.saw_ready.specs.Queues.{Waits, with_mark}
 use Rattle.saw_ready.specs.declared.mark.Mark.TheVariants as marks
 use Rattle.saw_schedule.specs.Histories.{History, IsTake, order_in, state_of, with_step}
@@ -18,7 +18,7 @@ use Rattle.saw_schedule.specs.declared.step.Step.TheVariants.{Take}
 use Rattle.saw_schedule.proofs.Showing.{ready-taken}
 use Rattle.saw_schedule.proofs.ScheduleSteps.{txs-all}
 use Rattle.saw_schedule.proofs.TakeEnds.{attempts-few, back-is, kept-on, kept-still, lefts-taken, one-is, shown-taken}
-use Rattle.saw_schedule.proofs.Taking.{attempt-is, is-take, taken}
+use Rattle.saw_schedule.proofs.Taking.{attempt-is, first-reads, is-take, taken}
 use Rattle.saw_schedule.proofs.schedule.Schedule.take.Goals as goal
 
 pub invariant_of-self-in_default : goal.invariant_of-self-in_default
@@ -226,3 +226,11 @@ job_of-found-requires-clause-none c = c.in_ok-refresh.ensures.ok
 pub job_of-found-requires-clause-whole : goal.job_of-found-requires-clause-whole
 job_of-found-requires-clause-whole c = λ narrow.
     subst (λ (xs : List (Arc Tx Global)). do_read_whole xs ≡ true) (sym c.as_slice.ensures) (c.self.invariant.whole (sym (c.refresh.ensures.stays.1 ∙ c.absorb.ensures.wide) ∙ narrow))
+
+pub job_of-found-requires-clause-first : goal.job_of-found-requires-clause-first
+job_of-found-requires-clause-first c = λ first tx there at covers.
+    let lefts = (subst (λ (all : List Step). AreLastsOf all c.self.inside.slots c.refresh.new.self) (c.deref-2.ensures.value ∙ c.reserve.ensures.items) c.in_ok-refresh.ensures.so) in
+    let shown = shown-taken (record { batches = (arc_value c.self.inside.plan).batches; steps = c.self.inside.steps.items }) c.self.inside.txs c.self.inside.named c.self.inside.slots (record { queue = c.take.new.self; ends = c.self.inside.slots.ends; hits = c.self.inside.slots.hits; kept = c.self.inside.slots.kept; verdicts = c.self.inside.slots.verdicts; running = c.self.inside.slots.running }) c.self.inside.lasts c.refresh.new.self (vec_capacity c.self.inside.steps) c.in-Some.k c.self.invariant lefts c.in_ok-refresh.ensures.ok c.in-Some.ensures.taken.1 c.in-Some.ensures.taken.0 refl in
+    ap (λ (all : List Step). shown_at all (record { queue = c.take.new.self; ends = c.self.inside.slots.ends; hits = c.self.inside.slots.hits; kept = c.self.inside.slots.kept; verdicts = c.self.inside.slots.verdicts; running = c.self.inside.slots.running }) at) (c.deref-3.ensures.value ∙ c.reserve.ensures.items)
+    ∙ (shown at ∙ first-reads (record { batches = (arc_value c.self.inside.plan).batches; steps = c.self.inside.steps.items }) c.self.inside.txs c.self.inside.named c.self.inside.slots c.self.inside.lasts (vec_capacity c.self.inside.steps) c.self.invariant c.in-Some.k c.in-Some.ensures.taken.1
+    (ap (λ (q : Waits). nat_lt (begin q.preds c.in-Some.k) (finish q.preds c.in-Some.k)) (sym c.in-Some.ensures.taken.0) ∙ first) tx (subst (λ (xs : List (Arc Tx Global)). slice_get xs c.in-Some.k ≡ Some tx) c.as_slice.ensures there) at covers)
