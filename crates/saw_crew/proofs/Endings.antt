@@ -1,14 +1,12 @@
 -- What the caller does once the workers were joined.
 use Rattle.std.proofs.Common.{◌≡◌, ℕ, zero, suc, ◌+◌, ◌<◌, ◌⊎◌, inl, inr, List, [], ◌∷◌, ◌++◌, length, Some, refl, sym, ap, subst, ◌∙◌, arith, slice_get, length-append}
 use Rattle.std.proofs.lemmas.Option.{slice_get_within}
-use Rattle.std.specs.List.{AllByRecursion}
 use Rattle.saw_address.specs.Maps.{StateMap}
 use Rattle.saw_messages.specs.TxShapes.{TxShape}
 use Rattle.saw_context.specs.Outcome.{Processors}
 use Rattle.saw_context.specs.declared.job.Ticket.{Ticket}
 use Rattle.saw_machine.specs.Laws.{IsQuiet}
-use Rattle.saw_machine.specs.Machine.{Running, Task}
-use Rattle.saw_schedule.specs.Histories.{Gives, History, IsReplay, RunsIn, start_of, state_of, txs_in, with_step}
+use Rattle.saw_schedule.specs.Histories.{Gives, History, IsReplay, RunsIn, start_of, state_of, txs_in}
 use Rattle.saw_schedule.specs.declared.ended.Given.{Given}
 use Rattle.saw_schedule.specs.declared.ended.Given.TheVariants as gifts
 use Rattle.saw_schedule.specs.declared.step.Step.{Step}

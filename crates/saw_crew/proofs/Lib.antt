@@ -11,3 +11,6 @@ pub mod Telling
 pub mod Depending
 pub mod Members
 pub mod Serially
+pub mod Rounds
+pub mod Ended
+pub mod InHand

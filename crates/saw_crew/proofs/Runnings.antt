@@ -1,8 +1,9 @@
 -- What runs was taken, and a job that was given back runs no more.
-use Rattle.std.proofs.Common.{◌≡◌, ℕ, suc, Bool, true, false, List, [], ◌∷◌, Some, slice_get, refl, sym, ap, ◌∙◌, ◌⊎◌, inl, inr, is_none}
+use Rattle.std.proofs.Common.{◌≡◌, ℕ, suc, Bool, true, false, List, [], ◌∷◌, Some, slice_get, sym, ap, ◌∙◌, ◌⊎◌, inl, inr, is_none}
 use Rattle.saw_messages.specs.TxShapes.{TxShape}
 use Rattle.saw_messages.specs.declared.outcome.Outcome.{Outcome}
 use Rattle.saw_context.specs.declared.batch_result.BatchResult.{BatchResult}
+use Rattle.saw_context.specs.declared.job.Done.{Done}
 use Rattle.saw_context.specs.declared.job.Ticket.{Ticket}
 use Rattle.saw_machine.specs.Machine.{Closed, Held, Running, Slot, Slots, State, Task, Waiting, finished, next, put, settle, task_of}
 use Rattle.saw_machine.specs.Machine as machine
@@ -102,3 +103,10 @@ running-taken h i n task replay e = elim (taken-from (txs_in h) (start_of h) h.s
 pub given-running : (h : History) (ticket : Ticket) (i n : ℕ) (task : Task) → (state_of (with_step h (GiveBack ticket))).slots i ≡ Running n task
     → ((state_of h).slots i ≡ Running n task) × (i ≡ ticket.index → ⊥)
 given-running h ticket i n task e = back-runs (order_in h) (state_of h) ticket.index ticket.attempt i n task (rw (state-with_step h (GiveBack ticket)) at e)
+
+-- what runs behind a result ran before, and is another
+pub finished-running : (h : History) (done : Done) (i n : ℕ) (task : Task) → (state_of (with_step h (Finish done))).slots i ≡ Running n task
+    → ((state_of h).slots i ≡ Running n task) × (i ≡ done.ticket.index → ⊥)
+finished-running h done i n task e =
+    finish-runs (order_in h) (state_of h) done.ticket.index done.ticket.attempt done.outcome (is_none (difference_in (txs_in h) (state_of h) done)) i n task
+    (rw (state-with_step h (Finish done)) at e)

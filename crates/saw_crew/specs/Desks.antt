@@ -1,5 +1,5 @@
 -- What desks have in common, and what stays of them.
-use Rattle.std.specs.Prelude.{◌≡◌, ◌≤◌, ◌⊎◌, ℕ, List, [], ◌∷◌, is_some}
+use Rattle.std.specs.Prelude.{◌≡◌, ◌≤◌, ℕ, List, [], ◌∷◌, is_some}
 use Rattle.std.specs.List.{AllByRecursion}
 use Rattle.saw_faults.specs.Counts.{Rose}
 use Rattle.saw_station.specs.DeskPlaces.{Place, faults_by, offered_by}

@@ -2,3 +2,4 @@ pub mod Desks
 pub mod Stored
 pub mod Alone
 pub mod Failing
+pub mod Rounds

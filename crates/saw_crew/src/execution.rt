@@ -11,10 +11,11 @@ ghost use Rattle.saw_station.specs.Serving.{processors_at};
 use crate::ending::{left_by_workers, run_alone};
 use crate::fault::CrewFault;
 use crate::locked::Locked;
+use crate::seats::seats_for;
 use crate::serial::run_serially;
 use crate::tangle::is_tangled;
 use crate::work::all_work;
-use crate::workers::threads_for;
+use crate::workers::{threads_for, transactions_of};
 use saw_address::Base;
 use saw_plan::Plan;
 use saw_schedule::{Results, Schedule};
@@ -69,7 +70,7 @@ fn execute_alone<B: Base, R: Station>(
     run_serially(alloc, plan.batches.as_slice(), base, &mut desks[0])
 }
 
-// The same by so many threads over a schedule; the first desk ends what they leave.
+// The same by so many threads over a schedule, each desk at a seat of its own; the first desk ends what they leave.
 fn execute_together<B: Base, R: Station, T: Threads + Wait + Sync>(
     rt: &T,
     alloc: Global,
@@ -87,8 +88,9 @@ fn execute_together<B: Base, R: Station, T: Threads + Wait + Sync>(
     ensures desks { KeepsDesks R.faults R.offered desks.old desks.new }
     ensures cause { IsErrOf result CrewFault.PeerFailed → Failed R.faults desks.old desks.new }
 {
-    let locked = Mutex::new(lent(alloc, plan, &desks[0], threads)?);
-    all_work(rt, alloc, desks, threads, &locked, base);
+    let locked = Mutex::new(lent(alloc, plan, &desks[0])?);
+    let seats = seats_for(alloc, desks.len(), transactions_of(plan))?;
+    all_work(rt, alloc, desks, &seats, threads, &locked, base);
     let first = &mut desks[0];
     let schedule = left_by_workers(alloc, locked.into_inner(), plan, first.offers(), base)?;
     run_alone(alloc, schedule, plan, base, first)
@@ -99,10 +101,9 @@ fn lent<R: Station>(
     alloc: Global,
     plan: &Arc<Plan>,
     desk: &Desk<R>,
-    threads: usize,
 ) -> Result<Locked<R>, AllocError>
     requires { transactions_in (arc_value plan.now).batches < 2 ^ 32 }
 {
     let schedule = Schedule::new(alloc, plan.clone()?)?;
-    Ok(Locked::new(schedule, desk.shared_offers()?, threads))
+    Ok(Locked::new(schedule, desk.shared_offers()?))
 }

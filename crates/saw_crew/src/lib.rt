@@ -1,4 +1,5 @@
-//! Runs the batches of a plan over a base: one after another, or each desk a worker round the lock of their schedule.
+//! Runs the batches of a plan over a base: one after another, or each desk a worker at a seat of job
+//! queues, round the lock of their schedule.
 #![tactic(auto)]
 
 mod alike;
@@ -7,7 +8,9 @@ mod batch;
 mod ending;
 mod execution;
 mod fault;
+mod hand;
 mod locked;
+mod seats;
 mod serial;
 mod tangle;
 mod work;

@@ -5,6 +5,10 @@ ghost use Rattle.std.specs.Prelude.{◌≡◌, ◌^◌, ◌<◌, ◌≤◌, leng
 use saw_plan::Plan;
 use saw_station::{Desk, Station};
 
+/// So many transactions of built-in families are worth a thread: each is answered in microseconds, and a thread costs some
+/// tens of these to start.
+const WORTH_A_THREAD: usize = 16;
+
 /// As many workers as desks; where a `u32` does not hold their number, as many as it holds.
 pub fn workers_at<R: Station>(desks: &[Desk<R>]) -> u32
     requires { 0 < length desks.now }
@@ -14,7 +18,8 @@ pub fn workers_at<R: Station>(desks: &[Desk<R>]) -> u32
     u32::try_from(desks.len()).unwrap_or(u32::MAX)
 }
 
-fn transactions_of(plan: &Plan) -> usize {
+/// How many transactions a plan has.
+pub(crate) fn transactions_of(plan: &Plan) -> usize {
     let mut count = 0usize;
     for batch in plan.batches.as_slice() {
         count = count.saturating_add(batch.txs.len());
@@ -22,14 +27,16 @@ fn transactions_of(plan: &Plan) -> usize {
     count
 }
 
-/// How many threads run a plan: no more than it has transactions, or than desks. Where nothing is offered elsewhere it is
-/// one, since the built-in families answer sooner than a schedule hands out what to run.
+/// How many threads run a plan: as many as desks, but no more than it has transactions. Where nothing is offered
+/// elsewhere, each is to have some of these to run, but there are two where two have something to do.
 pub(crate) fn threads_for<R: Station>(plan: &Plan, desks: &[Desk<R>]) -> usize
     requires { 0 < length desks.now }
     ensures { 0 < result }
 {
+    let transactions = transactions_of(plan);
+    let most = transactions.min(desks.len()).max(1);
     if desks[0].offers().is_empty() {
-        return 1;
+        return most.min((transactions / WORTH_A_THREAD).max(2));
     }
-    transactions_of(plan).min(desks.len()).max(1)
+    most
 }

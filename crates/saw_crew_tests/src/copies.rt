@@ -1,4 +1,4 @@
-//! A processor that writes, copies and refuses, and refuses only once the copy was made.
+//! A processor that writes once another worker has begun to refuse, copies, and refuses only once the copy was made.
 
 ghost use Rattle.std.specs.Prelude.{◌≡◌, ◌≤◌, [], true, false, None, IfOk, IsErrOf, OnOk};
 ghost use Rattle.saw_faults.specs.Counts.{Rose};
@@ -23,9 +23,10 @@ pub(crate) const WRITTEN: &[u8] = b"written";
 /// What the copy is of an entry that is not there.
 pub(crate) const NOTHING: &[u8] = b"nothing";
 
-/// How often the copy was begun, and how often it was made.
+/// How often the refusal was begun, and the copy was begun and was made.
 #[derive(Drop)]
 pub(crate) struct Runs {
+    pub(crate) refused: AtomicU64,
     pub(crate) begun: AtomicU64,
     pub(crate) made: AtomicU64,
 }
@@ -33,6 +34,7 @@ pub(crate) struct Runs {
 impl Runs {
     pub(crate) fn new() -> Self {
         Runs {
+            refused: AtomicU64::new(0),
             begun: AtomicU64::new(0),
             made: AtomicU64::new(0),
         }
@@ -89,23 +91,27 @@ fn entry_seen(talk: &Transcript) -> &[u8] {
     }
 }
 
-impl Copies<'_> {
-    // Waits, for a while, until the copy was made once.
-    fn wait_for_the_copy(&self) {
-        for _ in 0..MAX_TURNS {
-            if self.runs.made.load(Ordering::SeqCst) > 0 {
-                return;
-            }
-            thread::yield_now();
+// Waits, for a while, until something came to pass once.
+fn wait_for(count: &AtomicU64) {
+    for _ in 0..MAX_TURNS {
+        if count.load(Ordering::SeqCst) > 0 {
+            return;
         }
+        thread::yield_now();
     }
+}
 
+impl Copies<'_> {
     fn write(&self, alloc: Global, tx: &Tx, talk: &Transcript) -> Result<Action, AllocError>
         ensures short { IfOk result IsShort }
         ensures reason { IfOk result (λ action. has_own_reason action ≡ true) }
     {
         match talk.turns.len() {
-            0 => set(alloc, first_place(&tx.header.outputs), WRITTEN),
+            0 => {
+                // A worker that ran both would keep what was written in hand, so the copy would wait for it.
+                wait_for(&self.runs.refused);
+                set(alloc, first_place(&tx.header.outputs), WRITTEN)
+            }
             _ => Ok(Action::Ok),
         }
     }
@@ -166,7 +172,8 @@ impl Station for Copies<'_> {
             "write" => Ok(self.write(alloc, tx, talk)?),
             "copy" => Ok(self.copy(alloc, tx, talk)?),
             _ => {
-                self.wait_for_the_copy();
+                self.runs.refused.fetch_add(1, Ordering::SeqCst);
+                wait_for(&self.runs.made);
                 Ok(Action::Invalid {
                     reason: Reason::Remote,
                 })

@@ -4,6 +4,8 @@
 #[cfg(test)]
 mod apart;
 #[cfg(test)]
+mod builtin;
+#[cfg(test)]
 mod copies;
 #[cfg(test)]
 mod meeting;
@@ -13,3 +15,5 @@ mod meets;
 mod reruns;
 #[cfg(test)]
 mod seats;
+#[cfg(test)]
+mod waits;

@@ -50,7 +50,11 @@ fn plan(alloc: Global) -> Result<Plan, Fail> {
     Ok(Plan { batches })
 }
 
-fn desk<'a>(runs: &'a Runs, offers: &Arc<Vec<Offer>>) -> Result<Desk<Copies<'a>>, AllocError>
+/// A desk with these offers.
+pub(crate) fn desk<'a>(
+    runs: &'a Runs,
+    offers: &Arc<Vec<Offer>>,
+) -> Result<Desk<Copies<'a>>, AllocError>
     ensures { IfOk result (λ desk. desk.offers ≡ (arc_value offers.now).items) }
 {
     Ok(Desk::new(Some(Copies { runs }), offers.clone()?))

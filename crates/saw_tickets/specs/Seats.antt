@@ -10,6 +10,18 @@ use Rattle.saw_tickets.specs.declared.neighbor.Neighbor.{Neighbor}
 use Rattle.saw_tickets.specs.declared.seat.Seat.{Seat}
 use Rattle.saw_tickets.specs.TicketHistory.{knows, numbered, MayBeEmpty}
 
+-- what the pass of a way into a queue knows
+abbrev pub known_by : Neighbor → View
+known_by n = view n.pass
+
+-- the queue that a way leads to
+abbrev pub leads_to : Neighbor → RowsId × Global
+leads_to n = stealer_deque n.thief
+
+-- the queue of the seat
+abbrev pub own_queue : Seat → RowsId × Global
+own_queue s = worker_deque s.own
+
 abbrev pub other_views : List Neighbor → List View
 other_views ns = map (λ n. view n.pass) ns
 
@@ -52,6 +64,16 @@ ClaimsEntry old new e = (t : ℕ) × (t < length old) × (new ≡ slice_set old 
 abbrev pub ClaimsJob : List View → List View → Job → Type 0
 ClaimsJob old new job = (place : ℕ) × ClaimsEntry old new (numbered place job)
 
+-- a job was claimed of the own queue, under some number, and nothing else changed
+abbrev pub ClaimsOwn : List View → List View → Job → Type 0
+ClaimsOwn [] new job = ⊥
+ClaimsOwn (own ∷ others) new job = (place : ℕ) × (new ≡ with_claimed own (numbered place job) ∷ others)
+
+-- nothing was claimed, and the rule of the own queue allows what is known of it beside an empty queue
+abbrev pub FindsNoOwn : List View → List View → Type 0
+FindsNoOwn [] new = ⊥
+FindsNoOwn (own ∷ others) new = (new ≡ own ∷ others) × MayBeEmpty own
+
 -- nothing was claimed, and the rule of each queue allows what is known of it beside an empty queue
 abbrev pub FindsNone : List View → List View → Type 0
 FindsNone old new = (new ≡ old) × ((t : ℕ) → t < length old → MayBeEmpty (slice_index_or old t (knows [] [])))
@@ -75,6 +97,6 @@ others_at i xs = take i xs ++ drop (i + 1) xs
 -- each seat has its own queue and then each other one in order, may issue so many jobs, and nothing was issued or claimed
 abbrev pub IsPool : ℕ → List Seat → Type 0
 IsPool capacity ss = (i : ℕ) (d : Seat) → i < length ss
-    → (queues_of (slice_index_or ss i d) ≡ worker_deque (slice_index_or ss i d).own ∷ others_at i (deques ss))
+    → (queues_of (slice_index_or ss i d) ≡ own_queue (slice_index_or ss i d) ∷ others_at i (deques ss))
     × (views_of (slice_index_or ss i d) ≡ map (λ _. knows [] []) ss)
     × (capacity_of (slice_index_or ss i d) ≡ capacity)

@@ -1,9 +1,8 @@
 //! Pools of seats.
 
 ghost use Rattle.std.specs.Prelude.{◌≡◌, ◌<◌, ◌+◌, ◌++◌, ◌∷◌, [], IfOk, OnOk, map, vec_len};
-ghost use Rattle.crossbeam_deque.specs.Handles.{worker_deque};
 ghost use Rattle.saw_tickets.specs.TicketHistory.{knows};
-ghost use Rattle.saw_tickets.specs.Seats.{AllMeet, IsPool, capacity_of, deques, queues_of, views_of};
+ghost use Rattle.saw_tickets.specs.Seats.{AllMeet, IsPool, capacity_of, deques, own_queue, queues_of, views_of};
 
 use crate::Seat;
 use std::alloc::{AllocError, Global};
@@ -31,7 +30,7 @@ impl TicketPool {
 fn admit(seats: &mut Vec<Seat>, mut new: Seat) -> Result<(), AllocError>
     requires pool { IsPool (capacity_of new) seats.old.items }
     requires views { views_of new ≡ knows [] [] ∷ [] }
-    requires queues { queues_of new ≡ worker_deque new.own ∷ [] }
+    requires queues { queues_of new ≡ own_queue new ∷ [] }
     ensures len { OnOk result (vec_len seats.new ≡ vec_len seats.old + 1) }
     ensures pool { OnOk result (IsPool (capacity_of new) seats.new.items) }
 {
@@ -42,7 +41,7 @@ fn admit(seats: &mut Vec<Seat>, mut new: Seat) -> Result<(), AllocError>
 
 // The seats and a new one get to know one another.
 fn introduce(seats: &mut [Seat], new: &mut Seat) -> Result<(), AllocError>
-    ensures seats { OnOk result (AllMeet (worker_deque new.old.own) seats.old seats.new) }
+    ensures seats { OnOk result (AllMeet (own_queue new.old) seats.old seats.new) }
     ensures queues { OnOk result (queues_of new.new ≡ queues_of new.old ++ deques seats.old) }
     ensures views { OnOk result (views_of new.new ≡ views_of new.old ++ map (λ _. knows [] []) seats.old) }
     ensures capacity { OnOk result (capacity_of new.new ≡ capacity_of new.old) }

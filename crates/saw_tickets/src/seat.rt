@@ -1,7 +1,7 @@
 //! Seats: a worker's own queue, and ways into the others.
 
 ghost use Rattle.std.specs.Prelude.{◌≡◌, ◌<◌, ◌≤◌, ◌^◌, ◌++◌, ◌∷◌, [], IfErr, IfOk, MatchOption, OnErr, OnOk, length};
-ghost use Rattle.crossbeam_deque.specs.Handles.{stealer_deque, view, worker_capacity, worker_deque, worker_flavor, worker_index, worker_port, worker_view};
+ghost use Rattle.crossbeam_deque.specs.Handles.{worker_capacity, worker_deque, worker_flavor, worker_index, worker_port, worker_view};
 ghost use Rattle.saw_tickets.specs.TicketHistory.{MayBeEmpty, knows};
 
 use crate::neighbor::Neighbor;
@@ -27,13 +27,13 @@ pub struct Seat {
 }
 
 impl Seat {
-    ghost use Rattle.saw_tickets.specs.Seats.{ClaimsEntry, ClaimsJob, FindsNone, IssuesJob, Retires, capacity_of, issued_by, other_queues, other_views, queues_of, views_of};
+    ghost use Rattle.saw_tickets.specs.Seats.{ClaimsEntry, ClaimsJob, ClaimsOwn, FindsNoOwn, FindsNone, IssuesJob, Retires, capacity_of, issued_by, known_by, leads_to, other_queues, other_views, own_queue, queues_of, views_of};
 
     /// A seat that has issued and claimed nothing, and knows no other. It issues at most so many jobs.
     pub fn new(alloc: Global, capacity: u32) -> Result<Self, AllocError>
         requires { 0 < capacity }
         ensures views { IfOk result (λ seat. views_of seat ≡ knows [] [] ∷ []) }
-        ensures queues { IfOk result (λ seat. queues_of seat ≡ worker_deque seat.own ∷ []) }
+        ensures queues { IfOk result (λ seat. queues_of seat ≡ own_queue seat ∷ []) }
         ensures capacity { IfOk result (λ seat. capacity_of seat ≡ capacity) }
     {
         let own = Queue::fifo_as(alloc, capacity as usize)?;
@@ -49,10 +49,10 @@ impl Seat {
     pub fn guest(&mut self) -> Result<Neighbor, AllocError>
         ensures views { views_of self.new ≡ views_of self.old }
         ensures queues { queues_of self.new ≡ queues_of self.old }
-        ensures own { worker_deque self.new.own ≡ worker_deque self.old.own }
+        ensures own { own_queue self.new ≡ own_queue self.old }
         ensures capacity { capacity_of self.new ≡ capacity_of self.old }
         ensures guest { IfOk result
-            (λ guest. (stealer_deque guest.thief ≡ worker_deque self.old.own) × (view guest.pass ≡ knows [] [])) }
+            (λ guest. (leads_to guest ≡ own_queue self.old) × (known_by guest ≡ knows [] [])) }
     {
         let thief = self.own.stealer()?;
         let pass = self.own.another::<Guests>();
@@ -61,9 +61,9 @@ impl Seat {
 
     /// Adds a way into another seat's queue, behind those that it has.
     pub fn meet(&mut self, guest: Neighbor) -> Result<(), AllocError>
-        ensures views { OnOk result (views_of self.new ≡ views_of self.old ++ view guest.pass ∷ []) }
-        ensures queues { OnOk result (queues_of self.new ≡ queues_of self.old ++ stealer_deque guest.thief ∷ []) }
-        ensures own { self.new.own ≡ self.old.own }
+        ensures views { OnOk result (views_of self.new ≡ views_of self.old ++ known_by guest ∷ []) }
+        ensures queues { OnOk result (queues_of self.new ≡ queues_of self.old ++ leads_to guest ∷ []) }
+        ensures own { own_queue self.new ≡ own_queue self.old }
         ensures capacity { capacity_of self.new ≡ capacity_of self.old }
     {
         self.others.push(guest)?;
@@ -72,8 +72,8 @@ impl Seat {
 
     /// Takes in what was claimed of this seat's queue by a way that ends.
     pub fn retire(&mut self, guest: Neighbor)
-        requires { stealer_deque guest.thief ≡ worker_deque self.old.own }
-        ensures views { Retires (views_of self.old) (views_of self.new) (view guest.pass) }
+        requires { leads_to guest ≡ own_queue self.old }
+        ensures views { Retires (views_of self.old) (views_of self.new) (known_by guest) }
         ensures queues { queues_of self.new ≡ queues_of self.old }
         ensures capacity { capacity_of self.new ≡ capacity_of self.old }
     {
@@ -118,20 +118,33 @@ impl Seat {
         }
     }
 
+    /// A job of its own queue, or none where that was empty at one moment of this call.
+    pub fn claim_own(&mut self) -> Option<Job>
+        ensures rule { MatchOption result (FindsNoOwn (views_of self.old) (views_of self.new))
+            (ClaimsOwn (views_of self.old) (views_of self.new)) }
+        ensures queues { queues_of self.new ≡ queues_of self.old }
+        ensures capacity { capacity_of self.new ≡ capacity_of self.old }
+    {
+        match self.claim_own_entry() {
+            Some(own) => Some(job_of(own)),
+            None => None,
+        }
+    }
+
     fn claim_entry<R: Wait>(&mut self, rt: &R) -> Option<Numbered>
         ensures rule { MatchOption result (FindsNone (views_of self.old) (views_of self.new))
             (ClaimsEntry (views_of self.old) (views_of self.new)) }
         ensures queues { queues_of self.new ≡ queues_of self.old }
         ensures capacity { capacity_of self.new ≡ capacity_of self.old }
     {
-        match self.claim_own() {
+        match self.claim_own_entry() {
             Some(entry) => Some(entry),
             None => self.claim_other(rt),
         }
     }
 
-    // A job of its own queue.
-    fn claim_own(&mut self) -> Option<Numbered>
+    // A job of its own queue, with its number.
+    fn claim_own_entry(&mut self) -> Option<Numbered>
         ensures rule { MatchOption result
             ((worker_view self.new.own ≡ worker_view self.old.own) × MayBeEmpty (worker_view self.old.own))
             (λ entry. worker_view self.new.own

@@ -11,6 +11,9 @@ use Rattle.saw_crew.proofs.execution.execute_together.Goals as goal
 pub returns-in_err-lent-clause-desks : goal.returns-in_err-lent-clause-desks
 returns-in_err-lent-clause-desks g c = keep_all g.R.Station.faults g.R.Station.offered c.args.desks.now
 
+pub returns-in_err-seats-clause-desks : goal.returns-in_err-seats-clause-desks
+returns-in_err-seats-clause-desks g c = keep_all g.R.Station.faults g.R.Station.offered c.args.desks.now
+
 pub returns-in_err-schedule-clause-desks : goal.returns-in_err-schedule-clause-desks
 returns-in_err-schedule-clause-desks g c =
     let kept = keeps_places g.R.Station.faults g.R.Station.offered c.args.desks.now c.all_work.new.desks c.all_work.auto.desks c.all_work.ensures in
@@ -31,7 +34,7 @@ returns-clause-results g c =
     (λ (plan : Plan). IfOk c.run_alone.result (λ results.
     MayComeOfAll (processors_at g.R.Station.next g.R.Station.tells (get_or c.all_work.new.desks 0 c.index-desks-0-2.result).offers) (g.B.Base.entry c.args.base.now) (txs_of plan.batches)
     results.batches))
-    c.deref.ensures c.run_alone.ensures.results)
+    c.deref-3.ensures c.run_alone.ensures.results)
 
 pub returns-clause-desks : goal.returns-clause-desks
 returns-clause-desks g c =
