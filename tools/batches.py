@@ -1,6 +1,6 @@
-"""Makes a list of batches for `sawval publish`: one `BatchList`, signed with the development mark.
+"""Makes a list of batches for `sawval publish`: one `BatchList`, signed with the development mark or with a real key.
 
-Usage: python3 -B tools/batches.py [--key HEX] [--nonce TEXT] FILE BATCH [BATCH ..]
+Usage: python3 -B tools/batches.py [--key HEX | --sign KEYFILE] [--nonce TEXT] FILE BATCH [BATCH ..]
 
 Each BATCH is one argument: its transactions with `;` between them, each of words with spaces between them. So no word
 has a space or a `;`. The words are:
@@ -19,6 +19,8 @@ PROPOSAL of a vote on it, and depends on KEY, VALUE and NONCE alone.
 
 Options:
 --key HEX       the key that signs batches and transactions, 66 hex digits; without it `02` and 64 times `0`
+--sign KEYFILE  signs with the private key of this file, 64 hex digits, as Sawtooth 1.x signs (ECDSA on secp256k1 over
+                SHA-256); `sawval` then wants an attestation list, which tools/attest.py makes
 --nonce TEXT    makes other transactions of the same words. A branch takes no transaction twice, so each list for it
                 needs a TEXT of its own; the first needs none.
 
@@ -41,7 +43,7 @@ import counters
 from applied import values
 from counters import record, sha512
 from families import ACCEPT, KEYS, PROPOSALS, PROPOSE, REJECT, THRESHOLD, VOTE
-from families import Transaction, act, is_number, keys_in, last, move, number, proposed, sha256, written_batch
+from families import WAY, Transaction, act, is_number, keys_in, last, move, number, proposed, sha256, written_batch
 
 KEY = "02" + "0" * 64
 LONGEST_NAME = 20
@@ -173,11 +175,24 @@ class Words(argparse.ArgumentParser):
 def arguments():
     shape = argparse.RawDescriptionHelpFormatter
     parser = Words(usage=argparse.SUPPRESS, description=__doc__, formatter_class=shape, allow_abbrev=False)
-    parser.add_argument("--key", default=KEY, help=argparse.SUPPRESS)
+    parser.add_argument("--key", help=argparse.SUPPRESS)
+    parser.add_argument("--sign", help=argparse.SUPPRESS)
     parser.add_argument("--nonce", default="", help=argparse.SUPPRESS)
     parser.add_argument("file", metavar="FILE", help=argparse.SUPPRESS)
     parser.add_argument("batches", metavar="BATCH", nargs="+", help=argparse.SUPPRESS)
     return parser.parse_args()
+
+
+def key_of(given):
+    """The key that signs; with a real one headers are signed by it."""
+    if not given.sign:
+        return given.key or KEY
+    demand(not given.key, "--key and --sign are not for one list")
+    import signatures
+
+    private = signatures.private_key(given.sign)
+    WAY["sign"] = lambda _, header: signatures.sign(private, header)
+    return signatures.digits_of(private)
 
 
 def write(name, content):
@@ -189,7 +204,7 @@ def write(name, content):
 def main():
     given = arguments()
     try:
-        content, lines = batch_list(given.key, given.nonce, given.batches)
+        content, lines = batch_list(key_of(given), given.nonce, given.batches)
     except Wrong as wrong:
         print(wrong, file=sys.stderr)
         return 2
