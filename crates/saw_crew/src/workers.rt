@@ -5,10 +5,6 @@ ghost use Rattle.std.specs.Prelude.{◌≡◌, ◌^◌, ◌<◌, ◌≤◌, leng
 use saw_plan::Plan;
 use saw_station::{Desk, Station};
 
-/// So many transactions of built-in families are worth a thread: each is answered in microseconds, and a thread costs some
-/// tens of these to start.
-const WORTH_A_THREAD: usize = 16;
-
 /// As many workers as desks; where a `u32` does not hold their number, as many as it holds.
 pub fn workers_at<R: Station>(desks: &[Desk<R>]) -> u32
     requires { 0 < length desks.now }
@@ -27,16 +23,14 @@ pub(crate) fn transactions_of(plan: &Plan) -> usize {
     count
 }
 
-/// How many threads run a plan: as many as desks, but no more than it has transactions. Where nothing is offered
-/// elsewhere, each is to have some of these to run, but there are two where two have something to do.
+/// How many threads run a plan: as many as desks, but no more than it has transactions. Where nothing is offered elsewhere
+/// it is one: what a schedule allocates and gives up costs more than the runs that threads would share.
 pub(crate) fn threads_for<R: Station>(plan: &Plan, desks: &[Desk<R>]) -> usize
     requires { 0 < length desks.now }
     ensures { 0 < result }
 {
-    let transactions = transactions_of(plan);
-    let most = transactions.min(desks.len()).max(1);
     if desks[0].offers().is_empty() {
-        return most.min((transactions / WORTH_A_THREAD).max(2));
+        return 1;
     }
-    most
+    transactions_of(plan).min(desks.len()).max(1)
 }
