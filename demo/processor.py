@@ -16,8 +16,8 @@ What the function does must depend on the transaction and on the answers of the 
 runs it, more than once if need be, and all have to come to the same state.
 
 It refuses a transaction by `Invalid`. Any other exception is a fault of the processor, about which members could differ, so
-the transaction is not told as invalid: the validator gets INTERNAL_ERROR, which ends its run with `fault 6 peer`, and the
-processor ends with `HandlerFailed`. The messages are those of proto/link.proto.
+the transaction is not told as invalid: the validator gets INTERNAL_ERROR, and ends its run with `fault 6 peer` where no
+other processor answers; this one ends with `HandlerFailed`. The messages are those of proto/link.proto.
 """
 
 import os

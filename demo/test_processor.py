@@ -192,7 +192,7 @@ ENDS = [
     (processor.CutShort, "the link ended within a message", framed(8, "1", b"")[:-1]),
     (processor.CutShort, "a message ended within a field", framed(8, "1", b"\x12\x05a")),
     (processor.CutShort, "a message ended within a number", framed(8, "1", b"\x90")),
-    (processor.NotTheAnswer, "not the answer to request 1: type 10", framed(10, "1", number(2, 1))),
+    (processor.NotTheAnswer, "not the answer to request .: type 10", framed(10, "1", number(2, 1))),
     (processor.NotTheAnswer, "correlation id '2'", framed(8, "2", number(2, 1))),
     (processor.LinkError, "1751477356 bytes is announced", b"hello"),
 ]
