@@ -3,7 +3,7 @@
 Run by hand, never by the gate, after `rt run` has built the program:
 python3 -B bench/processors.py PROGRAM [TRANSACTIONS MILLISECONDS RUNS]
 
-One block holds so many claims of different names, each in a batch of its own, for the family of demo/processor.py. Each
+One block holds so many claims of different names, each in a batch of its own, for the family of demo/names.py. Each
 processor is that one with so many milliseconds of sleep before each transaction. It prints the best of so many runs.
 """
 
@@ -22,17 +22,14 @@ COUNTS = (1, 2, 4)
 
 def serve(port, milliseconds):
     """A processor that sleeps before each transaction."""
+    import names
     import processor
 
-    at_once = processor.apply
-
-    def late(signer, payload, state):
+    def late(transaction, state):
         time.sleep(milliseconds / 1000)
-        at_once(signer, payload, state)
+        names.apply(transaction, state)
 
-    processor.apply = late
-    sys.argv = ["processor.py", port]
-    processor.main()
+    processor.serve(int(port), names.FAMILY._replace(apply=late))
 
 
 def free_port():

@@ -1,56 +1,110 @@
-"""A processor of the family `names` 1.0, to try and to begin one of your own with. It needs Python alone.
+"""Serves transaction families of one's own to a validator that listens. It needs Python alone.
 
-Usage: python3 -B demo/processor.py PORT
+A family is one function, and `main` makes a program of it; demo/names.py is an example:
 
-PORT is that of `sawval apply --listen PORT --remotes N`, which waits for N such processors. This one tries to connect for
-ten seconds, serves transactions until the validator ends the link, and then says how many there were.
+    import processor
 
-A payload is one of the texts `claim NAME`, `give NAME KEY` and `drop NAME`. A name belongs to the key that signed its
-claim, which alone may give it to another key, or drop it. The messages are those of proto/link.proto.
+    def apply(transaction, state):
+        if state.get(ADDRESS):
+            raise processor.Invalid
+        state.set(ADDRESS, transaction.payload)
+
+    if __name__ == "__main__":
+        processor.main(processor.Family("mine", "1.0", [NAMESPACE], apply))
+
+What the function does must depend on the transaction and on the answers of the state alone: every member of a consortium
+runs it, more than once if need be, and all have to come to the same state.
+
+It refuses a transaction by `Invalid`. Any other exception is a fault of the processor, about which members could differ, so
+the transaction is not told as invalid: the validator gets INTERNAL_ERROR, and ends its run with `fault 6 peer` where no
+other processor answers; this one ends with `HandlerFailed`. The messages are those of proto/link.proto.
 """
 
-import hashlib
+import os
+import re
 import socket
 import struct
 import sys
 import time
+from typing import Callable, NamedTuple
 
 # The types of messages. An answer has the next number.
 REGISTER, PROCESS, GET, SET, DELETE, EVENT = 1, 5, 7, 9, 11, 15
-OK, INVALID = 1, 2
+OK, INVALID, INTERNAL_ERROR = 1, 2, 3
 
-# How long a frame may be, by the version of the link.
+# How long a message may be, by the version of the link.
 LIMITS = {1: 1_048_576, 2: 8_388_608}
+
+
+class Invalid(Exception):
+    """The transaction is refused, and with it its whole batch. The validator is not told why."""
+
+
+class AuthorizationError(Invalid):
+    """The validator refuses a request: the transaction does not declare the address, or is no longer needed."""
+
+
+class TooLong(Exception):
+    """A message is longer than the version of the link allows. Nothing of it was sent."""
+
+
+class HandlerFailed(Exception):
+    """The function of a family raised something other than `Invalid`, which is the cause of this exception."""
+
+
+class LinkError(ConnectionError):
+    """The link cannot go on."""
+
+
+class NobodyListens(LinkError):
+    """The port takes no connection."""
+
+
+class Ended(LinkError):
+    """The validator ended the link where an answer was due."""
+
+
+class CutShort(LinkError):
+    """The link ended within a message, or a message within one of its fields."""
+
+
+class NotTheAnswer(LinkError):
+    """What came is not the answer to the request."""
 
 
 # Messages (Protocol Buffers, "Encoding").
 
 
-def varint(number):
+def varint(value):
+    """The bytes of a number."""
     made = bytearray()
-    while number > 127:
-        made.append(number % 128 + 128)
-        number //= 128
-    return bytes(made) + bytes([number])
+    while value > 127:
+        made.append(value % 128 + 128)
+        value //= 128
+    return bytes(made) + bytes([value])
 
 
 def number(field, value):
+    """A field with a number."""
     return varint(field << 3) + varint(value)
 
 
 def record(field, value):
+    """A field with bytes, or with a text."""
     value = value if isinstance(value, bytes) else value.encode()
     return varint(field << 3 | 2) + varint(len(value)) + value
 
 
 def read_varint(data, at):
+    """The number that begins there, and where it ends."""
     value = shift = 0
-    while True:
+    while at < len(data):
         byte = data[at]
         value |= (byte & 127) << shift
         at, shift = at + 1, shift + 7
         if byte < 128:
             return value, at
+    raise CutShort("a message ended within a number")
 
 
 def fields(data):
@@ -64,35 +118,68 @@ def fields(data):
             size, at = (8, at) if key & 7 == 1 else (4, at) if key & 7 == 5 else read_varint(data, at)
             value, at = data[at : at + size], at + size
         found.setdefault(key >> 3, []).append(value)
+    if at > len(data):
+        raise CutShort("a message ended within a field")
     return found
 
 
 def last(found, field, default=b""):
+    """The last value of a field, which is the one that counts."""
     return found.get(field, [default])[-1]
+
+
+def texts(found, field):
+    """All values of a field, as texts."""
+    return [value.decode() for value in found.get(field, [])]
+
+
+def text(found, field):
+    """The last value of a field, as a text."""
+    return last(found, field).decode()
 
 
 # The link.
 
 
+def connect(port, seconds=10):
+    """A connection to a port of this machine, tried again for so many seconds."""
+    until = time.monotonic() + seconds
+    while True:
+        try:
+            connection = socket.create_connection(("127.0.0.1", port))
+            connection.setsockopt(socket.IPPROTO_TCP, socket.TCP_NODELAY, 1)
+            return connection
+        except ConnectionRefusedError as error:
+            if time.monotonic() > until:
+                raise NobodyListens(f"nobody listens on port {port}") from error
+            time.sleep(0.05)
+
+
 class Link:
-    """Frames to and from the validator."""
+    """Messages to and from the validator, over a connection. Its version is 1 until a registration is answered."""
 
     def __init__(self, connection):
         self.connection, self.version, self.asked = connection, 1, 0
 
     def send(self, kind, correlation, content):
+        """Sends a message of this type, correlation id and content."""
         message = number(1, kind) + record(2, correlation) + record(3, content)
-        if len(message) > LIMITS[self.version]:
-            raise ConnectionError(f"a message of {len(message)} bytes is too long")
-        self.connection.sendall(struct.pack(">I", len(message)) + message)
+        limit = LIMITS[self.version]
+        if len(message) > limit:
+            raise TooLong(f"a message of {len(message)} bytes, and version {self.version} of the link allows {limit}")
+        try:
+            self.connection.sendall(struct.pack(">I", len(message)) + message)
+        except OSError as error:
+            raise LinkError(f"the link broke: {error.strerror}") from error
 
     def read(self, size):
+        """So many bytes, or fewer where the link ends."""
         data = b""
-        while len(data) < size:
-            more = self.connection.recv(size - len(data))
-            if not more:
-                break
-            data += more
+        try:
+            while len(data) < size and (more := self.connection.recv(size - len(data))):
+                data += more
+        except OSError as error:
+            raise LinkError(f"the link broke: {error.strerror}") from error
         return data
 
     def receive(self):
@@ -101,11 +188,13 @@ class Link:
         if not head:
             return None
         size = struct.unpack(">I", head)[0] if len(head) == 4 else 0
+        if size > LIMITS[2]:
+            raise LinkError(f"a message of {size} bytes is announced, and no version of the link allows it")
         content = self.read(size)
         if len(head) < 4 or len(content) < size:
-            raise ConnectionError("the link ended within a message")
+            raise CutShort("the link ended within a message")
         found = fields(content)
-        return last(found, 1, 0), last(found, 2).decode(), last(found, 3)
+        return last(found, 1, 0), last(found, 2).decode(errors="replace"), last(found, 3)
 
     def ask(self, kind, content):
         """Sends a request, and gives the fields of its answer."""
@@ -113,135 +202,148 @@ class Link:
         self.send(kind, str(self.asked), content)
         answer = self.receive()
         if answer is None:
-            raise EOFError
+            raise Ended("the validator ended the link")
         if answer[:2] != (kind + 1, str(self.asked)):
-            raise ConnectionError("not the answer to the request")
+            raise NotTheAnswer(f"not the answer to request {self.asked}: type {answer[0]}, correlation id {answer[1]!r}")
         return fields(answer[2])
 
 
-class Invalid(Exception):
-    """The transaction is refused, and with it its whole batch."""
+# What a family is, and what its function is given.
+
+
+class Transaction(NamedTuple):
+    """What a transaction states. Keys and the id are hex digits, inputs and outputs prefixes of addresses."""
+
+    id: str
+    family: str
+    version: str
+    signer: str
+    batcher: str
+    inputs: list
+    outputs: list
+    dependencies: list
+    nonce: str
+    payload: bytes
 
 
 class State:
-    """The state, as far as the inputs and outputs of the transaction allow."""
+    """The state, as far as the inputs and outputs of the transaction allow. Else a call raises `AuthorizationError`."""
 
     def __init__(self, link, context):
         self.link, self.context = link, record(1, context)
 
     def ask(self, kind, content):
+        """The fields of the answer to a request for this transaction."""
         answer = self.link.ask(kind, self.context + content)
         if last(answer, 2, 0) != OK:
-            raise Invalid
+            raise AuthorizationError
         return answer
 
     def get(self, address):
-        """What is kept at an address; no bytes where there is no entry."""
-        entry = fields(self.ask(GET, record(2, address))[1][0])
+        """The data at an address; no bytes where there is no entry."""
+        entry = fields(last(self.ask(GET, record(2, address)), 1))
         return last(entry, 2)
 
     def set(self, address, data):
+        """Puts data at an address."""
         self.ask(SET, record(2, record(1, address) + record(2, data)))
 
     def delete(self, address):
+        """Takes the entry at an address away."""
         self.ask(DELETE, record(2, address))
 
-    def tell(self, kind, **attributes):
-        """Adds an event to the receipt of the transaction."""
-        pairs = [record(2, record(1, key) + record(2, value)) for key, value in attributes.items()]
-        self.ask(EVENT, record(2, record(1, kind) + b"".join(pairs)))
+    def event(self, kind, attributes=(), data=b""):
+        """Adds an event to the receipt of the transaction: its type, pairs of texts, and data."""
+        pairs = [record(2, record(1, key) + record(2, value)) for key, value in attributes]
+        self.ask(EVENT, record(2, record(1, kind) + b"".join(pairs) + record(3, data)))
 
 
-# The family. What a transaction does must depend on its header, its payload and the state's answers alone: every member
-# of a consortium runs it, more than once if need be, and all have to come to the same state.
+class Family(NamedTuple):
+    """A family: its name and version, the prefixes of its addresses, and its function of a transaction and the state."""
 
-FAMILY, VERSION = "names", "1.0"
-NAMESPACE = hashlib.sha512(FAMILY.encode()).hexdigest()[:6]
-
-
-def address_of(name):
-    return NAMESPACE + hashlib.sha512(name.encode()).hexdigest()[:64]
-
-
-def apply(signer, payload, state):
-    words = payload.decode(errors="replace").split(" ")
-    verb, name = (words + ["", ""])[:2]
-    address = address_of(name)
-    owner = state.get(address).decode()
-    if (verb, len(words)) == ("claim", 2) and name and not owner:
-        state.set(address, signer.encode())
-    elif (verb, len(words)) == ("give", 3) and owner == signer and words[2]:
-        state.set(address, words[2].encode())
-    elif (verb, len(words)) == ("drop", 2) and owner == signer:
-        state.delete(address)
-    else:
-        raise Invalid
-    state.tell(f"names/{verb}", name=name)
+    name: str
+    version: str
+    namespaces: list
+    apply: Callable[[Transaction, State], None]
 
 
 # The conversation.
 
 
-def register(link):
-    """Offers the family, and learns the version of the link."""
-    offer = record(1, FAMILY) + record(2, VERSION) + record(4, NAMESPACE) + number(6, 2)
-    answer = link.ask(REGISTER, offer)
-    if last(answer, 1, 0) != OK:
-        raise ConnectionError("the validator refused the family")
-    link.version = 2 if last(answer, 2, 0) == 2 else 1
+def register(link, families):
+    """Offers the families on version 2 of the link, and learns whether the validator has it."""
+    for place, family in enumerate(families, 1):
+        offer = record(1, family.name) + record(2, family.version)
+        offer += b"".join(record(4, prefix) for prefix in family.namespaces)
+        offer += number(6, 2) + number(9, place < len(families))
+        answer = link.ask(REGISTER, offer)
+        if last(answer, 1, 0) != OK:
+            raise LinkError(f"the validator refused the family {family.name} {family.version}")
+        link.version = 2 if last(answer, 2, 0) == 2 else 1
 
 
-def process(link, content):
-    """The status of a transaction."""
-    request = fields(content)
+def transaction_of(link, request):
+    """The transaction of a request. The number of the header's field is the version's."""
     header = fields(last(request, 5 if link.version == 2 else 1))
-    if (last(header, 3), last(header, 4)) != (FAMILY.encode(), VERSION.encode()):
-        return INVALID
+    return Transaction(
+        id=text(request, 3),
+        family=text(header, 3),
+        version=text(header, 4),
+        signer=text(header, 10),
+        batcher=text(header, 1),
+        inputs=texts(header, 5),
+        outputs=texts(header, 7),
+        dependencies=texts(header, 2),
+        nonce=text(header, 6),
+        payload=last(request, 2),
+    )
+
+
+def process(link, families, correlation, content):
+    """Answers a transaction."""
+    request = fields(content)
+    transaction = transaction_of(link, request)
+    offered = [each for each in families if each[:2] == (transaction.family, transaction.version)]
+    if not offered:
+        raise LinkError(f"a transaction of {transaction.family} {transaction.version} came, which is not offered")
+    status, cause = OK, None
     try:
-        apply(last(header, 10).decode(), last(request, 2), State(link, last(request, 4)))
+        offered[0].apply(transaction, State(link, last(request, 4)))
     except Invalid:
-        return INVALID
-    return OK
+        status = INVALID
+    except LinkError:
+        raise
+    except Exception as error:
+        status, cause = INTERNAL_ERROR, error
+    link.send(PROCESS + 1, correlation, number(1, status))
+    if cause:
+        raise HandlerFailed(f"transaction {transaction.id} of {transaction.family}: {cause!r}") from cause
 
 
-def serve(link):
-    """Answers transactions until the validator ends the link. Gives their number."""
-    count = 0
-    while message := link.receive():
-        kind, correlation, content = message
-        if kind != PROCESS:
-            raise ConnectionError(f"a message of type {kind} where a transaction is due")
-        link.send(PROCESS + 1, correlation, number(1, process(link, content)))
-        count += 1
-    return count
+def serve(port, *families):
+    """Serves the families to the validator on a port of this machine, until it ends the link. Gives how many transactions
+    were answered."""
+    with connect(port) as connection:
+        link, count = Link(connection), 0
+        register(link, families)
+        while message := link.receive():
+            kind, correlation, content = message
+            if kind != PROCESS:
+                raise LinkError(f"a message of type {kind} came where a transaction is due")
+            process(link, families, correlation, content)
+            count += 1
+        return count
 
 
-def connect(port, seconds=10):
-    until = time.monotonic() + seconds
-    while True:
-        try:
-            connection = socket.create_connection(("127.0.0.1", port))
-            connection.setsockopt(socket.IPPROTO_TCP, socket.TCP_NODELAY, 1)
-            return connection
-        except ConnectionRefusedError:
-            if time.monotonic() > until:
-                raise
-            time.sleep(0.05)
-
-
-def main():
-    if len(sys.argv) != 2 or not sys.argv[1].isdigit():
-        sys.exit("usage: python3 -B demo/processor.py PORT")
+def main(*families):
+    """A program that serves the families on the port that its one argument names, and says how many transactions were
+    answered. Its status is 0 where the validator ended the link, and 1 otherwise."""
+    words = sys.argv[1:]
+    if len(words) != 1 or not re.fullmatch("[0-9]{1,5}", words[0]) or not 0 < int(words[0]) < 65536:
+        sys.exit(f"usage: python3 -B {sys.argv[0]} PORT")
     try:
-        with connect(int(sys.argv[1])) as connection:
-            link = Link(connection)
-            register(link)
-            print(f"{serve(link)} transactions answered")
-    except EOFError:
-        print("the validator ended the link")
+        print(f"{serve(int(words[0]), *families)} transactions answered")
+    except Ended as error:
+        print(error)
     except OSError as error:
-        sys.exit(f"processor.py: {error}")
-
-
-if __name__ == "__main__":
-    main()
+        sys.exit(f"{os.path.basename(sys.argv[0])}: {error}")

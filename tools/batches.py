@@ -10,7 +10,7 @@ has a space or a `;`. The words are:
     xo take GAME SPACE            takes a space, from 1 to 9, of a game
     settings propose KEY VALUE [NONCE]
     settings vote PROPOSAL KEY accept|reject
-    names claim NAME              of the family that demo/processor.py serves: takes a name that nobody has; with `drop` for
+    names claim NAME              of the family that demo/names.py serves: takes a name that nobody has; with `drop` for
                                   `claim` gives it up
     names give NAME KEY           gives a name of the signer's to another key
 
