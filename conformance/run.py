@@ -110,19 +110,20 @@ def named_port(words):
     return int(found[1]) if found else None
 
 
-def connected(port, until):
+def connected(child, port, until):
+    """A connection to the port that the child opens; none once it has ended."""
     while True:
         try:
             return socket.create_connection(("127.0.0.1", port))
         except OSError:
-            if time.monotonic() > until:
+            if child.poll() is not None or time.monotonic() > until:
                 return None
             time.sleep(0.02)
 
 
-def play(port, frames, sent):
+def play(child, port, frames, sent):
     """A processor that sends these frames at once, and keeps what it is sent."""
-    link = connected(port, time.monotonic() + 10)
+    link = connected(child, port, time.monotonic() + 10)
     if link is None:
         return
     with link:
@@ -136,9 +137,9 @@ def play(port, frames, sent):
 
 
 class Said:
-    """Output, notes and status of a run, and what was sent to a processor."""
+    """Output, notes and status of a run, and what was sent to a processor; `how` are further words of Popen."""
 
-    def __init__(self, program, words, stream, files=(), frames=None, seconds=120):
+    def __init__(self, program, words, stream, files=(), frames=None, seconds=120, **how):
         port, sent, listen = named_port(words), [], []
         if frames is not None and port is None:
             port = free_port()
@@ -154,10 +155,11 @@ class Said:
                 stdout=subprocess.PIPE,
                 stderr=subprocess.PIPE,
                 cwd=folder,
+                **how,
             )
             processor = None
             if frames is not None:
-                processor = threading.Thread(target=play, args=(port, frames, sent))
+                processor = threading.Thread(target=play, args=(child, port, frames, sent))
                 processor.start()
             try:
                 self.output, self.notes = child.communicate(stream, seconds)
