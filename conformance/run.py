@@ -219,7 +219,7 @@ def tried(program, case, seconds):
     return []
 
 
-# Words of no form.
+# Invalid arguments.
 
 
 def words_in(line):

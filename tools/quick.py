@@ -1,6 +1,6 @@
 """Runs the cases of saw_cases and the scripts of the three other programs, unproved, and says how many pass.
 
-Usage, from the top of the repository: python3 -B tools/quick.py [--jobs N] [--seconds N]
+Usage, from the top of the repository: python3 -B tools/quick.py [--jobs N] [--seconds N] [--built PROGRAM]
 
 Each program is run by `rt try` over its folder data/: nothing is proved by this, and `rt ci` is the judge. The cases are
 shared among several runs. N programs run side by side (without --jobs as many as there are processors, and at least
@@ -8,6 +8,7 @@ half a gigabyte for each is taken), each for at most so many seconds (without --
 Left out are cases of more than 1,000 transactions, those whose files have more than a megabyte with the zeros that the
 program puts into them, and those with a file of a `=` in its name, which `rt try` cannot be given. The last line has the
 counts; the status is 1 where something differs or a run did not end.
+With --built the cases are run over a built program by conformance/run.py, large ones too, and the scripts as ever.
 """
 
 import argparse
@@ -134,6 +135,7 @@ def arguments():
     parser = argparse.ArgumentParser(usage=__doc__)
     parser.add_argument("--jobs", type=int, default=os.cpu_count())
     parser.add_argument("--seconds", type=int, default=900)
+    parser.add_argument("--built", metavar="PROGRAM")
     return parser.parse_args()
 
 
@@ -146,8 +148,22 @@ def chosen():
     return [case for case in cases if case not in large + nameless], large, nameless
 
 
+def over_built(given):
+    """The cases over a built program, and the scripts; gives the status."""
+    words = [sys.executable, "-B", "conformance/run.py", given.built, "--jobs", str(given.jobs)]
+    status = subprocess.run(words).returncode
+    with ThreadPoolExecutor(given.jobs) as pool:
+        came = list(pool.map(lambda it: run(it, below_data(it, [""]), given.seconds), SCRIPTS))
+    counts = [told(crate, ran) for crate, ran in zip(SCRIPTS, came)]
+    scripts, of = sum(count for count, _ in counts), sum(map(wanted, SCRIPTS))
+    print(f"{scripts} of {of} scripts pass; nothing is proved by this")
+    return 1 if status or scripts != of or not all(fine for _, fine in counts) else 0
+
+
 def main():
     given = arguments()
+    if given.built:
+        return over_built(given)
     cases, large, nameless = chosen()
     runs = runs_of(cases)
     with ThreadPoolExecutor(given.jobs) as pool:
