@@ -53,18 +53,23 @@ impl Waits {
         }
         self.vain.fetch_add(1, Ordering::SeqCst);
     }
-}
 
-impl Base for Waits {
-    ghost entry = { λ _. no_entries };
-
-    fn get(&self, at: &Address) -> Option<&[u8]> {
+    // Counts a read of an address, and waits for the one that it is to come behind.
+    fn count_read(&self, at: &Address) {
         for watched in &self.watched {
             if watched.address == *at {
                 watched.reads.fetch_add(1, Ordering::SeqCst);
                 self.wait_for(watched.after);
             }
         }
+    }
+}
+
+impl Base for Waits {
+    ghost entry = { λ _. no_entries };
+
+    fn get(&self, at: &Address) -> Option<&[u8]> {
+        self.count_read(at);
         None
     }
 }
