@@ -7,7 +7,7 @@ use Rattle.std.proofs.lemmas.List.{length-replicate, length-take, take-append-le
 use Rattle.saw_address.specs.Prefixes.{covers, overlaps}
 
 -- what is covered begins with the prefix
-take-covers : (prefix address : List ℕ) → covers prefix address ≡ true → take (length prefix) address ≡ prefix
+pub take-covers : (prefix address : List ℕ) → covers prefix address ≡ true → take (length prefix) address ≡ prefix
 take-covers prefix address h = sym ((bytes_eq-Decides prefix (take (length prefix) address)).0 h)
 
 covers-take : (prefix address : List ℕ) → take (length prefix) address ≡ prefix → covers prefix address ≡ true

@@ -1,4 +1,5 @@
 pub mod Covering
 pub mod Digits
 pub mod Finite
+pub mod Pairs
 pub mod Parts

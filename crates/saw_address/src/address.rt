@@ -1,11 +1,12 @@
 //! Addresses of the state.
 
-ghost use Rattle.std.specs.Prelude.{◌≡◌, ◌↔◌, ◌++◌, true, length, IsSome, IfSome, IsTrue};
+ghost use Rattle.std.specs.Prelude.{◌≡◌, ◌↔◌, ◌++◌, ◌&&◌, true, length, nat_eq, IsSome, IfSome, IsTrue};
+ghost use Rattle.std.specs.List.{starts_with};
 ghost use Rattle.hex.specs.Hex.{IsBytes, encode_lower};
 ghost use Rattle.saw_address.specs.Maps.{is_address};
-ghost use Rattle.saw_address.specs.Texts.{is_address_text};
+ghost use Rattle.saw_address.specs.Texts.{is_address_text, is_prefix_text};
 
-use crate::text::{is_hex_text, read_digits};
+use crate::text::{begins_with, read_digits, write_digits};
 use std::marker::Model;
 
 /// An address: 35 bytes.
@@ -50,11 +51,13 @@ impl Address {
         ensures valid { IsSome result ↔ IsTrue (is_address_text text.now) }
         ensures value { IfSome result (λ at. encode_lower at ≡ text.now) }
     {
-        if !is_hex_text(70, text) {
+        if text.len() != 70 {
             return None;
         }
         let mut bytes = [0; 35];
-        read_digits(text.as_bytes(), &mut bytes);
+        if !read_digits(text.as_bytes(), &mut bytes) {
+            return None;
+        }
         Some(Address::new(bytes))
     }
 
@@ -73,8 +76,18 @@ impl Address {
         ensures { result ≡ encode_lower self.now }
     {
         let mut text = [0; 70];
-        let _ = hex::encode_to_slice(self.as_slice(), &mut text);
+        write_digits(self.as_slice(), &mut text);
         text
+    }
+
+    /// Whether the text is a prefix and the 70 hex digits begin with it.
+    pub fn begins_with(&self, text: &str) -> bool
+        ensures { result ≡ (is_prefix_text text.now && starts_with nat_eq (encode_lower self.now) text.now) }
+    {
+        if text.len() % 2 != 0 || text.len() > 70 {
+            return false;
+        }
+        begins_with(text.as_bytes(), self.as_slice())
     }
 }
 

@@ -5,13 +5,14 @@ ghost use Rattle.hex.specs.Hex.{encode_lower};
 ghost use Rattle.sha2.specs.Sha256.{sha256};
 ghost use Rattle.sha2.specs.Sha512.{sha512};
 
+use crate::text::write_digits;
 use sha2::{Digest, Sha256, Sha512};
 
 fn hex_of_64(digest: &[u8; 64]) -> [u8; 128]
     ensures { result ≡ encode_lower digest.now }
 {
     let mut text = [0; 128];
-    let _ = hex::encode_to_slice(digest.as_slice(), &mut text);
+    write_digits(digest, &mut text);
     text
 }
 
@@ -19,7 +20,7 @@ fn hex_of_32(digest: &[u8; 32]) -> [u8; 64]
     ensures { result ≡ encode_lower digest.now }
 {
     let mut text = [0; 64];
-    let _ = hex::encode_to_slice(digest.as_slice(), &mut text);
+    write_digits(digest, &mut text);
     text
 }
 

@@ -6,7 +6,7 @@ ghost use Rattle.saw_address.specs.Prefixes.{covers, overlaps};
 ghost use Rattle.saw_address.specs.Texts.{is_prefix_text};
 
 use crate::Address;
-use crate::text::{are_hex_digits, read_digits};
+use crate::text::read_digits;
 use std::marker::Model;
 
 /// A prefix of addresses: at most 35 bytes.
@@ -33,12 +33,14 @@ impl Prefix {
         ensures value { IfSome result (λ prefix. encode_lower prefix ≡ text.now) }
     {
         let digits = text.as_bytes();
-        if digits.len() % 2 != 0 || digits.len() > 70 || !are_hex_digits(digits) {
+        if digits.len() % 2 != 0 || digits.len() > 70 {
             return None;
         }
         let len = digits.len() / 2;
         let mut bytes = [0; 35];
-        read_digits(digits, &mut bytes[..len]);
+        if !read_digits(digits, &mut bytes[..len]) {
+            return None;
+        }
         Some(Prefix { bytes, len })
     }
 

@@ -11,11 +11,7 @@ use saw_wire::Text;
 fn text_covers(text: &Text, address: &Address) -> bool
     ensures { result ≡ text_covers text.now address.now }
 {
-    is_prefix_text(text.as_str())
-        && address
-            .to_hex()
-            .as_slice()
-            .starts_with(text.as_str().as_bytes())
+    address.begins_with(text.as_str())
 }
 
 fn are_covering(texts: &[Text], address: &Address) -> bool

@@ -41,6 +41,20 @@ fn an_address_is_read_and_written(rt: HostRuntime) -> Result<(), Fail> {
 }
 
 #[test]
+fn an_address_begins_with_its_prefixes(rt: HostRuntime) -> Result<(), Fail> {
+    let address = Address::parse(ADDRESS).ok_or("an address")?;
+    for text in ["", "1cf126", ADDRESS] {
+        assert!(rt; address.begins_with(text));
+    }
+    // Half a byte, other digits, upper case, no digits, and one byte too many.
+    let longer = "1cf12602860c652bf08d560252aa5e74210546f369fbbbce8c12cfc7957b2652fe9a7500";
+    for text in ["1cf12", "1cf127", "1CF126", "1cf1/6", longer] {
+        assert!(rt; !address.begins_with(text));
+    }
+    Ok(())
+}
+
+#[test]
 fn an_item_is_read_and_written(rt: HostRuntime) -> Result<(), Fail> {
     let alloc = rt.alloc();
     // {"c": {}, "v": null}

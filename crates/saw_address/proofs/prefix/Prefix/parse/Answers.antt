@@ -8,8 +8,8 @@ slice_bounds-bytes-end c = search rules
 pub slice_bounds-read_digits-end : goal.slice_bounds-read_digits-end
 slice_bounds-read_digits-end c = search rules
 
-pub read_digits-requires-clause-room : goal.read_digits-requires-clause-room
-read_digits-requires-clause-room c = search rules
+pub read_digits-requires : goal.read_digits-requires
+read_digits-requires c = search rules
 
 pub invariant_of-result : goal.invariant_of-result
 invariant_of-result c = grind (arith, common_steps)
