@@ -48,8 +48,8 @@ ConversationIsNotEarly = (next : List Turn → Action) (header : TransactionHead
 
 -- a true result whose recorded reads are what a map gives has the outcome over that map, where the processor is told
 abbrev pub SoundIsOutcome : Type 0
-SoundIsOutcome = (processors : Processors) (tx : TxShape) (turns : List Turn) (reads : List Read) (outcome : Outcome) (m : StateMap) (failed : Bool)
-    → IsSound processors tx turns reads outcome
+SoundIsOutcome = (processors : Processors) (tx : TxShape) (reads : List Read) (outcome : Outcome) (m : StateMap) (failed : Bool)
+    → IsSound processors tx reads outcome
     → processors.tells tx.header.family_name tx.header.family_version ≡ true
     → fits_dependency failed outcome ≡ true
     → AllByRecursion (IsOf m) reads
@@ -76,10 +76,10 @@ MayComeIsTold = (processors : Processors) (tx : TxShape) (m : StateMap) (failed 
 -- a true result whose recorded reads are what a map gives may come over that map, where the processors
 -- refuse the transaction by their own reasons
 abbrev pub SoundMayCome : Type 0
-SoundMayCome = (processors : Processors) (tx : TxShape) (turns : List Turn) (reads : List Read)
+SoundMayCome = (processors : Processors) (tx : TxShape) (reads : List Read)
     (outcome : Outcome) (m : StateMap) (failed : Bool)
     → ((said : List Turn) → has_own_reason (processors.next tx said) ≡ true)
-    → IsSound processors tx turns reads outcome
+    → IsSound processors tx reads outcome
     → fits_dependency failed outcome ≡ true
     → AllByRecursion (IsOf m) reads
     → MayCome processors tx m failed outcome

@@ -52,28 +52,26 @@ pub record AnswersFor (processors : Processors) (tx : TxShape) (next : List Turn
 
 -- a result of a conversation: the whole conversation with some processor, with the recorded reads in place of the
 -- map. There is one read for each place that was answered, and those of one address agree.
-pub record IsConversed (processors : Processors) (tx : TxShape) (turns : List Turn) (reads : List Read) (outcome : Outcome) : Type 0 where
+pub record IsConversed (processors : Processors) (tx : TxShape) (reads : List Read) (outcome : Outcome) : Type 0 where
   pub next : List Turn → Action
   pub answers : AnswersFor processors tx next
   pub decided : outcome ≡ conversed next tx.header (recorded reads)
-  pub whole : turns ≡ (conversation next tx.header (recorded reads)).turns
   pub asked : map as_asked reads ≡ (conversation next tx.header (recorded reads)).asked
   pub alike : AllByRecursion (IsOf (recorded reads)) reads
 
 -- a result without a conversation
-pub record IsRefused (turns : List Turn) (reads : List Read) (outcome : Outcome) (reason : Reason) : Type 0 where
-  pub no_turns : turns ≡ []
+pub record IsRefused (reads : List Read) (outcome : Outcome) (reason : Reason) : Type 0 where
   pub no_reads : reads ≡ []
   pub refused : outcome ≡ outcomes.Invalid reason
 
 -- The reasons before any conversation stand exactly where they hold. That a dependency failed may stand in place of
 -- the conversation.
-abbrev pub IsSoundBy : Processors → TxShape → List Turn → List Read → Outcome → Option Reason → Type 0
-IsSoundBy processors tx turns reads outcome (Some reason) = IsRefused turns reads outcome reason
-IsSoundBy processors tx turns reads outcome None = IsRefused turns reads outcome DependencyFailed ⊎ IsConversed processors tx turns reads outcome
+abbrev pub IsSoundBy : Processors → TxShape → List Read → Outcome → Option Reason → Type 0
+IsSoundBy processors tx reads outcome (Some reason) = IsRefused reads outcome reason
+IsSoundBy processors tx reads outcome None = IsRefused reads outcome DependencyFailed ⊎ IsConversed processors tx reads outcome
 
-abbrev pub IsSound : Processors → TxShape → List Turn → List Read → Outcome → Type 0
-IsSound processors tx turns reads outcome = IsSoundBy processors tx turns reads outcome (refusal processors tx)
+abbrev pub IsSound : Processors → TxShape → List Read → Outcome → Type 0
+IsSound processors tx reads outcome = IsSoundBy processors tx reads outcome (refusal processors tx)
 
 -- ---- agreement
 
@@ -116,7 +114,7 @@ fits_dependency failed outcome = if failed then is_early outcome else not (is_of
 -- ---- the same of a result and its job
 
 abbrev pub IsSoundDone : Processors → Done → Type 0
-IsSoundDone processors done = IsSound processors (arc_value done.tx) done.talk.turns done.reads done.outcome
+IsSoundDone processors done = IsSound processors (arc_value done.tx) done.reads done.outcome
 
 -- the result is of this job: its transaction, what it says of dependencies, and what its view gives
 pub record Agrees (job : Job) (done : Done) : Type 0 where

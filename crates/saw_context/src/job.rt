@@ -6,7 +6,7 @@ ghost use Rattle.saw_context.specs.Coverage.{are_changes_covered};
 
 use crate::reads::Read;
 use crate::view::View;
-use saw_messages::{Outcome, Transcript, Tx};
+use saw_messages::{Outcome, Tx};
 use saw_wire::Items;
 use std::sync::Arc;
 
@@ -43,8 +43,6 @@ impl Drop for Job {
 pub struct Done {
     pub ticket: Ticket,
     pub tx: Arc<Tx>,
-    /// The requests with their replies.
-    pub talk: Transcript,
     pub reads: Items<Read>,
     pub outcome: Outcome,
     ghost covered: { are_changes_covered (arc_value tx).header.outputs outcome ≡ true },
@@ -56,7 +54,6 @@ impl Drop for Done {
         let Done {
             ticket: _,
             tx: _tx,
-            talk: _talk,
             reads: _reads,
             outcome: _outcome,
         } = self;
@@ -71,7 +68,6 @@ impl Done {
         let Done {
             ticket: _,
             tx: _tx,
-            talk: _talk,
             reads: _reads,
             outcome,
         } = self;

@@ -83,20 +83,20 @@ none-inside : (tx : TxShape) (reads : List Read) → reads ≡ [] → AllByRecur
 none-inside tx reads e = rw e tt
 
 -- reads of a true result, by whether a reason comes before any conversation
-inside-by : (processors : Processors) (tx : TxShape) (turns : List Turn) (reads : List Read) (outcome : Outcome) (reason : Option Reason)
-    → IsSoundBy processors tx turns reads outcome reason → AllByRecursion (IsInside tx) reads
-inside-by processors tx turns reads outcome (Some reason) sound = none-inside tx reads sound.no_reads
-inside-by processors tx turns reads outcome None (inl refused) = none-inside tx reads refused.no_reads
-inside-by processors tx turns reads outcome None (inr is) =
+inside-by : (processors : Processors) (tx : TxShape) (reads : List Read) (outcome : Outcome) (reason : Option Reason)
+    → IsSoundBy processors tx reads outcome reason → AllByRecursion (IsInside tx) reads
+inside-by processors tx reads outcome (Some reason) sound = none-inside tx reads sound.no_reads
+inside-by processors tx reads outcome None (inl refused) = none-inside tx reads refused.no_reads
+inside-by processors tx reads outcome None (inr is) =
     all_weaker (λ read. IsCovered tx.header.inputs (as_asked read)) (IsInside tx)
     (λ read covered. (granted_parts tx.header.inputs read.address covered).1) reads
     (all-unmap as_asked (IsCovered tx.header.inputs) reads
     (subst (AllByRecursion (IsCovered tx.header.inputs)) (sym is.asked) (asked_covered is.next tx.header (recorded reads) max_requests no_talk tt)))
 
 -- a true result has read what the inputs cover
-sound-inside : (processors : Processors) (tx : TxShape) (turns : List Turn) (reads : List Read) (outcome : Outcome)
-    → IsSound processors tx turns reads outcome → AllByRecursion (IsInside tx) reads
-sound-inside processors tx turns reads outcome sound = inside-by processors tx turns reads outcome (refusal processors tx) sound
+sound-inside : (processors : Processors) (tx : TxShape) (reads : List Read) (outcome : Outcome)
+    → IsSound processors tx reads outcome → AllByRecursion (IsInside tx) reads
+sound-inside processors tx reads outcome sound = inside-by processors tx reads outcome (refusal processors tx) sound
 
 -- a read that a view gives, and of the base what the base has, is what the base gives with the view on top
 seen-is : (below : Option (List ℕ)) (entry : Option ViewEntry) (from : Origin) (body : List ℕ) → is_seen_as entry from body ≡ true
@@ -136,14 +136,14 @@ reads-are tx m n view (read ∷ reads) has inside seen based = (
 module _ (processors : Processors) (m : StateMap) (own : (tx : TxShape) (turns : List Turn) → has_own_reason (processors.next tx turns) ≡ true) where
   -- a true result that agrees with a task may come over what the task shows
   agreed-comes : (tx : TxShape) (task : Task) (done : Done) → AgreesWith tx task done
-      → IsSound processors (arc_value done.tx) done.talk.turns done.reads done.outcome → AllByRecursion (IsOfBase m) done.reads
+      → IsSound processors (arc_value done.tx) done.reads done.outcome → AllByRecursion (IsOfBase m) done.reads
       → MayComeAt processors (Some tx) (over (value_at m) task.view) task.failed done.outcome
   agreed-comes tx task done agrees sound based =
-      let is : IsSound processors tx done.talk.turns done.reads done.outcome
-      = subst (λ (tx : TxShape). IsSound processors tx done.talk.turns done.reads done.outcome) agrees.same sound in
+      let is : IsSound processors tx done.reads done.outcome
+      = subst (λ (tx : TxShape). IsSound processors tx done.reads done.outcome) agrees.same sound in
       λ n has.
-      sound_comes processors tx done.talk.turns done.reads done.outcome n task.failed (own tx) is agrees.fits
-      (reads-are tx m n task.view done.reads has (sound-inside processors tx done.talk.turns done.reads done.outcome is)
+      sound_comes processors tx done.reads done.outcome n task.failed (own tx) is agrees.fits
+      (reads-are tx m n task.view done.reads has (sound-inside processors tx done.reads done.outcome is)
       (all-seen task.view done.reads agrees.seen) based)
 
   module _ (txs : List TxShape) where

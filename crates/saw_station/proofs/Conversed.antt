@@ -96,12 +96,11 @@ module _ (processors : Processors) (tx : TxShape) (base : StateMap) (layers : La
         sym (followed_alike next tx.header (over base layers) (recorded reads) max_requests no_talk alike) ∙ whole
 
     -- with a function that answers for the transaction
-    conversed_with : AnswersFor processors tx next → IsConversed processors tx turns reads (outcome_at last changes events)
+    conversed_with : AnswersFor processors tx next → IsConversed processors tx reads (outcome_at last changes events)
     conversed_with answers = record {
       next = next;
       answers = answers;
       decided = sym (conversed-by next tx.header (recorded reads) talk last changes over_recorded is spoken.made);
-      whole = ap (λ (t : Talk). t.turns) (sym over_recorded);
       asked = ap (λ (t : Talk). t.asked) (sym over_recorded);
       alike = recorded_of (over base layers) reads spoken.of_map;
     }
@@ -112,7 +111,7 @@ module _ (processors : Processors) (tx : TxShape) (base : StateMap) (layers : La
   -- with the processors' own function where it is told, else with one that says again what was said
   pub conversed_by_spoken : processors.tells tx.header.family_name tx.header.family_version ≡ tells
       → ((said : List Turn) → its said ≡ processors.next tx said) → ((said : List Turn) → has_own_reason (its said) ≡ true)
-      → (told : Bool) → tells ≡ told → IsConversed processors tx turns reads (outcome_at last changes events)
+      → (told : Bool) → tells ≡ told → IsConversed processors tx reads (outcome_at last changes events)
   conversed_by_spoken same alike own true is =
       let told = spoken.told is in
       conversed_with its told.0 told.1 (record { reasons = own; told = λ _. alike })

@@ -89,7 +89,7 @@ module _ (next : TxShape → List Turn → Action) (own : (tx : TxShape) (turns 
         (events : List Event) (reads : List Read)
         → Some by ≡ serving offers tx.header.family_name tx.header.family_version
         → IsSpoken (tells_by tells (Some by)) (λ turns. next_by next tx turns (Some by)) tx.header base layers turns last changes events reads
-        → IsConversed (processors_at next tells offers) tx turns reads (outcome_at last changes events)
+        → IsConversed (processors_at next tells offers) tx reads (outcome_at last changes events)
     spoken_conversed tx by layers turns last changes events reads serves spoken =
         conversed_by_spoken (processors_at next tells offers) tx base layers (tells_by tells (Some by))
         (λ turns. next_by next tx turns (Some by)) turns last changes events reads spoken
@@ -108,13 +108,13 @@ module _ (next : TxShape → List Turn → Action) (own : (tx : TxShape) (turns 
         let outcome : Outcome = outcome_at spoken.last spoken.done.changes spoken.done.events in
         let conversed = spoken_conversed tx by (layers_of (arc_value job.view)) spoken.talk.turns spoken.last spoken.done.changes spoken.done.events
         spoken.done.reads serves is in
-        let sound : IsSound processors tx spoken.talk.turns spoken.done.reads outcome =
-        subst (IsSoundBy processors tx spoken.talk.turns spoken.done.reads outcome)
+        let sound : IsSound processors tx spoken.done.reads outcome =
+        subst (IsSoundBy processors tx spoken.done.reads outcome)
         (sym (refusal_none processors tx declared (ap is_some (sym serves)))) (inr conversed) in
         record {
           ticket = talk.ticket;
-          sound = subst (λ (shape : TxShape). IsSound processors shape done.talk.turns done.reads done.outcome) (sym talk.tx)
-              (rw (talk.turns, talk.reads, talk.outcome) sound);
+          sound = subst (λ (shape : TxShape). IsSound processors shape done.reads done.outcome) (sym talk.tx)
+              (rw (talk.reads, talk.outcome) sound);
           agrees = record {
             tx = talk.tx;
             dependency = rw (none_failed, talk.outcome) (outcome_not_failed spoken.last spoken.done.changes spoken.done.events is.last_reason);
@@ -149,12 +149,12 @@ module _ (next : TxShape → List Turn → Action) (own : (tx : TxShape) (turns 
 
     refused_job : (job : Job) (reason : Reason) (done : Done) → IsRefusal job reason done
         → fits_dependency job.dependency_failed (outcomes.Invalid reason) ≡ true
-        → IsSound (processors_at next tells offers) (arc_value job.tx) [] [] (outcomes.Invalid reason)
+        → IsSound (processors_at next tells offers) (arc_value job.tx) [] (outcomes.Invalid reason)
         → IsResult (processors_at next tells offers) base job done
     refused_job job reason done refused fits sound = record {
       ticket = refused.ticket;
-      sound = subst (λ (shape : TxShape). IsSound (processors_at next tells offers) shape done.talk.turns done.reads done.outcome) (sym refused.tx)
-          (rw (refused.turns, refused.reads, refused.outcome) sound);
+      sound = subst (λ (shape : TxShape). IsSound (processors_at next tells offers) shape done.reads done.outcome) (sym refused.tx)
+          (rw (refused.reads, refused.outcome) sound);
       agrees = record { tx = refused.tx; dependency = rw refused.outcome fits; seen = rw refused.reads tt };
       of_base = rw refused.reads tt;
     }
@@ -167,14 +167,14 @@ module _ (next : TxShape → List Turn → Action) (own : (tx : TxShape) (turns 
         let tx : TxShape = arc_value job.tx in
         let processors : Processors = processors_at next tells offers in
         refused_job job NoProcessor done (subst (λ (r : Reason). IsRefusal job r done) why refused) (no_processor_fits job.dependency_failed)
-        (subst (IsSoundBy processors tx [] [] (outcomes.Invalid NoProcessor)) (sym (refusal_unserved processors tx declared (ap is_some serves)))
-        (record { no_turns = refl; no_reads = refl; refused = refl }))
+        (subst (IsSoundBy processors tx [] (outcomes.Invalid NoProcessor)) (sym (refusal_unserved processors tx declared (ap is_some serves)))
+        (record { no_reads = refl; refused = refl }))
     refused_result job reason done (Some by) declared serves why refused =
         let tx : TxShape = arc_value job.tx in
         let processors : Processors = processors_at next tells offers in
         refused_job job DependencyFailed done (subst (λ (r : Reason). IsRefusal job r done) why.0 refused) (rw why.1 refl)
-        (subst (IsSoundBy processors tx [] [] (outcomes.Invalid DependencyFailed)) (sym (refusal_none processors tx declared (ap is_some serves)))
-        (inl (record { no_turns = refl; no_reads = refl; refused = refl })))
+        (subst (IsSoundBy processors tx [] (outcomes.Invalid DependencyFailed)) (sym (refusal_none processors tx declared (ap is_some serves)))
+        (inl (record { no_reads = refl; refused = refl })))
 
 -- ---- the outcome
 
@@ -183,9 +183,9 @@ outcome_comes : (processors : Processors) (base : StateMap) (job : Job) (done : 
     → ((turns : List Turn) → has_own_reason (processors.next (arc_value job.tx) turns) ≡ true) → IsResult processors base job done
     → MayCome processors (arc_value job.tx) (over base (layers_of (arc_value job.view))) job.dependency_failed done.outcome
 outcome_comes processors base job done own is =
-    sound_comes processors (arc_value job.tx) done.talk.turns done.reads done.outcome
+    sound_comes processors (arc_value job.tx) done.reads done.outcome
     (over base (layers_of (arc_value job.view))) job.dependency_failed own
-    (subst (λ tx. IsSound processors tx done.talk.turns done.reads done.outcome) is.agrees.tx is.sound) is.agrees.dependency
+    (subst (λ tx. IsSound processors tx done.reads done.outcome) is.agrees.tx is.sound) is.agrees.dependency
     (seen_are_over base (layers_of (arc_value job.view)) done.reads is.agrees.seen is.of_base)
 
 -- the same, of a base that is the context's

@@ -22,7 +22,6 @@ IsUnserved (Some by) failed reason = (reason ≡ DependencyFailed) × (failed �
 pub record IsRefusal (job : Job) (reason : Reason) (done : Done) : Type 0 where
   pub ticket : done.ticket ≡ job.ticket
   pub tx : arc_value done.tx ≡ arc_value job.tx
-  pub turns : done.talk.turns ≡ []
   pub reads : done.reads ≡ []
   pub outcome : done.outcome ≡ outcomes.Invalid reason
 
@@ -30,7 +29,6 @@ pub record IsRefusal (job : Job) (reason : Reason) (done : Done) : Type 0 where
 pub record IsTalk (job : Job) (spoken : Spoken) (done : Done) : Type 0 where
   pub ticket : done.ticket ≡ job.ticket
   pub tx : arc_value done.tx ≡ arc_value job.tx
-  pub turns : done.talk.turns ≡ spoken.talk.turns
   pub reads : done.reads ≡ spoken.done.reads
   pub outcome : done.outcome ≡ outcome_at spoken.last spoken.done.changes spoken.done.events
 

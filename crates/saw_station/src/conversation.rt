@@ -39,12 +39,16 @@ impl Drop for Spoken {
 }
 
 impl Spoken {
-    /// Its parts.
-    pub(crate) fn parts(self) -> (Transcript, Action, Changes)
-        ensures { result ≡ (self.talk, self.last, self.done) }
+    /// What was done, and the action behind it.
+    pub(crate) fn parts(self) -> (Action, Changes)
+        ensures { result ≡ (self.last, self.done) }
     {
-        let Spoken { talk, last, done } = self;
-        (talk, last, done)
+        let Spoken {
+            talk: _talk,
+            last,
+            done,
+        } = self;
+        (last, done)
     }
 }
 

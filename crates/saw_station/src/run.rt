@@ -23,7 +23,7 @@ use crate::serving::{Served, serving};
 use crate::station::Station;
 use saw_address::Base;
 use saw_context::{Changes, Context, ContextFault, Done, Job};
-use saw_messages::{Action, Change, Event, Outcome, Reason, Transcript, Tx};
+use saw_messages::{Action, Change, Event, Outcome, Reason, Tx};
 use saw_wire::Items;
 use std::alloc::{AllocError, Global};
 
@@ -177,9 +177,6 @@ fn refused(alloc: Global, job: &Job, reason: Reason) -> Result<Done, AllocError>
     Ok(Done {
         ticket: job.ticket,
         tx: job.tx.clone()?,
-        talk: Transcript {
-            turns: Items::new(alloc),
-        },
         reads: Items::new(alloc),
         outcome: Outcome::Invalid { reason },
     })
@@ -190,7 +187,7 @@ fn done_of(job: &Job, spoken: Spoken) -> Result<Done, AllocError>
         (outcome_at spoken.last spoken.done.changes spoken.done.events) ≡ true }
     ensures { IfOk result (IsTalk job.now spoken) }
 {
-    let (talk, last, done) = spoken.parts();
+    let (last, done) = spoken.parts();
     let Changes {
         changes,
         events,
@@ -200,7 +197,6 @@ fn done_of(job: &Job, spoken: Spoken) -> Result<Done, AllocError>
     Ok(Done {
         ticket,
         tx: job.tx.clone()?,
-        talk,
         reads,
         outcome: outcome_at(last, changes, events),
     })
