@@ -9,6 +9,7 @@ mod fault;
 mod ids;
 mod judged;
 mod laws;
+mod policy;
 mod sharing;
 mod transactions;
 
@@ -18,4 +19,5 @@ pub use checked::CheckedBlock;
 pub use fault::{BatchFault, StructureFault};
 pub use judged::Judged;
 pub use laws::{faultless_batch_is_good, faultless_block_is_good};
+pub use policy::PolicyFault;
 pub use sharing::check_batches;

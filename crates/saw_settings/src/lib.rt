@@ -31,4 +31,5 @@ pub use key::address_of;
 pub use laws::settings_are_read_back;
 pub use payload::{SettingProposal, SettingVote, SettingsPayload};
 pub use setting::{Setting, SettingEntry};
-pub use state::setting_of;
+pub use state::{setting_of, value_by};
+pub use value::{number_in, trimmed};

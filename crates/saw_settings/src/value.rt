@@ -33,7 +33,7 @@ fn trailing_spaces(text: &[u8]) -> usize
 }
 
 /// A text without the spaces at both ends.
-fn trimmed(text: &[u8]) -> &[u8]
+pub fn trimmed(text: &[u8]) -> &[u8]
     ensures { result.now ≡ trimmed text.now }
 {
     let text = &text[leading_spaces(text)..];
@@ -87,7 +87,7 @@ fn is_number(text: &str) -> bool
 
 /// The number of 1 to 9 decimal digits.
 #[tactic(auto, unfolding(crate::specs::Values::number_in))]
-pub(crate) fn number_in(text: &str) -> Option<u32>
+pub fn number_in(text: &str) -> Option<u32>
     ensures { result ≡ number_in text.now }
 {
     if is_number(text) {

@@ -1,0 +1,7 @@
+pub mod Trims
+pub mod Numerals
+pub mod EachOf
+pub mod FamilyLists
+pub mod Search
+pub mod Counted
+pub mod Standing
