@@ -15,3 +15,4 @@ pub mod Gathered
 pub mod Addresses
 pub mod Kept
 pub mod Coming
+pub mod Lanes

@@ -10,3 +10,4 @@ pub mod Access
 pub mod Undo
 pub mod Changed
 pub mod Laws
+pub mod Lanes

@@ -1,5 +1,6 @@
 //! Laws of transactions, whatever their processors.
 
+ghost use Rattle.saw_context.specs.Lanes.{LanesAreSerial};
 ghost use Rattle.saw_context.specs.Laws.{OverShows, GatheredChangesShow, OutcomeSeesInputs, WritesAreCovered, ConversationIsNotEarly, SoundIsOutcome, SeenIsOver};
 ghost use Rattle.saw_context.specs.Laws.{MayComeIsTold, SoundMayCome, TellingDecides, SerialMayCome, AccessIsKept, AddressesAreKept};
 
@@ -66,4 +67,9 @@ pub fn access_is_kept()
 /// Whatever processors answer, a state that has entries at addresses alone is left with such.
 pub fn addresses_are_kept()
     ensures { AddressesAreKept }
+{}
+
+/// Batches in lanes that declare no address in common may come to what each lane alone may come to.
+pub fn lanes_are_serial()
+    ensures { LanesAreSerial }
 {}

@@ -21,8 +21,8 @@ pub use fault::{AccessFault, ContextFault};
 pub use job::{Done, Job, Ticket};
 pub use laws::{
     access_is_kept, addresses_are_kept, conversation_is_not_early, gathered_changes_show,
-    may_come_is_told, outcome_sees_inputs, over_shows, seen_is_over, serial_may_come,
-    sound_is_outcome, sound_may_come, telling_decides, writes_are_covered,
+    lanes_are_serial, may_come_is_told, outcome_sees_inputs, over_shows, seen_is_over,
+    serial_may_come, sound_is_outcome, sound_may_come, telling_decides, writes_are_covered,
 };
 pub use layers::Layers;
 pub use overlay::Overlay;

@@ -4,7 +4,7 @@ ghost use Rattle.std.specs.Prelude.{◌<◌, length};
 ghost use Rattle.saw_crew.specs.Desks.{HaveSameOffers};
 
 use crate::apart::offers;
-use crate::copies::{Copies, Runs};
+use crate::copies::Runs;
 use crate::reruns::desk;
 use crate::waits::{Waits, Watched};
 use saw_crew::execute;
@@ -12,7 +12,7 @@ use saw_intkey::{Payload, Verb, address_of, encode_payload};
 use saw_messages::{Reason, TransactionHeader, Tx, TxBatch, encode_transaction_header};
 use saw_plan::Plan;
 use saw_schedule::{BatchResult, Results};
-use saw_station::Desk;
+use saw_station::{Desk, Station};
 use saw_wire::{Bytes, Items, Message, Text};
 use std::alloc::{AllocError, Global};
 use std::sync::atomic::{AtomicU64, Ordering};
@@ -77,7 +77,7 @@ fn batch(alloc: Global, id: &str, txs: Items<Arc<Tx>>) -> Result<TxBatch, AllocE
 }
 
 /// A batch for each name, which sets it.
-fn apart(alloc: Global, names: &[&str]) -> Result<Plan, Fail> {
+pub(crate) fn apart(alloc: Global, names: &[&str]) -> Result<Plan, Fail> {
     let mut batches = Items::new(alloc);
     for name in names {
         let mut txs = Items::new(alloc);
@@ -101,7 +101,7 @@ fn failing(alloc: Global) -> Result<Plan, Fail> {
 }
 
 /// A base over the addresses of names; a read of each one waits for one of the name at a place.
-fn base(alloc: Global, names: &[(&str, usize)]) -> Result<Waits, AllocError> {
+pub(crate) fn base(alloc: Global, names: &[(&str, usize)]) -> Result<Waits, AllocError> {
     let mut watched = Vec::new(alloc);
     for (name, after) in names {
         watched.push(Watched::new(address_of(name), *after))?;
@@ -112,20 +112,27 @@ fn base(alloc: Global, names: &[(&str, usize)]) -> Result<Waits, AllocError> {
     })
 }
 
-fn results_at<T: Threads + Wait + Sync>(
+pub(crate) fn results_at<R: Station, T: Threads + Wait + Sync>(
     rt: &T,
     alloc: Global,
     plan: Plan,
     base: &Waits,
-    desks: &mut [Desk<Copies<'_>>],
+    desks: &mut [Desk<R>],
 ) -> Result<Results, Fail>
     requires some { 0 < length desks.old }
     requires alike { HaveSameOffers desks.old }
 {
-    if plan.transactions(alloc)?.len() > 3 {
-        return Err("three transactions at most".into());
+    if plan.transactions(alloc)?.len() > 100 {
+        return Err("a hundred transactions at most".into());
     }
     Ok(execute(rt, alloc, Arc::new(alloc, plan)?, base, desks)?)
+}
+
+/// Whether each batch is applied.
+pub(crate) fn are_applied(results: &[BatchResult]) -> bool {
+    results
+        .iter()
+        .all(|batch| matches!(batch, BatchResult::Applied { .. }))
 }
 
 // A read of each name waits for one of the other, so none goes on before both are run.
@@ -137,12 +144,7 @@ fn built_in_transactions_are_run_at_once(rt: HostRuntime) -> Result<(), Fail> {
     let mut desks = [desk(&runs, &offers)?, desk(&runs, &offers)?];
     let plan = apart(alloc, &["one", "other"])?;
     let results = results_at(&rt, alloc, plan, &base, &mut desks)?;
-    let applied = results
-        .batches
-        .as_slice()
-        .iter()
-        .all(|batch| matches!(batch, BatchResult::Applied { .. }));
-    assert!(&rt; applied && base.vain.load(Ordering::SeqCst) == 0);
+    assert!(&rt; are_applied(results.batches.as_slice()) && base.vain.load(Ordering::SeqCst) == 0);
     Ok(())
 }
 

@@ -8,6 +8,8 @@ mod builtin;
 #[cfg(test)]
 mod copies;
 #[cfg(test)]
+mod lanes;
+#[cfg(test)]
 mod meeting;
 #[cfg(test)]
 mod meets;

@@ -52,6 +52,7 @@ fn laws_of_transactions_and_families(_rt: HostRuntime) {
     saw_context::telling_decides();
     saw_context::serial_may_come();
     saw_context::access_is_kept();
+    saw_context::lanes_are_serial();
     saw_context::addresses_are_kept();
     saw_intkey::replies_decide();
     saw_intkey::reasons_are_own();

@@ -1,0 +1,62 @@
+//! Batches in lanes: which lane each has, and what came of lanes in order.
+
+use crate::apart::wide_plan;
+use crate::builtin::apart;
+use saw_lanes::{gathered, lanes_of};
+use saw_plan::Plan;
+use saw_wire::Items;
+use std::alloc::{AllocError, Global};
+use std::test::Fail;
+
+/// Whether the batches of a plan have these lanes, of so many.
+fn have_lanes(alloc: Global, plan: &Plan, count: u32, wanted: &[u32]) -> Result<bool, AllocError> {
+    match lanes_of(alloc, plan.batches.as_slice(), count)? {
+        Some(lanes) => Ok(lanes.as_slice() == wanted),
+        None => Ok(false),
+    }
+}
+
+#[test]
+fn batches_of_one_address_have_one_lane(rt: HostRuntime) -> Result<(), Fail> {
+    let alloc = rt.alloc();
+    let plan = apart(alloc, &["one", "other", "one", "third", "other"])?;
+    assert!(&rt; have_lanes(alloc, &plan, 2, &[0, 1, 0, 0, 1])?);
+    assert!(&rt; have_lanes(alloc, &plan, 3, &[0, 1, 0, 2, 1])?);
+    let wide = wide_plan(alloc, &["1", "2"], 1)?;
+    assert!(&rt; lanes_of(alloc, wide.batches.as_slice(), 2)?.is_none());
+    Ok(())
+}
+
+fn part(alloc: Global, numbers: &[u32]) -> Result<Items<u32>, AllocError> {
+    let mut items = Items::new(alloc);
+    for number in numbers {
+        items.push(*number)?;
+    }
+    Ok(items)
+}
+
+/// What is gathered of two parts.
+fn of_two(
+    alloc: Global,
+    lanes: &[u32],
+    first: &[u32],
+    second: &[u32],
+) -> Result<Option<Items<u32>>, AllocError> {
+    let mut parts = Vec::new(alloc);
+    parts.push(part(alloc, first)?)?;
+    parts.push(part(alloc, second)?)?;
+    gathered(alloc, lanes, parts)
+}
+
+#[test]
+fn what_came_of_lanes_is_in_order(rt: HostRuntime) -> Result<(), Fail> {
+    let alloc = rt.alloc();
+    let Some(all) = of_two(alloc, &[1, 0, 1, 1], &[5], &[6, 7, 8])? else {
+        return Err("each lane has its items".into());
+    };
+    assert!(&rt; all.as_slice() == [6, 5, 7, 8].as_slice());
+    assert!(&rt; of_two(alloc, &[1, 0], &[5], &[6, 7])?.is_none());
+    assert!(&rt; of_two(alloc, &[0, 0], &[5], &[])?.is_none());
+    assert!(&rt; of_two(alloc, &[2], &[5], &[])?.is_none());
+    Ok(())
+}

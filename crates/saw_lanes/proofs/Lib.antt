@@ -1,0 +1,2 @@
+mod Merge
+pub mod Keeping

@@ -1,0 +1,4 @@
+pub mod Lanes
+pub mod Rests
+pub mod Claims
+pub mod Apart
