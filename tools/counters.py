@@ -168,6 +168,10 @@ def main():
     many = {f"n{index}": index * 1000 for index in range(100)}
     sets = [("set", name, value) for name, value in many.items()]
     committed("counters-100-names", [sets[:50], sets[50:]], many)
+    # Enough transactions for several lanes; the rules are first, and of failed batches the first.
+    apart = [[("set", f"n{index}", 1)] for index in range(40)]
+    refused("counters-repeated-behind-a-failure", [[("inc", "c", 1)], *apart, apart[0]], {"a": 1}, "13 Static 41 1")
+    refused("counters-two-of-many-fail", [*apart[:20], [("inc", "c", 1)], *apart[20:], [("inc", "d", 1)]], {"a": 1}, "14 BatchInvalid 20 0 108")
     refused("counters-root-of-another-state", [[("set", "a", 2)]], {"a": 3}, f"15 Root {root({'a': 2})}")
 
 

@@ -14,3 +14,4 @@ pub mod Serially
 pub mod Rounds
 pub mod Ended
 pub mod InHand
+pub mod Apart

@@ -13,6 +13,8 @@ use Rattle.saw_context.specs.Outcome.{Processors}
 use Rattle.saw_context.specs.Possible.{MayComeFrom, MayComeOfAll, MayComeOfBatch}
 use Rattle.saw_context.specs.Serial.{failed_with, left_by}
 use Rattle.saw_context.specs.declared.batch_result.BatchResult.{BatchResult}
+use Rattle.std.specs.BTreeSet.{BTreeSet}
+use Rattle.saw_crew.specs.Failing.{HoldsTxs, IsNext}
 use Rattle.saw_plan.specs.BatchShapes.{shapes_of, transactions_in, txs_of}
 
 pub txs_of-drop : (batches : List BatchShape) (i : ℕ) (batch : BatchShape) → i < length batches → batch ≡ get_or batches i batch
@@ -59,3 +61,12 @@ batch_within batches i batch txs below is same n few =
     let counted : length batch.txs ≤ transactions_in batches =
     subst (λ (b : BatchShape). length b.txs ≤ transactions_in batches) (sym is) here in
     omega (arith, length-map txs arc_value, ap length same, counted, few)
+
+-- one more batch was run
+pub next_gone : (processors : Processors) (start : StateMap) (all : List (List TxShape)) (before after : List BatchResult) (others : List TxShape)
+    (m m' : StateMap) (seen seen' : BTreeSet (List ℕ)) (txs : List TxShape) (rest : List (List TxShape))
+    → (next : IsNext processors m seen txs before m' seen' after) → HoldsTxs seen others
+    → HasGone processors start all before others m (txs ∷ rest) → HasGone processors start all after (failed_with others txs next.came) m' rest
+next_gone processors start all before after others m m' seen seen' txs rest next holds gone =
+    subst (λ results. HasGone processors start all results (failed_with others txs next.came) m' rest) (sym next.all)
+    (gone_more processors start all before others m txs rest gone next.came m' (next.result others holds) next.left)

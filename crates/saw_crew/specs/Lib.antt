@@ -3,3 +3,4 @@ pub mod Stored
 pub mod Alone
 pub mod Failing
 pub mod Rounds
+pub mod Lanes

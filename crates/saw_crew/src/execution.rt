@@ -1,6 +1,6 @@
 //! The batches of a plan, run at desks.
 
-ghost use Rattle.std.specs.Prelude.{◌≡◌, ◌<◌, ◌^◌, length, IfOk, IsErrOf};
+ghost use Rattle.std.specs.Prelude.{◌≡◌, ◌<◌, ◌^◌, [], length, IfOk, IsErrOf};
 ghost use Rattle.std.specs.Arc.{arc_value};
 ghost use Rattle.saw_context.specs.Possible.{MayComeOfAll};
 ghost use Rattle.saw_crew.specs.Desks.{HaveSameOffers, KeepsDesks, Failed, offers_at};
@@ -8,6 +8,7 @@ ghost use Rattle.saw_plan.specs.BatchShapes.{transactions_in, txs_of};
 ghost use Rattle.saw_schedule.specs.BatchResults.{AreResultsFor};
 ghost use Rattle.saw_station.specs.Serving.{processors_at};
 
+use crate::built_in::run_built_in;
 use crate::ending::{left_by_workers, run_alone};
 use crate::fault::CrewFault;
 use crate::locked::Locked;
@@ -15,7 +16,7 @@ use crate::seats::seats_for;
 use crate::serial::run_serially;
 use crate::tangle::is_tangled;
 use crate::work::all_work;
-use crate::workers::{threads_for, transactions_of};
+use crate::workers::{lanes_for, threads_for, transactions_of, workers_at};
 use saw_address::Base;
 use saw_plan::Plan;
 use saw_schedule::{Results, Schedule};
@@ -45,7 +46,12 @@ pub fn execute<B: Base, R: Station, T: Threads + Wait + Sync>(
     ensures desks { KeepsDesks R.faults R.offered desks.old desks.new }
     ensures cause { IsErrOf result CrewFault.PeerFailed → Failed R.faults desks.old desks.new }
 {
-    let threads = threads_for(&plan, desks);
+    let batches = plan.batches.as_slice();
+    if desks[0].offers().is_empty() {
+        let lanes = lanes_for(batches, workers_at(desks));
+        return Ok(run_built_in::<B, R, T>(rt, alloc, batches, base, lanes)?);
+    }
+    let threads = threads_for(batches, desks);
     if threads < 2 || is_tangled(alloc, &plan)? {
         return execute_alone(alloc, &plan, base, desks);
     }
@@ -89,7 +95,7 @@ fn execute_together<B: Base, R: Station, T: Threads + Wait + Sync>(
     ensures cause { IsErrOf result CrewFault.PeerFailed → Failed R.faults desks.old desks.new }
 {
     let locked = Mutex::new(lent(alloc, plan, &desks[0])?);
-    let seats = seats_for(alloc, desks.len(), transactions_of(plan))?;
+    let seats = seats_for(alloc, desks.len(), transactions_of(plan.batches.as_slice()))?;
     all_work(rt, alloc, desks, &seats, threads, &locked, base);
     let first = &mut desks[0];
     let schedule = left_by_workers(alloc, locked.into_inner(), plan, first.offers(), base)?;

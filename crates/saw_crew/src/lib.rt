@@ -1,14 +1,16 @@
-//! Runs the batches of a plan over a base: one after another, or each desk a worker at a seat of job
-//! queues, round the lock of their schedule.
+//! Runs the batches of a plan over a base: one after another, in lanes side by side, or each desk a worker at a seat of
+//! job queues, round the lock of their schedule.
 #![tactic(auto)]
 
 mod alike;
 mod based;
 mod batch;
+mod built_in;
 mod ending;
 mod execution;
 mod fault;
 mod hand;
+mod lanes;
 mod locked;
 mod seats;
 mod serial;
@@ -16,6 +18,7 @@ mod tangle;
 mod work;
 mod workers;
 
+pub use built_in::run_built_in;
 pub use execution::execute;
 pub use fault::CrewFault;
-pub use workers::workers_at;
+pub use workers::{lanes_for, workers_at};

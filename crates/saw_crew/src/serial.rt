@@ -1,10 +1,10 @@
 //! The batches of a plan, one after another.
 
-ghost use Rattle.std.specs.Prelude.{◌≡◌, ◌<◌, ◌^◌, ◌++◌, List, IfOk, IsErrOf, OnOk};
+ghost use Rattle.std.specs.Prelude.{◌≡◌, ◌<◌, ◌^◌, ◌++◌, List, length, IfOk, IsErrOf, OnOk};
 ghost use Rattle.saw_context.specs.Possible.{MayComeOfAll};
 ghost use Rattle.saw_context.specs.Serial.{failed_with, left_by, map_after_all};
 ghost use Rattle.saw_crew.specs.Desks.{Leaves};
-ghost use Rattle.saw_crew.specs.Failing.{HoldsTxs};
+ghost use Rattle.saw_crew.specs.Failing.{HoldsTxs, IsNext};
 ghost use Rattle.saw_messages.specs.TxShapes.{TxShape};
 ghost use Rattle.saw_plan.specs.BatchShapes.{shapes_of, transactions_in, txs_of};
 ghost use Rattle.saw_station.specs.Serving.{processors_at};
@@ -38,12 +38,31 @@ pub(crate) fn run_serially<B: Base, R: Station>(
     let mut failed = BTreeSet::new(alloc);
     let mut results = Items::new(alloc);
     for batch in batches {
-        let txs = batch.txs.as_slice();
-        let came = run_batch(alloc, desk, &state, &failed, txs)?;
-        settle(alloc, &mut state, &mut failed, txs, &came)?;
-        results.push(came)?;
+        run_next(alloc, desk, &mut state, &mut failed, batch, &mut results)?;
     }
     Ok(Results { batches: results })
+}
+
+/// Runs one more batch over what those before it left, where the transactions with these ids stand in failed batches, and
+/// adds its result.
+pub(crate) fn run_next<B: Base, R: Station>(
+    alloc: Global,
+    desk: &mut Desk<R>,
+    state: &mut Changed<'_, B>,
+    failed: &mut BTreeSet<Text>,
+    batch: &TxBatch,
+    results: &mut Items<BatchResult>,
+) -> Result<(), CrewFault>
+    requires counted { length batch.now.txs < 2 ^ 32 }
+    ensures next { OnOk result (IsNext (processors_at R.next R.tells desk.old.offers)
+        state.old failed.old batch.now.txs results.old state.new failed.new results.new) }
+    ensures desk { Leaves R.faults R.offered desk.old desk.new (IsErrOf result CrewFault.PeerFailed) }
+{
+    let txs = batch.txs.as_slice();
+    let came = run_batch(alloc, desk, state, failed, txs)?;
+    settle(alloc, state, failed, txs, &came)?;
+    results.push(came)?;
+    Ok(())
 }
 
 // An applied batch changes the state, and a failed one adds the ids of its transactions.

@@ -2,7 +2,7 @@
 
 ghost use Rattle.std.specs.Prelude.{◌≡◌, ◌^◌, ◌<◌, ◌≤◌, length};
 
-use saw_plan::Plan;
+use saw_messages::TxBatch;
 use saw_station::{Desk, Station};
 
 /// As many workers as desks; where a `u32` does not hold their number, as many as it holds.
@@ -14,23 +14,30 @@ pub fn workers_at<R: Station>(desks: &[Desk<R>]) -> u32
     u32::try_from(desks.len()).unwrap_or(u32::MAX)
 }
 
-/// How many transactions a plan has.
-pub(crate) fn transactions_of(plan: &Plan) -> usize {
+/// How many transactions the batches have.
+pub(crate) fn transactions_of(batches: &[TxBatch]) -> usize {
     let mut count = 0usize;
-    for batch in plan.batches.as_slice() {
+    for batch in batches {
         count = count.saturating_add(batch.txs.len());
     }
     count
 }
 
-/// How many threads run a plan: as many as desks, but no more than it has transactions. Where nothing is offered elsewhere
-/// it is one: what a schedule allocates and gives up costs more than the runs that threads would share.
-pub(crate) fn threads_for<R: Station>(plan: &Plan, desks: &[Desk<R>]) -> usize
-    requires { 0 < length desks.now }
+/// How many threads run batches over a schedule: as many as desks, but no more than there are transactions.
+pub(crate) fn threads_for<R: Station>(batches: &[TxBatch], desks: &[Desk<R>]) -> usize
     ensures { 0 < result }
 {
-    if desks[0].offers().is_empty() {
-        return 1;
-    }
-    transactions_of(plan).min(desks.len()).max(1)
+    transactions_of(batches).min(desks.len()).max(1)
+}
+
+/// Of so few transactions no lane goes to another thread: its start takes as long as the runs of some ten.
+const WORTH: usize = 16;
+
+/// In how many lanes so many workers run batches of the built-in processors: each lane has enough transactions to be worth
+/// its thread.
+pub fn lanes_for(batches: &[TxBatch], workers: u32) -> u32
+    ensures { 0 < result }
+{
+    let most = u32::try_from(transactions_of(batches) / WORTH).unwrap_or(u32::MAX);
+    workers.min(most).max(1)
 }

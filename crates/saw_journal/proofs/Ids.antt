@@ -12,7 +12,7 @@ use Rattle.saw_ids.specs.Seen.{HoldsIds, is_among}
 use Rattle.saw_messages.specs.declared.receipt.Receipt.{Receipt}
 use Rattle.saw_context.specs.declared.batch_result.BatchResult.{BatchResult}
 use Rattle.saw_messages.specs.TxShapes.{BatchShape}
-use Rattle.saw_journal.specs.Judgement.{batch_records}
+use Rattle.saw_journal.specs.Judgement.{batch_record, batch_records}
 use Rattle.saw_plan.specs.StaticRules.{Ids, Knows}
 use Rattle.saw_plan.specs.SortingSteps.{both}
 use Rattle.saw_plan.specs.declared.known.Known.{Known}
@@ -137,3 +137,11 @@ no_records (batch ∷ batches) (result ∷ results) (inr is) = absurd (grind (ar
 pub ended : (made whole : List BatchRecord) (batches : List BatchShape) (results : List BatchResult) → (batches ≡ []) ⊎ (results ≡ [])
     → made ++ batch_records batches results ≡ whole → made ≡ whole
 ended made whole batches results none known = sym (append-nil made) ∙ ap (λ rest. made ++ rest) (sym (no_records batches results none)) ∙ known
+
+pub records_joined : (batches others : List BatchShape) (results more : List BatchResult) → length batches ≡ length results
+    → batch_records (batches ++ others) (results ++ more) ≡ batch_records batches results ++ batch_records others more
+records_joined [] others [] more same = refl
+records_joined [] others (result ∷ results) more same = absurd (grind arith)
+records_joined (batch ∷ batches) others [] more same = absurd (grind arith)
+records_joined (batch ∷ batches) others (result ∷ results) more same =
+    ap (λ rest. batch_record batch result ∷ rest) (records_joined batches others results more (grind arith))

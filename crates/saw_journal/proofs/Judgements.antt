@@ -1,6 +1,5 @@
 -- What a judgement answers, by the part that ends it.
 use Rattle.std.proofs.Common.{◌≡◌, inl, inr, ℕ, Bool, true, List, Option, Some, None, Result, Ok, Err, refl, sym, ap, subst, ◌∙◌}
-use Rattle.std.specs.Prelude.{IsErrOf}
 use Rattle.saw_address.specs.Maps.{StateMap}
 use Rattle.saw_checks.specs.Readings.{BlockGives, IsBlockOf}
 use Rattle.saw_checks.specs.StructureFaults.{structure_fault}
@@ -26,23 +25,16 @@ use Rattle.saw_journal.specs.Judgement.{Kept, judged, judged_parts, kept_of, rul
 use Rattle.saw_receipts.specs.Running.{Runs}
 use Rattle.saw_journal.specs.Ledger.{map_under}
 use Rattle.saw_receipts.specs.Running.{RunsBy}
+use Rattle.saw_journal.specs.Passing.{RanAs}
 use Rattle.saw_journal.specs.Parted.{ComesTo, HasRun, JudgedAs, RunsAs}
 use Rattle.saw_journal.specs.Stops.{IsStop, stop_of_structure}
-use Rattle.saw_journal.specs.declared.fault.JournalFault.{JournalFault}
 use Rattle.saw_journal.specs.declared.fault.JournalFault.TheVariants as faults
-use Rattle.saw_journal.specs.declared.fault.JournalFault.TheVariants.{OutOfMemory}
 use Rattle.saw_journal.specs.declared.judge.New.{New}
 use Rattle.saw_journal.specs.declared.stop.Stop.{Stop}
 use Rattle.saw_journal.specs.declared.stop.Stop.TheVariants.{Refused, Failed}
 use Rattle.saw_journal.proofs.Judging.{by_run, dropped, misplaced}
 use Rattle.saw_journal.proofs.SameParts.{judged_bad, judged_is, left_is}
 use Rattle.saw_receipts.proofs.Ways.{by_serial, here_are, is_by_serial, is_or_here, or_here}
-
--- a part that stops for the call stops for memory
-pub of_memory : {A : Type 0} (found : Option BlockFault) (stop : Stop) (e : JournalFault) → IsStop found stop
-    → IsErrOf {T = A} (Err stop) (Failed e) → e ≡ OutOfMemory
-of_memory found (Refused fault) e is failed = absurd cc
-of_memory found (Failed fault) e is failed = let same : fault ≡ e = cc in sym same ∙ is
 
 module _ (processors : Processors) (own : (tx : TxShape) (turns : List Turn) → has_own_reason (processors.next tx turns) ≡ true)
     (hash : List ℕ → List ℕ) (accepts : List ℕ → List ℕ → List ℕ → Bool) (blocks : List BlockRecord) (states : States) (content : List ℕ) where
@@ -81,11 +73,15 @@ module _ (processors : Processors) (own : (tx : TxShape) (turns : List Turn) →
     by_place (Failed fault) is = subst (λ fault. Answers (Err (Failed fault))) (sym is) tt
 
     module _ (placed : first_of (place_tests blocks checked.id checked.header) ≡ None) where
-      -- a batch is dropped
-      pub by_rules : (stop : Stop) → IsStop (static_fault (ids_before blocks checked.header) checked.batches) stop
+      -- a batch is dropped, or the call fails
+      pub by_batches : (m : StateMap) (peer : Type 0) (stop : Stop) → RanAs processors m peer (ids_before blocks checked.header) checked.batches (Err stop)
           → Answers (Err stop)
-      by_rules (Refused fault) is = refused fault (λ runs. by_parts runs ∙ dropped hash runs blocks states (parts_in checked) (sym placed) fault is)
-      by_rules (Failed fault) is = subst (λ fault. Answers (Err (Failed fault))) (sym is) tt
+      by_batches m peer (Refused fault) is =
+          refused fault (λ runs. by_parts runs ∙ dropped hash runs blocks states (parts_in checked) (sym placed) fault is)
+      by_batches m peer (Failed (faults.Collision kept given)) is = absurd is
+      by_batches m peer (Failed faults.Full) is = absurd is
+      by_batches m peer (Failed faults.PeerFailed) is = tt
+      by_batches m peer (Failed faults.OutOfMemory) is = tt
 
       module _ (whole : static_fault (ids_before blocks checked.header) checked.batches ≡ None) (at : List ℕ)
           (same : map_under states (parent_of blocks checked.header) ≡ map_at states at) where

@@ -18,3 +18,4 @@ pub mod Branching
 pub mod KnownBranches
 pub mod Leaving
 pub mod Recorded
+pub mod Passing

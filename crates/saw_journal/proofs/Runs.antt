@@ -22,18 +22,15 @@ use Rattle.saw_schedule.specs.BatchResults.{AreResultsFor}
 use Rattle.saw_store.specs.declared.fault.StoreFault.{StoreFault}
 use Rattle.saw_store.specs.declared.fault.StoreFault.TheVariants.{Collision, OutOfMemory}
 use Rattle.saw_journal.specs.BlockFaults.{failure_fault, root_fault}
-use Rattle.saw_journal.specs.Clashing.{TellsNoNodes}
 use Rattle.saw_journal.specs.Judgement.{batch_records}
 use Rattle.saw_journal.specs.LowerFaults.{fault_of_store}
 use Rattle.saw_journal.specs.Parted.{RunsAs, run_fault}
 use Rattle.saw_journal.specs.Stops.{IsStop}
-use Rattle.saw_journal.specs.declared.fault.JournalFault.{JournalFault}
-use Rattle.saw_journal.specs.declared.fault.JournalFault.TheVariants as faults
 use Rattle.saw_journal.specs.declared.branch_ids.BranchIds.{BranchIds}
 use Rattle.saw_journal.specs.declared.judge.New.{New}
 use Rattle.saw_journal.specs.declared.stop.Stop.{Stop}
 use Rattle.saw_journal.specs.declared.stop.Stop.TheVariants.{Refused, Failed}
-use Rattle.saw_journal.specs.BlockShapes.{Parts, parts_in}
+use Rattle.saw_journal.specs.BlockShapes.{parts_in}
 use Rattle.saw_checks.specs.declared.checked.CheckedBlock.{CheckedBlock}
 
 -- ---- results
@@ -44,26 +41,12 @@ same_length [] (result ∷ results) are = absurd are
 same_length (txs ∷ batches) [] are = absurd are
 same_length (txs ∷ batches) (result ∷ results) are = omega (arith, same_length batches results are.1)
 
-pub few_results : (planned batches : List BatchShape) (results : List BatchResult) → planned ≡ batches
-    → AreResultsFor (txs_of planned) results
-    → length batches < 2 ^ 32 → length results < 2 ^ 32
-few_results planned batches results same are few =
-    omega (
-      arith,
-      same_length (txs_of planned) results are
-          ∙ length-map planned (λ (batch : BatchShape). batch.txs) ∙ ap length same,
-      few,
-    )
+pub few_results : (batches : List BatchShape) (results : List BatchResult) → AreResultsFor (txs_of batches) results → length batches < 2 ^ 32
+    → length results < 2 ^ 32
+few_results batches results are few =
+    omega (arith, same_length (txs_of batches) results are ∙ length-map batches (λ (batch : BatchShape). batch.txs), few)
 
 -- ---- the tests behind the run
-
--- a fault that tells no nodes says nothing
-pub ran_other : (processors : Processors) (hash : List ℕ → List ℕ) (states : States) (before : List ℕ) (parts : Parts) (fault : JournalFault)
-    → TellsNoNodes fault → RunsAs processors hash states before parts (Err (Failed fault))
-ran_other processors hash states before parts (faults.Collision kept given) never = absurd never
-ran_other processors hash states before parts faults.Full other = tt
-ran_other processors hash states before parts faults.PeerFailed other = tt
-ran_other processors hash states before parts faults.OutOfMemory other = tt
 
 module _ (processors : Processors) (hash : List ℕ → List ℕ) (states : States) (before : List ℕ) (checked : CheckedBlock) (results : List BatchResult)
     (may : MayComeOfAll processors (map_at states before) (txs_of checked.batches) results) where

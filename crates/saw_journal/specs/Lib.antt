@@ -8,5 +8,6 @@ pub mod Left
 pub mod Ledger
 pub mod Clashing
 pub mod KnownBranches
+pub mod Passing
 pub mod Standing
 pub mod Parted

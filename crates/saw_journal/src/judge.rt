@@ -11,8 +11,8 @@ ghost use Rattle.saw_station.specs.Serving.{processors_at};
 use crate::branch_ids::{BranchIds, ids_behind};
 use crate::fault::JournalFault;
 use crate::place::parent_of;
-use crate::planned::plan_all;
-use crate::run::run;
+use crate::ran::run_all;
+use crate::run::conclude;
 use crate::stop::Stop;
 use saw_checks::check_block;
 use saw_crew::workers_at;
@@ -82,8 +82,9 @@ pub(crate) fn judge<H: NodeHasher, T: Threads + Wait + Sync, V: Verifier, R: Sta
 {
     let checked = check_block(rt, alloc, bytes, verifier, workers_at(desks))?;
     let parent = parent_of(blocks, &checked.id, &checked.header)?;
-    let mut known = ids_behind(alloc, blocks, ids, &checked.header.previous_block_id)?;
-    let plan = plan_all(alloc, &mut known, checked.batches.as_slice())?;
+    let known = ids_behind(alloc, blocks, ids, &checked.header.previous_block_id)?;
     let before = root_before::<H>(alloc, parent)?;
-    run(rt, alloc, state, before, checked, plan, known, desks)
+    let batches = checked.batches.as_slice();
+    let ran = run_all(rt, alloc, state, before, known, batches, desks)?;
+    conclude(rt, alloc, state, before, checked, ran, workers_at(desks))
 }

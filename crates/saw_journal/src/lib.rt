@@ -10,6 +10,7 @@ mod judge;
 mod laws;
 mod place;
 mod planned;
+mod ran;
 mod results;
 mod run;
 mod stop;

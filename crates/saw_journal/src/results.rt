@@ -1,6 +1,7 @@
 //! What the results of a block's batches say.
 
 ghost use Rattle.std.specs.Prelude.{◌≡◌, ◌<◌, ◌^◌, length, IfOk};
+ghost use Rattle.std.specs.Thread.{IsSync};
 ghost use Rattle.saw_checks.specs.BatchParts.{Tells};
 ghost use Rattle.saw_journal.specs.BlockFaults.{failure_fault};
 ghost use Rattle.saw_journal.specs.Judgement.{batch_record, batch_records, outcomes_in};
@@ -10,6 +11,8 @@ use saw_receipts::{BatchRecord, BlockFault, batch_receipts};
 use saw_schedule::{BatchResult, Results};
 use saw_wire::Items;
 use std::alloc::{AllocError, Global};
+use std::thread;
+use std::thread::Threads;
 
 /// Tests that no batch failed; the fault is that of the first.
 pub(crate) fn test_results(results: &Results) -> Result<(), BlockFault>
@@ -51,17 +54,55 @@ fn batch_record(
     })
 }
 
-/// What is kept of batches with these results.
-pub(crate) fn batch_records(
+/// Of so few batches no part goes to another thread: its start takes as long as the records of some ten.
+const WORTH: usize = 32;
+
+/// What is kept of batches with these results, made by at most so many threads.
+#[cycle(halves)]
+pub(crate) fn batch_records<T: Threads + Sync>(
+    rt: &T,
     alloc: Global,
     batches: &[TxBatch],
-    results: &Results,
-) -> Result<Items<BatchRecord>, AllocError>
-    ensures { IfOk result (λ made.
-        made ≡ batch_records batches.now results.now.batches) }
+    results: &[BatchResult],
+    workers: u32,
+) -> Result<Vec<BatchRecord>, AllocError>
+    ensures { IfOk result (λ made. made.items ≡ batch_records batches.now results.now) }
 {
-    let mut made = Items::from_vec(Vec::with_capacity(alloc, batches.len())?);
-    for (batch, done) in batches.iter().zip(results.batches.as_slice()) {
+    let count = batches.len().min(results.len());
+    if workers <= 1 || count < WORTH {
+        return records_here(alloc, batches, results);
+    }
+    let near = workers / 2;
+    let far = workers - near;
+    let (first, rest) = batches.split_at(count / 2);
+    let (came, others) = results.split_at(count / 2);
+    let (made, more) = thread::join(
+        rt,
+        || -> Result<Vec<BatchRecord>, AllocError>
+            requires { IsSync T.row }
+            ensures { IfOk result (λ made. made.items ≡ batch_records first.entry.now came.entry.now) }
+        { batch_records(rt, alloc, first, came, near) },
+        || -> Result<Vec<BatchRecord>, AllocError>
+            requires { IsSync T.row }
+            ensures { IfOk result (λ made. made.items ≡ batch_records rest.entry.now others.entry.now) }
+        { batch_records(rt, alloc, rest, others, far) },
+    );
+    let mut made = made?;
+    let mut more = more?;
+    made.append(&mut more)?;
+    Ok(made)
+}
+
+// The same in this thread.
+fn records_here(
+    alloc: Global,
+    batches: &[TxBatch],
+    results: &[BatchResult],
+) -> Result<Vec<BatchRecord>, AllocError>
+    ensures { IfOk result (λ made. made.items ≡ batch_records batches.now results.now) }
+{
+    let mut made = Vec::with_capacity(alloc, batches.len())?;
+    for (batch, done) in batches.iter().zip(results) {
         made.push(batch_record(alloc, batch, done)?)?;
     }
     Ok(made)

@@ -14,6 +14,12 @@ use Rattle.saw_crew.proofs.execution.execute.Goals as goal
 pub returns-in_err-is_tangled-clause-desks : goal.returns-in_err-is_tangled-clause-desks
 returns-in_err-is_tangled-clause-desks g c = keep_all g.R.Station.faults g.R.Station.offered c.args.desks.now
 
+pub returns-in_err-run_built_in-clause-desks : goal.returns-in_err-run_built_in-clause-desks
+returns-in_err-run_built_in-clause-desks g c = keep_all g.R.Station.faults g.R.Station.offered c.args.desks.now
+
+pub returns-then-is_empty-clause-desks : goal.returns-then-is_empty-clause-desks
+returns-then-is_empty-clause-desks g c = keep_all g.R.Station.faults g.R.Station.offered c.args.desks.now
+
 pub returns-clause-whole : goal.returns-clause-whole
 returns-clause-whole g c =
     let processors = processors_at g.R.Station.next g.R.Station.tells (offers_at c.args.desks.now) in
