@@ -9,7 +9,7 @@ use std::collections::BTreeMap;
 use std::io::{Error, ErrorKind};
 use std::{fs, io};
 
-/// The processors elsewhere of a run.
+/// The external processors of a run.
 #[derive(Drop)]
 pub(crate) enum Elsewhere {
     Nobody,
@@ -166,7 +166,7 @@ fn frames_in(alloc: Global, bytes: Vec<u8>) -> io::Result<Vec<Vec<u8>>> {
     Ok(frames)
 }
 
-/// The processors elsewhere of a case: so many as its file `processors` tells, or one that sends the frames of `peer`.
+/// The external processors of a case: so many as its file `processors` tells, or one that sends the frames of `peer`.
 pub(crate) fn elsewhere_of(rt: &HostRuntime, case: &str) -> io::Result<Elsewhere> {
     let alloc = rt.alloc();
     if let Some(count) = numbers_of(rt, case, "processors")?.first() {
@@ -178,7 +178,7 @@ pub(crate) fn elsewhere_of(rt: &HostRuntime, case: &str) -> io::Result<Elsewhere
     }
 }
 
-/// What a case sends to its processor elsewhere, where that is stored.
+/// What a case sends to its external processor, where that is stored.
 pub(crate) fn sent_of(rt: &HostRuntime, case: &str) -> io::Result<Option<Vec<u8>>> {
     bytes_of(rt, format!(in rt.alloc(); "cases/{case}/sent")?.as_str())
 }

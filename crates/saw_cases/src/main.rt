@@ -133,7 +133,7 @@ fn run_cases<T: Threads + Wait + Sync>(
     Ok(())
 }
 
-/// Runs each line of `words.txt`: words that are of no form.
+/// Runs each line of `words.txt`: invalid arguments.
 fn run_words<T: Threads + Wait + Sync>(
     rt: &T,
     host: &HostRuntime,

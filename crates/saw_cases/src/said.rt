@@ -19,7 +19,7 @@ use std::thread::Threads;
 /// The key of development.
 const KEY: &str = "020000000000000000000000000000000000000000000000000000000000000000";
 
-/// Output, notes and status of a run, and what was sent to a processor elsewhere.
+/// Output, notes and status of a run, and what was sent to an external processor.
 pub(crate) struct Said {
     pub(crate) output: Vec<u8>,
     pub(crate) notes: Vec<u8>,
@@ -143,7 +143,7 @@ fn put_sent(sent: &mut MemorySink, link: &MemoryPeer) -> Result<(), AllocError> 
     Ok(())
 }
 
-/// What was sent to processors elsewhere.
+/// What was sent to external processors.
 fn sent_to(alloc: Global, remotes: &[RemoteStation<MemoryPeer>]) -> Result<Vec<u8>, AllocError> {
     let mut sent = MemorySink::new(alloc, Vec::new(alloc));
     for remote in remotes {
@@ -202,7 +202,7 @@ fn said_among<R: Station, T: Threads + Wait + Sync>(
     said_by(alloc, status, ends, Vec::new(alloc))
 }
 
-/// What a run says by a processor elsewhere that sends these frames, with what it is sent.
+/// What a run says by an external processor that sends these frames, with what it is sent.
 fn said_over_link<T: Threads + Wait + Sync>(
     rt: &T,
     alloc: Global,
@@ -241,7 +241,7 @@ pub(crate) fn said_to<T: Threads + Wait + Sync>(
     }
 }
 
-/// What `apply` says to a stream, by this number of workers and these processors elsewhere.
+/// What `apply` says to a stream, by this number of workers and these external processors.
 pub(crate) fn said_to_stream<T: Threads + Wait + Sync>(
     rt: &T,
     alloc: Global,

@@ -1,4 +1,4 @@
-//! Processors elsewhere of a family of their own, which answer by a function and over no link.
+//! External processors of a family of their own, which answer by a function and over no link.
 
 ghost use Rattle.std.specs.Prelude.{◌≡◌, [], true, false, None, All, IfOk};
 ghost use Rattle.saw_messages.specs.Reasons.{has_own_reason};

@@ -6,3 +6,4 @@ pub mod Repeats
 pub mod BatchParts
 pub mod BlockParts
 pub mod Laws
+pub mod Numbers

@@ -10,6 +10,7 @@ use Rattle.saw_messages.specs.declared.transaction.Transaction.{Transaction}
 use Rattle.saw_messages.specs.declared.tx.Tx.{Tx}
 use Rattle.saw_messages.specs.declared.tx.TxBatch.{TxBatch}
 use Rattle.saw_checks.specs.declared.checked.CheckedBlock.{CheckedBlock}
+use Rattle.saw_checks.specs.declared.checked.ReadBlock.{ReadBlock}
 use Rattle.saw_checks.specs.declared.fault.BatchFault.{BatchFault}
 use Rattle.saw_checks.specs.declared.fault.BatchFault.TheVariants as batches
 use Rattle.saw_checks.specs.declared.fault.StructureFault.{StructureFault}
@@ -62,6 +63,11 @@ module _ (accepts : List ℕ → List ℕ → List ℕ → Bool) where
   abbrev pub BlockGives : List ℕ → Result CheckedBlock StructureFault → Type 0
   BlockGives bytes (Ok read) = (structure_fault accepts bytes ≡ None) × IsBlockOf bytes read
   BlockGives bytes (Err e) = (e ≡ blocks.OutOfMemory) ⊎ (structure_fault accepts bytes ≡ Some e)
+
+  -- the same, with what it was read from
+  abbrev pub ReadGives : List ℕ → Result ReadBlock StructureFault → Type 0
+  ReadGives bytes (Ok read) = BlockGives bytes (Ok read.checked)
+  ReadGives bytes (Err e) = BlockGives bytes (Err e)
 
   -- what is judged of one batch
   abbrev pub IsJudged : Batch → Judged → Type 0

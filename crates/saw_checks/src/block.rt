@@ -3,12 +3,12 @@
 ghost use Rattle.std.specs.Prelude.{◌≡◌, ◌<◌, ◌^◌, length};
 ghost use Rattle.saw_checks.specs.Tests.{first_of};
 ghost use Rattle.saw_checks.specs.StructureFaults.{transactions_count, block_tests};
-ghost use Rattle.saw_checks.specs.Readings.{BlockGives};
+ghost use Rattle.saw_checks.specs.Readings.{BlockGives, ReadGives};
 ghost use Rattle.saw_checks.specs.BatchParts.{Tells};
 ghost use Rattle.saw_checks.specs.BlockParts.{batch_ids_fault, block_signature_fault};
 
 use crate::batches::{check_all, count_transactions};
-use crate::checked::CheckedBlock;
+use crate::checked::{CheckedBlock, ReadBlock};
 use crate::fault::StructureFault;
 use crate::ids::first_difference;
 use saw_address::is_hex_text;
@@ -17,7 +17,8 @@ use saw_verify::Verifier;
 use std::alloc::Global;
 use std::thread::Threads;
 
-const MAX_TRANSACTIONS: u32 = 20000;
+/// The most transactions of a block.
+pub const MAX_TRANSACTIONS: u32 = 20_000;
 
 fn test_block(block: &Block, header: &BlockHeader, count: u32) -> Result<(), StructureFault>
     requires { count ≡ transactions_count block.now.batches }
@@ -72,6 +73,21 @@ pub fn check_block<T: Threads + Sync, V: Verifier>(
     requires { length bytes.now < 2 ^ 32 }
     ensures { BlockGives (V.accepts verifier.now) bytes.now result }
 {
+    let read = read_block(rt, alloc, bytes, verifier, workers)?;
+    Ok(read.checked)
+}
+
+/// The same, with what the block was read from.
+pub fn read_block<T: Threads + Sync, V: Verifier>(
+    rt: &T,
+    alloc: Global,
+    bytes: &[u8],
+    verifier: &V,
+    workers: u32,
+) -> Result<ReadBlock, StructureFault>
+    requires { length bytes.now < 2 ^ 32 }
+    ensures { ReadGives (V.accepts verifier.now) bytes.now result }
+{
     let block = decode_block(alloc, bytes)?;
     let header = decode_block_header(alloc, block.header.as_slice())?;
     let count = count_transactions(block.batches.as_slice())?;
@@ -79,9 +95,14 @@ pub fn check_block<T: Threads + Sync, V: Verifier>(
     test_ids(&block, &header)?;
     let batches = check_all(rt, alloc, block.batches.as_slice(), verifier, workers)?;
     test_signature(&block, &header, verifier)?;
-    Ok(CheckedBlock {
-        id: block.into_id(),
+    let id = block.header_signature.try_clone(alloc)?;
+    let checked = CheckedBlock {
+        id,
         header,
         batches,
+    };
+    Ok(ReadBlock {
+        checked,
+        spent: block,
     })
 }

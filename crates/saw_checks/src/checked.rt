@@ -2,7 +2,7 @@
 
 ghost use Rattle.std.specs.Prelude.{◌≡◌};
 
-use saw_messages::{BlockHeader, TxBatch};
+use saw_messages::{Block, BlockHeader, TxBatch};
 use saw_wire::{Items, Text};
 
 /// A block whose structure has no fault.
@@ -24,16 +24,24 @@ impl Drop for CheckedBlock {
     }
 }
 
+/// A block whose structure has no fault, and beside it the message that it was read from. That is needed no more, and to
+/// give it up takes a while.
+#[derive(Drop)]
+pub struct ReadBlock {
+    pub checked: CheckedBlock,
+    pub spent: Block,
+}
+
 impl CheckedBlock {
-    /// Its id and its header; the batches are given up.
-    pub fn into_names(self) -> (Text, BlockHeader)
-        ensures { result ≡ (self.id, self.header) }
+    /// Its id, its header and its batches.
+    pub fn into_parts(self) -> (Text, BlockHeader, Items<TxBatch>)
+        ensures { result ≡ (self.id, self.header, self.batches) }
     {
         let CheckedBlock {
             id,
             header,
-            batches: _batches,
+            batches,
         } = self;
-        (id, header)
+        (id, header, batches)
     }
 }

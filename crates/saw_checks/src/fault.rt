@@ -1,6 +1,7 @@
 //! What is wrong with a batch, and with the structure of a block.
 
 ghost use Rattle.std.specs.Prelude.{◌≡◌};
+ghost use Rattle.saw_checks.specs.Numbers.{structure_name, structure_number};
 ghost use Rattle.saw_checks.specs.declared.fault.BatchFault.TheVariants as batches;
 ghost use Rattle.saw_checks.specs.declared.fault.StructureFault.TheVariants as blocks;
 
@@ -110,6 +111,40 @@ impl From<MessageFault> for StructureFault {
         match fault {
             MessageFault::OutOfMemory => StructureFault::OutOfMemory,
             fault => StructureFault::Undecodable(fault),
+        }
+    }
+}
+
+impl StructureFault {
+    /// The number of its test.
+    pub fn number(&self) -> u64
+        ensures { result ≡ structure_number self.now }
+    {
+        match self {
+            StructureFault::Undecodable(_) => 1,
+            StructureFault::IdText => 2,
+            StructureFault::KeyText => 3,
+            StructureFault::TooManyTransactions { .. } => 4,
+            StructureFault::BatchIds { .. } => 5,
+            StructureFault::Batch { .. } => 6,
+            StructureFault::Signature => 7,
+            StructureFault::OutOfMemory => 0,
+        }
+    }
+
+    /// Its name, as lines tell it.
+    pub fn name(&self) -> &'static str
+        ensures { result.now ≡ structure_name self.now }
+    {
+        match self {
+            StructureFault::Undecodable(_) => "Undecodable",
+            StructureFault::IdText => "IdText",
+            StructureFault::KeyText => "KeyText",
+            StructureFault::TooManyTransactions { .. } => "TooManyTransactions",
+            StructureFault::BatchIds { .. } => "BatchIds",
+            StructureFault::Batch { .. } => "Batch",
+            StructureFault::Signature => "Signature",
+            StructureFault::OutOfMemory => "",
         }
     }
 }

@@ -14,8 +14,8 @@ mod sharing;
 mod transactions;
 
 pub use batch::check_batch;
-pub use block::check_block;
-pub use checked::CheckedBlock;
+pub use block::{MAX_TRANSACTIONS, check_block, read_block};
+pub use checked::{CheckedBlock, ReadBlock};
 pub use fault::{BatchFault, StructureFault};
 pub use judged::Judged;
 pub use laws::{faultless_batch_is_good, faultless_block_is_good};

@@ -2,15 +2,16 @@
 use Rattle.std.proofs.Common.{◌≡◌, ℕ, Bool, true, false, List, [], ◌∷◌, ◌++◌, length, None, sym, ap, subst, ◌∙◌}
 use Rattle.std.specs.Prelude.{Err, Ok}
 use Rattle.saw_address.specs.Maps.{StateMap}
-use Rattle.saw_checks.specs.Tests.{first_of}
 use Rattle.saw_context.specs.Outcome.{Processors, map_after}
 use Rattle.saw_merkle.specs.Clashes.{IsPreparedFor}
 use Rattle.saw_merkle.specs.States.{knows, map_at}
 use Rattle.saw_node.specs.Trees.{root_of_map}
+use Rattle.saw_plan.specs.BatchShapes.{txs_of}
+use Rattle.saw_rules.specs.Policies.{Policy}
 use Rattle.saw_receipts.specs.declared.block.BlockRecord.{BlockRecord}
 use Rattle.saw_receipts.specs.declared.verdict.Verdict.{Verdict}
 use Rattle.saw_receipts.specs.declared.verdict.Verdict.TheVariants.{Committed, Stored, Refused}
-use Rattle.saw_journal.specs.BlockFaults.{place_tests}
+use Rattle.saw_journal.specs.BlockFaults.{first_in, parent_of, place_tests}
 use Rattle.saw_journal.specs.Clashing.{ClashesAs, TellsNoNodes}
 use Rattle.saw_receipts.specs.Heads.{head_of, is_new_head}
 use Rattle.saw_journal.specs.Judgement.{Kept, Rules}
@@ -21,7 +22,7 @@ use Rattle.saw_journal.specs.declared.fault.JournalFault.TheVariants as faults
 use Rattle.saw_journal.specs.declared.judge.New.{New}
 use Rattle.saw_journal.specs.declared.stop.Stop.TheVariants.{Failed}
 use Rattle.saw_journal.proofs.FromBytes.{IsFine, is_fine}
-use Rattle.saw_journal.proofs.Judging.{stands}
+use Rattle.saw_journal.proofs.Judging.{fault_in, stands}
 use Rattle.saw_journal.proofs.SameParts.{neither}
 
 module _ (rules : Rules) (old : Ledger) (content : List ℕ) (kept : Kept) (fine : judged_in rules old content ≡ Ok kept) (new : New)
@@ -29,8 +30,12 @@ module _ (rules : Rules) (old : Ledger) (content : List ℕ) (kept : Kept) (fine
   made_of : IsFine rules content (map_under old.states) old.blocks kept
   made_of = is_fine rules content (map_under old.states) old.blocks kept fine
 
-  placed : None ≡ first_of (place_tests old.blocks made_of.parts.id made_of.parts.header)
-  placed = sym (neither (first_of (place_tests old.blocks made_of.parts.id made_of.parts.header)) _ made_of.faultless).0
+  placed : None ≡ first_in (place_tests old.blocks made_of.parts.id made_of.parts.header)
+  placed =
+      let parts = made_of.parts in
+      let before = map_under old.states (parent_of old.blocks parts.header) in
+      sym (neither (first_in (place_tests old.blocks parts.id parts.header)) _
+      (sym (fault_in rules.hash rules.policy old.blocks before (rules.runs before (txs_of parts.batches)) parts) ∙ made_of.faultless)).0
 
   -- a block without fault may join
   pub may_join : MayJoin rules.hash old new
@@ -75,12 +80,13 @@ module _ (rules : Rules) (old : Ledger) (content : List ℕ) (kept : Kept) (fine
 
 -- ---- clashes
 
-module _ (processors : Processors) (hash : List ℕ → List ℕ) (accepts : List ℕ → List ℕ → List ℕ → Bool) (old : Ledger) (content : List ℕ) where
+module _ (processors : Processors) (hash : List ℕ → List ℕ) (accepts : List ℕ → List ℕ → List ℕ → Bool) (policy : Policy) (old : Ledger)
+    (content : List ℕ) where
   abbrev AsClashes : JournalFault → Type 0
-  AsClashes = ClashesAs processors hash accepts old content
+  AsClashes = ClashesAs processors hash accepts policy old content
 
   -- the clash that ended the judgement
-  pub clashes_judged : (fault : JournalFault) → JudgedAs processors hash accepts old.blocks old.states content (Err (Failed fault)) → AsClashes fault
+  pub clashes_judged : (fault : JournalFault) → JudgedAs processors hash accepts policy old.blocks old.states content (Err (Failed fault)) → AsClashes fault
   clashes_judged (faults.Collision kept given) met = met
   clashes_judged faults.Full met = tt
   clashes_judged faults.PeerFailed met = tt

@@ -29,8 +29,8 @@ module _ (rules : Rules) (content : List ℕ) where
     pub parts : Parts
     pub form : is_hex_text 128 parts.id ≡ true
     pub judged_as : (f : Option BlockRecord → StateMap) (blocks : List BlockRecord)
-        → judged rules f blocks content ≡ judged_parts rules.hash rules.runs f blocks parts
-    pub leaves : (f : Option BlockRecord → StateMap) (blocks : List BlockRecord) → would_leave rules f blocks content ≡ left_parts rules.runs f blocks parts
+        → judged rules f blocks content ≡ judged_parts rules.hash rules.policy rules.runs f blocks parts
+    pub leaves : (f : Option BlockRecord → StateMap) (blocks : List BlockRecord) → would_leave rules f blocks content ≡ left_parts rules.hash rules.policy rules.runs f blocks parts
 
   tests_are : (b : Block) (header : BlockHeader) → block content ≡ Ok b → block_header b.header ≡ Ok header
       → structure_fault rules.accepts content ≡ structure_fault_by rules.accepts b (Ok header)
@@ -69,7 +69,7 @@ module _ (rules : Rules) (content : List ℕ) where
     | inl bad ↦ bad.judged_as f blocks ∙ sym (bad.judged_as g blocks)
     | inr is ↦
         is.judged_as f blocks
-        ∙ ap (λ m. judged_with rules.hash blocks m (rules.runs m (txs_of is.parts.batches)) is.parts) (agree is.parts.header)
+        ∙ ap (λ m. judged_with rules.hash rules.policy blocks m (rules.runs m (txs_of is.parts.batches)) is.parts) (agree is.parts.header)
         ∙ sym (is.judged_as g blocks)
   ]
 
@@ -79,7 +79,7 @@ module _ (rules : Rules) (content : List ℕ) where
       pub parts : Parts
       pub form : is_hex_text 128 parts.id ≡ true
       pub faultless : let before = f (parent_of blocks parts.header) in
-          fault_by rules.hash blocks before (rules.runs before (txs_of parts.batches)) parts ≡ None
+          fault_by rules.hash rules.policy blocks before (rules.runs before (txs_of parts.batches)) parts ≡ None
       pub made : let before = f (parent_of blocks parts.header) in kept_of rules.hash parts before (rules.runs before (txs_of parts.batches)) ≡ kept
 
     pub is_fine : judged rules f blocks content ≡ Ok kept → IsFine
@@ -88,7 +88,7 @@ module _ (rules : Rules) (content : List ℕ) where
       | inr is ↦
           let before = f (parent_of blocks is.parts.header) in
           let results = rules.runs before (txs_of is.parts.batches) in
-          let split = unless_ok (fault_by rules.hash blocks before results is.parts) (kept_of rules.hash is.parts before results) kept
+          let split = unless_ok (fault_by rules.hash rules.policy blocks before results is.parts) (kept_of rules.hash is.parts before results) kept
           (sym (is.judged_as f blocks) ∙ fine) in
           record { parts = is.parts; form = is.form; faultless = split.0; made = split.1 }
     ]

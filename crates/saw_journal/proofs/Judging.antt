@@ -1,5 +1,5 @@
 -- The tests of a block, one after another.
-use Rattle.std.proofs.Common.{◌≡◌, ℕ, Bool, true, false, List, [], ◌∷◌, Option, Some, None, refl, sym, ap, subst, ◌∙◌, arith, cond}
+use Rattle.std.proofs.Common.{◌≡◌, ℕ, Bool, true, false, List, [], ◌∷◌, ◌++◌, Option, Some, None, refl, sym, ap, subst, ◌∙◌, arith, cond}
 use Rattle.std.specs.Prelude.{◌&&◌, ◌||◌, ◌==◌, not, Err, Ok, IsSome, if◌then◌else◌, unwrap_or}
 use Rattle.std.specs.FinMap as finite
 use Rattle.std.specs.Str.{bytes_eq}
@@ -8,8 +8,7 @@ use Rattle.std.specs.Cmp.Lexicographic.{nat_list_cmp_total}
 use Rattle.std.proofs.lemmas.Bool.{eqb-true}
 use Rattle.saw_address.specs.Maps.{StateMap, no_entries}
 use Rattle.saw_address.specs.Texts.{is_hex_text}
-use Rattle.saw_checks.specs.Tests.{first_of, ◌<|>◌}
-use Rattle.saw_context.specs.Serial.{left_after}
+use Rattle.saw_checks.specs.Tests.{◌<|>◌}
 use Rattle.saw_context.specs.declared.batch_result.BatchResult.{BatchResult}
 use Rattle.saw_merkle.specs.States.{States, knows, map_at, state_at}
 use Rattle.saw_messages.specs.declared.block.BlockHeader.{BlockHeader}
@@ -17,7 +16,8 @@ use Rattle.saw_node.specs.Trees.{root_of_map}
 use Rattle.saw_plan.specs.BatchShapes.{txs_of}
 use Rattle.saw_receipts.specs.declared.block.BlockRecord.{BlockRecord}
 use Rattle.saw_receipts.specs.declared.verdict.BlockFault.{BlockFault}
-use Rattle.saw_journal.specs.BlockFaults.{due_behind, failure_fault, ids_before, is_first, parent_of, place_tests, root_fault, static_fault}
+use Rattle.saw_journal.specs.BlockFaults.{Test, due_behind, failure_fault, fault_but_root, fault_by, first_in, ids_before, is_first, parent_of, place_tests, rule_tests, run_tests, when}
+use Rattle.saw_rules.specs.Policies.{Policy}
 use Rattle.saw_receipts.specs.Branches.{block_at, has_block, has_first, no_block}
 use Rattle.saw_journal.specs.Judgement.{Kept, judged_parts, kept_of, unless}
 use Rattle.saw_receipts.specs.Running.{Runs}
@@ -36,44 +36,79 @@ decides first rest kept fault e = ap (λ first. unless (first <|> rest) kept) (s
 goes_on : (first rest : Option BlockFault) (kept : Kept) → None ≡ first → unless (first <|> rest) kept ≡ unless rest kept
 goes_on first rest kept e = ap (λ first. unless (first <|> rest) kept) (sym e)
 
-module _ (hash : List ℕ → List ℕ) (runs : Runs) (blocks : List BlockRecord) (states : States) (parts : Parts) where
+or_other : {F : Type 0} (a b c : Option F) → ((a <|> b) <|> c) ≡ (a <|> (b <|> c))
+or_other None b c = refl
+or_other (Some fault) b c = refl
+
+pub or_none : {F : Type 0} (a : Option F) → (a <|> None) ≡ a
+or_none None = refl
+or_none (Some fault) = refl
+
+-- tests behind others
+first_in_both : (tests others : List Test) → first_in (tests ++ others) ≡ (first_in tests <|> first_in others)
+first_in_both [] others = refl
+first_in_both ((n, None) ∷ tests) others = first_in_both tests others
+first_in_both ((n, Some fault) ∷ tests) others = refl
+
+module _ (hash : List ℕ → List ℕ) (policy : Policy) (blocks : List BlockRecord) (before : StateMap) (results : List BatchResult) (parts : Parts) where
+  abbrev place : List Test
+  place = place_tests blocks parts.id parts.header
+
+  abbrev rule : List Test
+  rule = rule_tests policy (ids_before blocks parts.header) before parts.header.signer_public_key parts.batches
+
+  in_three : (last : List Test) → first_in (place ++ rule ++ last) ≡ (first_in place <|> (first_in rule <|> first_in last))
+  in_three last =
+      first_in_both (place ++ rule) last ∙ ap (λ first. first <|> first_in last) (first_in_both place rule)
+      ∙ or_other (first_in place) (first_in rule) (first_in last)
+
+  -- the stretches of the tests, in order
+  pub fault_in : fault_by hash policy blocks before results parts ≡ (first_in place <|> (first_in rule <|> first_in (run_tests hash before results parts.header)))
+  fault_in = in_three (run_tests hash before results parts.header)
+
+  pub but_root : fault_but_root hash policy blocks before results parts ≡ (first_in place <|> (first_in rule <|> failure_fault results))
+  but_root = in_three ((14, failure_fault results) ∷ []) ∙ ap (λ last. first_in place <|> (first_in rule <|> last)) (or_none (failure_fault results))
+
+module _ (hash : List ℕ → List ℕ) (policy : Policy) (runs : Runs) (blocks : List BlockRecord) (states : States) (parts : Parts) where
   abbrev before : StateMap
   before = map_under states (parent_of blocks parts.header)
 
   abbrev came : List BatchResult
   came = runs before (txs_of parts.batches)
 
-  abbrev behind : List BatchResult → StateMap → Option BlockFault
-  behind results m = failure_fault results <|> root_fault parts.header (root_of_map hash (left_after m results))
+  abbrev placing : Option BlockFault
+  placing = first_in (place_tests blocks parts.id parts.header)
+
+  abbrev ruling : StateMap → Option BlockFault
+  ruling m = first_in (rule_tests policy (ids_before blocks parts.header) m parts.header.signer_public_key parts.batches)
+
+  abbrev running : List BatchResult → StateMap → Option BlockFault
+  running results m = first_in (run_tests hash m results parts.header)
+
+  in_order : judged_parts hash policy runs (map_under states) blocks parts ≡ unless (placing <|> (ruling before <|> running came before)) (kept_of hash parts before came)
+  in_order = ap (λ found. unless found (kept_of hash parts before came)) (fault_in hash policy blocks before came parts)
 
   -- a fault of its place
-  pub misplaced : (fault : BlockFault) → Some fault ≡ first_of (place_tests blocks parts.id parts.header)
-      → judged_parts hash runs (map_under states) blocks parts ≡ Err fault
-  misplaced fault found =
-      decides (first_of (place_tests blocks parts.id parts.header))
-      (static_fault (ids_before blocks parts.header) parts.batches <|> behind came before) (kept_of hash parts before came) fault found
+  pub misplaced : (fault : BlockFault) → Some fault ≡ first_in (place_tests blocks parts.id parts.header)
+      → judged_parts hash policy runs (map_under states) blocks parts ≡ Err fault
+  misplaced fault found = in_order ∙ decides placing (ruling before <|> running came before) (kept_of hash parts before came) fault found
 
-  module _ (placed : None ≡ first_of (place_tests blocks parts.id parts.header)) where
-    to_static : judged_parts hash runs (map_under states) blocks parts ≡ unless
-        (static_fault (ids_before blocks parts.header) parts.batches <|> behind came before) (kept_of hash parts before came)
-    to_static = goes_on (first_of (place_tests blocks parts.id parts.header))
-        (static_fault (ids_before blocks parts.header) parts.batches <|> behind came before) (kept_of hash parts before came) placed
+  module _ (placed : None ≡ first_in (place_tests blocks parts.id parts.header)) where
+    to_rules : judged_parts hash policy runs (map_under states) blocks parts ≡ unless (ruling before <|> running came before) (kept_of hash parts before came)
+    to_rules = in_order ∙ goes_on placing (ruling before <|> running came before) (kept_of hash parts before came) placed
 
-    -- a batch is dropped
-    pub dropped : (fault : BlockFault) → static_fault (ids_before blocks parts.header) parts.batches ≡ Some fault
-        → judged_parts hash runs (map_under states) blocks parts ≡ Err fault
-    dropped fault found = to_static ∙ decides (static_fault (ids_before blocks parts.header) parts.batches) (behind came before)
-        (kept_of hash parts before came) fault (sym found)
+    -- its batches may not stand in it
+    pub ruled_out : (fault : BlockFault) → ruling before ≡ Some fault → judged_parts hash policy runs (map_under states) blocks parts ≡ Err fault
+    ruled_out fault found = to_rules ∙ decides (ruling before) (running came before) (kept_of hash parts before came) fault (sym found)
 
-    module _ (whole : static_fault (ids_before blocks parts.header) parts.batches ≡ None) (results : List BatchResult) (at : List ℕ)
-        (same : before ≡ map_at states at) (run : came ≡ results) where
+    module _ (whole : ruling before ≡ None) (results : List BatchResult) (at : List ℕ) (same : before ≡ map_at states at) (run : came ≡ results) where
       -- what comes of its results
-      pub by_run : judged_parts hash runs (map_under states) blocks parts ≡ unless (run_fault hash states at parts results)
+      pub by_run : judged_parts hash policy runs (map_under states) blocks parts ≡ unless (run_fault hash states at parts results)
           (kept_of hash parts (map_at states at) results)
       by_run =
-          to_static ∙ goes_on (static_fault (ids_before blocks parts.header) parts.batches) (behind came before) (kept_of hash parts before came) (sym whole)
-          ∙ ap (λ results. unless (behind results before) (kept_of hash parts before results)) run
-          ∙ ap (λ m. unless (behind results m) (kept_of hash parts m results)) same
+          to_rules ∙ goes_on (ruling before) (running came before) (kept_of hash parts before came) (sym whole)
+          ∙ ap (λ results. unless (running results before) (kept_of hash parts before results)) run
+          ∙ ap (λ m. unless (running results m) (kept_of hash parts m results)) same
 
 -- ---- the map before a block
 
@@ -81,9 +116,10 @@ pub first_not : {F : Type 0} (b : Bool) (fault : F) (others : Option F) → None
 first_not true fault others e = absurd cc
 first_not false fault others e = refl
 
-then_rest : {F : Type 0} (b : Bool) (fault : F) (others : Option F) → None ≡ (if b then Some fault else others) → None ≡ others
-then_rest true fault others e = absurd cc
-then_rest false fault others e = e
+-- a test that is passed
+pub passes : (b : Bool) (fault : BlockFault) (others : Option BlockFault) → None ≡ (when b fault <|> others) → (b ≡ false) × (None ≡ others)
+passes true fault others e = absurd cc
+passes false fault others e = (refl, e)
 
 pub not_not : (b : Bool) → not b ≡ false → b ≡ true
 not_not true e = refl
@@ -93,24 +129,24 @@ either_true : (a b : Bool) → (not a && not b) ≡ false → (a || b) ≡ true
 either_true true b e = refl
 either_true false b e = not_not b e
 
-module _ (blocks : List BlockRecord) (id : List ℕ) (header : BlockHeader) (placed : None ≡ first_of (place_tests blocks id header)) where
+module _ (blocks : List BlockRecord) (id : List ℕ) (header : BlockHeader) (placed : None ≡ first_in (place_tests blocks id header)) where
   pub is_fresh : has_block blocks id ≡ false
-  is_fresh = first_not (has_block blocks id) _ _ placed
+  is_fresh = (passes (has_block blocks id) _ _ placed).0
 
   pub first_once : (is_first header && has_first blocks) ≡ false
-  first_once = first_not (is_first header && has_first blocks) _ _ (then_rest (has_block blocks id) _ _ placed)
+  first_once = (passes (is_first header && has_first blocks) _ _ (passes (has_block blocks id) _ _ placed).1).0
 
   pub previous_known : (not (is_first header) && not (has_block blocks header.previous_block_id)) ≡ false
-  previous_known = first_not (not (is_first header) && not (has_block blocks header.previous_block_id)) _ _
-      (then_rest (is_first header && has_first blocks) _ _ (then_rest (has_block blocks id) _ _ placed))
+  previous_known = (passes (not (is_first header) && not (has_block blocks header.previous_block_id)) _ _
+      (passes (is_first header && has_first blocks) _ _ (passes (has_block blocks id) _ _ placed).1).1).0
 
   pub number_due : header.block_num ≡ due_behind (parent_of blocks header)
   number_due =
-      let numbered = then_rest (not (is_first header) && not (has_block blocks header.previous_block_id)) _ _
-      (then_rest (is_first header && has_first blocks) _ _ (then_rest (has_block blocks id) _ _ placed)) in
+      let numbered = (passes (not (is_first header) && not (has_block blocks header.previous_block_id)) _ _
+      (passes (is_first header && has_first blocks) _ _ (passes (has_block blocks id) _ _ placed).1).1).1 in
       eqb-true header.block_num (due_behind (parent_of blocks header))
       (not_not (header.block_num == due_behind (parent_of blocks header))
-      (first_not (not (header.block_num == due_behind (parent_of blocks header))) _ _ numbered))
+      (passes (not (header.block_num == due_behind (parent_of blocks header))) _ _ numbered).0)
 
   -- a block with this id and header stands behind the others
   pub stands : is_hex_text 128 id ≡ true → (block : BlockRecord) → block.id ≡ id → block.previous ≡ header.previous_block_id
@@ -150,7 +186,7 @@ missing_is (block ∷ blocks) id e = missing_here (bytes_eq block.id id) block (
 
 module _ (hash : List ℕ → List ℕ) (ids : List (List ℕ)) (blocks : List BlockRecord) (states : States) (founded : IsFounded hash ids blocks states)
     (id : List ℕ) (header : BlockHeader)
-    (placed : None ≡ first_of (place_tests blocks id header)) where
+    (placed : None ≡ first_in (place_tests blocks id header)) where
   -- the map before a block is that under the root before it, which is known
   abbrev pub IsBefore : Option BlockRecord → Type 0
   IsBefore parent = (map_under states parent ≡ map_at states (root_before hash parent)) × IsSome (state_at states (root_before hash parent))
@@ -179,7 +215,7 @@ module _ (hash : List ℕ → List ℕ) (ids : List (List ℕ)) (blocks : List B
   pub is_before : IsBefore (parent_of blocks header)
   is_before = by_first (is_first header) refl
 
-module _ (blocks : List BlockRecord) (id : List ℕ) (header : BlockHeader) (placed : None ≡ first_of (place_tests blocks id header))
+module _ (blocks : List BlockRecord) (id : List ℕ) (header : BlockHeader) (placed : None ≡ first_in (place_tests blocks id header))
     (parent : Option BlockRecord) (is : parent ≡ parent_of blocks header) where
   -- the root before a block is known, and has the map behind its parent
   pub at_root : (hash : List ℕ → List ℕ) (ids : List (List ℕ)) (states : States) → IsFounded hash ids blocks states → (root : List ℕ)

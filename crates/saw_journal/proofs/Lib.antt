@@ -19,3 +19,4 @@ pub mod KnownBranches
 pub mod Leaving
 pub mod Recorded
 pub mod Passing
+pub mod Numbered

@@ -1,27 +1,56 @@
--- What comes of a block's batches by the static rules and by their run.
-use Rattle.std.proofs.Common.{◌≡◌, List, Result, Ok, Err, refl, sym, subst}
+-- What comes of a block's batches by the rules on them and by their run.
+use Rattle.std.proofs.Common.{◌≡◌, ℕ, List, [], ◌∷◌, ◌++◌, Option, Some, None, Result, Ok, Err, refl, sym, ap, subst, ◌∙◌}
 use Rattle.std.specs.Prelude.{IsErrOf}
 use Rattle.saw_address.specs.Maps.{StateMap}
+use Rattle.saw_checks.specs.Tests.{◌<|>◌}
 use Rattle.saw_context.specs.Outcome.{Processors}
 use Rattle.saw_crew.specs.declared.fault.CrewFault.{CrewFault}
 use Rattle.saw_crew.specs.declared.fault.CrewFault.TheVariants as crew
 use Rattle.saw_messages.specs.TxShapes.{BatchShape}
 use Rattle.saw_plan.specs.StaticRules.{Ids}
-use Rattle.saw_journal.specs.BlockFaults.{static_fault}
+use Rattle.saw_receipts.specs.declared.verdict.BlockFault.{BlockFault}
+use Rattle.saw_rules.specs.Policies.{Policy, first_behind, no_policy}
+use Rattle.saw_journal.proofs.Judging.{or_none}
+use Rattle.saw_journal.specs.BlockFaults.{policy_fault, static_fault}
 use Rattle.saw_journal.specs.LowerFaults.{fault_of_crew}
-use Rattle.saw_journal.specs.Passing.{RanAs}
+use Rattle.saw_journal.specs.Passing.{RanAs, rule_fault}
 use Rattle.saw_journal.specs.Stops.{IsStop}
 use Rattle.saw_journal.specs.declared.fault.JournalFault.TheVariants as faults
 use Rattle.saw_journal.specs.declared.ran.Ran.{Ran}
 use Rattle.saw_journal.specs.declared.stop.Stop.{Stop}
 use Rattle.saw_journal.specs.declared.stop.Stop.TheVariants.{Refused, Failed}
 
-module _ (processors : Processors) (m : StateMap) (peer : Type 0) (there : Ids) (batches : List BatchShape) where
-  abbrev Ends : Stop → Type 0
-  Ends stop = RanAs processors m peer there batches (Err stop)
+none_behind : (m : StateMap) (signer : List ℕ) (before batches : List BatchShape)
+    → first_behind no_policy.fault no_policy.end_fault m signer before batches ≡ None
+none_behind m signer before [] = refl
+none_behind m signer before (batch ∷ batches) = none_behind m signer (before ++ batch ∷ []) batches
 
-  -- the rules drop a batch, unless memory ran out
-  pub stopped : (stop : Stop) → IsStop (static_fault there batches) stop → Ends stop
+-- without a policy nothing is wrong
+pub no_policy_passes : (m : StateMap) (signer : List ℕ) (batches : List BatchShape) → policy_fault no_policy m signer batches ≡ None
+no_policy_passes m signer batches = rw (none_behind m signer [] batches) refl
+
+-- the static rules, and then the policy
+module _ (policy : Policy) (m : StateMap) (signer : List ℕ) (there : Ids) (batches : List BatchShape) where
+  pub first_dropped_is : (stop : Stop) → IsStop (static_fault there batches) stop → IsStop (rule_fault policy m signer there batches) stop
+  first_dropped_is (Refused fault) is = ap (λ found. found <|> (policy_fault policy m signer batches <|> None)) is
+  first_dropped_is (Failed fault) is = is
+
+  pub then_policy : (found : Option BlockFault) → static_fault there batches ≡ None → policy_fault policy m signer batches ≡ found
+      → rule_fault policy m signer there batches ≡ found
+  then_policy found none is =
+      ap (λ dropped. dropped <|> (policy_fault policy m signer batches <|> None)) none ∙ or_none (policy_fault policy m signer batches) ∙ is
+
+  pub policy_is : (stop : Stop) → static_fault there batches ≡ None → IsStop (policy_fault policy m signer batches) stop
+      → IsStop (rule_fault policy m signer there batches) stop
+  policy_is (Refused fault) none is = then_policy (Some fault) none is
+  policy_is (Failed fault) none is = is
+
+module _ (processors : Processors) (peer : Type 0) (policy : Policy) (m : StateMap) (signer : List ℕ) (there : Ids) (batches : List BatchShape) where
+  abbrev Ends : Stop → Type 0
+  Ends stop = RanAs processors peer policy m signer there batches (Err stop)
+
+  -- nothing is run, as there is a fault before, unless memory ran out
+  pub stopped : (stop : Stop) → IsStop (rule_fault policy m signer there batches) stop → Ends stop
   stopped (Refused fault) is = is
   stopped (Failed fault) is = subst (λ fault. Ends (Failed fault)) (sym is) tt
 
@@ -45,7 +74,8 @@ module _ (processors : Processors) (m : StateMap) (peer : Type 0) (there : Ids) 
   peer_tells (Failed faults.OutOfMemory) is failed = absurd cc
 
   -- where no processor can fail
-  pub without_peer : (result : Result Ran Stop) → RanAs processors m ⊥ there batches result → RanAs processors m peer there batches result
+  pub without_peer : (result : Result Ran Stop) → RanAs processors ⊥ policy m signer there batches result
+      → RanAs processors peer policy m signer there batches result
   without_peer (Ok ran) is = is
   without_peer (Err (Refused fault)) is = is
   without_peer (Err (Failed (faults.Collision kept given))) is = is

@@ -3,11 +3,10 @@ use Rattle.std.proofs.Common.{◌≡◌, ◌≢◌, ℕ, Bool, true, false, List
 use Rattle.std.specs.Prelude.{◌&&◌, ◌==◌, codes, is_none, is_some, nat_eq, not, option_copied, if◌then◌else◌}
 use Rattle.std.specs.List.{starts_with}
 use Rattle.std.proofs.lemmas.Bool.{eq-eqb, ne_eqb}
-use Rattle.saw_checks.specs.Tests.{first_of}
 use Rattle.saw_messages.specs.declared.block.BlockHeader.{BlockHeader}
 use Rattle.saw_receipts.specs.declared.block.BlockRecord.{BlockRecord}
 use Rattle.saw_receipts.specs.declared.verdict.BlockFault.TheVariants.{BlockNumber, Consensus, PreviousUnknown}
-use Rattle.saw_journal.specs.BlockFaults.{due_behind, is_first, parent_of, place_tests}
+use Rattle.saw_journal.specs.BlockFaults.{due_behind, first_in, is_first, parent_of, place_tests}
 use Rattle.saw_receipts.specs.Branches.{block_at, has_block, has_first}
 use Rattle.saw_journal.proofs.Lookups.{copied_is_some, is_there}
 
@@ -26,7 +25,7 @@ module _ (blocks : List BlockRecord) (id : List ℕ) (header : BlockHeader) (par
       (is_there blocks header.previous_block_id)
 
   module _ (fresh : has_block blocks id ≡ false) (once : (is_first header && has_first blocks) ≡ false) where
-    pub unknown : (not (is_first header) && is_none parent) ≡ true → first_of (place_tests blocks id header) ≡ Some PreviousUnknown
+    pub unknown : (not (is_first header) && is_none parent) ≡ true → first_in (place_tests blocks id header) ≡ Some PreviousUnknown
     unknown none = let here = sym unknown_is ∙ none in rw (fresh, once, here) refl
 
     module _ (there : (not (is_first header) && is_none parent) ≡ false) (due : ℕ) (due_is : due ≡ due_behind (option_copied parent)) where
@@ -36,7 +35,7 @@ module _ (blocks : List BlockRecord) (id : List ℕ) (header : BlockHeader) (par
       due_at : due ≡ due_behind (parent_of blocks header)
       due_at = due_is ∙ ap due_behind is
 
-      pub other_number : header.block_num ≢ due → first_of (place_tests blocks id header) ≡ Some (BlockNumber header.block_num due)
+      pub other_number : header.block_num ≢ due → first_in (place_tests blocks id header) ≡ Some (BlockNumber header.block_num due)
       other_number other = let here = ap (λ due. not (header.block_num == due)) (sym due_at) ∙ ap not (ne_eqb header.block_num due other) in
           rw (fresh, once, known, here) (ap (λ due. Some (BlockNumber header.block_num due)) (sym due_at))
 
@@ -45,9 +44,9 @@ module _ (blocks : List BlockRecord) (id : List ℕ) (header : BlockHeader) (par
         numbered = ap (λ due. not (header.block_num == due)) (sym due_at) ∙ ap not (eq-eqb header.block_num due number)
 
         pub other_consensus : (not (is_first header) && not (starts_with nat_eq header.consensus (codes "Devmode"))) ≡ true
-            → first_of (place_tests blocks id header) ≡ Some Consensus
+            → first_in (place_tests blocks id header) ≡ Some Consensus
         other_consensus other = rw (fresh, once, known, numbered, other) refl
 
         pub placed : (not (is_first header) && not (starts_with nat_eq header.consensus (codes "Devmode"))) ≡ false
-            → first_of (place_tests blocks id header) ≡ None
+            → first_in (place_tests blocks id header) ≡ None
         placed same = rw (fresh, once, known, numbered, same) refl

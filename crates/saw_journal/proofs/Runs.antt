@@ -1,6 +1,6 @@
 -- A block's batches over the map before it.
 use Rattle.std.proofs.Common.{◌≡◌, ◌<◌, ◌^◌, ℕ, List, [], ◌∷◌, length, Option, Some, None, Result, Ok, Err, refl, sym, ap, subst, ◌∙◌, arith}
-use Rattle.std.specs.Prelude.{IsSome}
+use Rattle.std.specs.Prelude.{IfOk, IsSome}
 use Rattle.std.proofs.lemmas.List.{length-map}
 use Rattle.saw_address.specs.Maps.{StateMap}
 use Rattle.saw_checks.specs.Tests.{◌<|>◌}
@@ -25,12 +25,14 @@ use Rattle.saw_journal.specs.BlockFaults.{failure_fault, root_fault}
 use Rattle.saw_journal.specs.Judgement.{batch_records}
 use Rattle.saw_journal.specs.LowerFaults.{fault_of_store}
 use Rattle.saw_journal.specs.Parted.{RunsAs, run_fault}
-use Rattle.saw_journal.specs.Stops.{IsStop}
+use Rattle.saw_receipts.specs.declared.block.BatchRecord.{BatchRecord}
+use Rattle.saw_journal.specs.Stops.{IsStop, TestsAs}
 use Rattle.saw_journal.specs.declared.branch_ids.BranchIds.{BranchIds}
 use Rattle.saw_journal.specs.declared.judge.New.{New}
 use Rattle.saw_journal.specs.declared.stop.Stop.{Stop}
 use Rattle.saw_journal.specs.declared.stop.Stop.TheVariants.{Refused, Failed}
 use Rattle.saw_journal.specs.BlockShapes.{parts_in}
+use Rattle.saw_journal.proofs.Judging.{or_none}
 use Rattle.saw_checks.specs.declared.checked.CheckedBlock.{CheckedBlock}
 
 -- ---- results
@@ -59,7 +61,7 @@ module _ (processors : Processors) (hash : List ℕ → List ℕ) (states : Stat
     results,
     record {
       may = may;
-      tested = ap (λ found. found <|> root_fault checked.header (root_of_map hash (left_after (map_at states before) results))) failed;
+      tested = ap (λ found. found <|> (root_fault checked.header (root_of_map hash (left_after (map_at states before) results)) <|> None)) failed;
     },
   )
 
@@ -78,8 +80,8 @@ module _ (processors : Processors) (hash : List ℕ → List ℕ) (states : Stat
 
       then_root : (found : Option BlockFault) → root_fault checked.header root ≡ found → run_fault hash states before (parts_in checked) results ≡ found
       then_root found told =
-          ap (λ first. first <|> root_fault checked.header (root_of_map hash (left_after (map_at states before) results))) none
-          ∙ ap (root_fault checked.header) (sym root_is) ∙ told
+          ap (λ first. first <|> (root_fault checked.header (root_of_map hash (left_after (map_at states before) results)) <|> None)) none
+          ∙ ap (λ root. root_fault checked.header root <|> None) (sym root_is) ∙ or_none (root_fault checked.header root) ∙ told
 
       -- it states another root
       pub other_root : (stop : Stop) → IsStop (root_fault checked.header root) stop → Answers (Err stop)
@@ -119,3 +121,36 @@ module _ (processors : Processors) (hash : List ℕ → List ℕ) (states : Stat
           prepared = subst (λ (m : StateMap). IsPreparedFor hash states m prepared) left ready;
         },
       )
+
+      -- what comes of the test of the root
+      pub by_root : (ids : BranchIds) (batches : List BatchRecord) (prepared : Preparation) → batches ≡ batch_records checked.batches results
+          → IsSome (state_at states before) → AreRising changes → IsPreparedFor hash states (map_after (map_at states before) changes) prepared
+          → (result : Result New Stop) → TestsAs (root_fault checked.header root) result
+          → IfOk result (λ new. new ≡ record {
+            block = record {
+              id = checked.id;
+              number = checked.header.block_num;
+              previous = checked.header.previous_block_id;
+              signer =
+                  checked.header.signer_public_key;
+              root = root;
+              batches = batches;
+            };
+            ids = ids;
+            before = before;
+            changes = changes;
+            prepared = prepared;
+          })
+          → Answers result
+      by_root ids batches prepared all known rising ready (Err stop) told made = other_root stop told
+      by_root ids batches prepared all known rising ready (Ok new) told made =
+          subst (λ new. Answers (Ok new)) (sym made) (is_new _ ids prepared told known rising ready
+          (ap (λ (batches : List BatchRecord). record {
+            id = checked.id;
+            number = checked.header.block_num;
+            previous = checked.header.previous_block_id;
+            signer =
+                checked.header.signer_public_key;
+            root = root;
+            batches = batches;
+          }) all))

@@ -16,8 +16,9 @@ use Rattle.saw_messages.specs.declared.tx.TxBatch.{TxBatch}
 use Rattle.saw_receipts.proofs.ReadBatches.{batch_is}
 use Rattle.saw_receipts.specs.declared.block.BlockRecord.{BlockRecord}
 use Rattle.saw_receipts.specs.declared.verdict.BlockFault.TheVariants.{Structure}
+use Rattle.saw_rules.specs.Policies.{Policy}
 use Rattle.saw_address.specs.Maps.{StateMap}
-use Rattle.saw_journal.specs.Judgement.{judged, judged_header, judged_parts, left_header, left_parts, rules_with, would_leave}
+use Rattle.saw_journal.specs.Judgement.{judged, judged_header, judged_parts, left_header, left_parts, rules_by, would_leave}
 use Rattle.saw_receipts.specs.Running.{Runs}
 use Rattle.saw_journal.specs.BlockShapes.{parts_in, parts_of}
 use Rattle.saw_receipts.specs.Shapes.{batch_in}
@@ -57,27 +58,27 @@ module _ (accepts : List ℕ → List ℕ → List ℕ → Bool) where
         (fine_batches is.read checked.header bytes is.decoded is.header fine) is.batches,
   ) refl
 
-  module _ (hash : List ℕ → List ℕ) (runs : Runs) (map_behind : Option BlockRecord → StateMap) (blocks : List BlockRecord) (content : List ℕ) where
+  module _ (hash : List ℕ → List ℕ) (policy : Policy) (runs : Runs) (map_behind : Option BlockRecord → StateMap) (blocks : List BlockRecord) (content : List ℕ) where
     -- what comes of bytes without a structure fault is what comes of their checked block
     pub judged_is : (checked : CheckedBlock) → structure_fault accepts content ≡ None → IsBlockOf content checked
-        → judged (rules_with hash accepts runs) map_behind blocks content ≡ judged_parts hash runs map_behind blocks (parts_in checked)
+        → judged (rules_by hash accepts policy runs) map_behind blocks content ≡ judged_parts hash policy runs map_behind blocks (parts_in checked)
     unfolding judged
     judged_is checked fine is =
-        let read : judged (rules_with hash accepts runs) map_behind blocks content ≡ judged_header hash runs map_behind blocks is.read
+        let read : judged (rules_by hash accepts policy runs) map_behind blocks content ≡ judged_header hash policy runs map_behind blocks is.read
         (Ok checked.header) = rw (fine, is.decoded, is.header) refl in
-        read ∙ ap (judged_parts hash runs map_behind blocks) (sym (same_parts content checked is fine))
+        read ∙ ap (judged_parts hash policy runs map_behind blocks) (sym (same_parts content checked is fine))
 
     -- and so is what they would leave
     pub left_is : (checked : CheckedBlock) → structure_fault accepts content ≡ None → IsBlockOf content checked
-        → would_leave (rules_with hash accepts runs) map_behind blocks content ≡ left_parts runs map_behind blocks (parts_in checked)
+        → would_leave (rules_by hash accepts policy runs) map_behind blocks content ≡ left_parts hash policy runs map_behind blocks (parts_in checked)
     unfolding would_leave
     left_is checked fine is =
-        let read : would_leave (rules_with hash accepts runs) map_behind blocks content ≡ left_header runs map_behind blocks is.read
+        let read : would_leave (rules_by hash accepts policy runs) map_behind blocks content ≡ left_header hash policy runs map_behind blocks is.read
         (Ok checked.header) = rw (fine, is.decoded, is.header) refl in
-        read ∙ ap (left_parts runs map_behind blocks) (sym (same_parts content checked is fine))
+        read ∙ ap (left_parts hash policy runs map_behind blocks) (sym (same_parts content checked is fine))
 
     -- and a structure fault is its fault
     pub judged_bad : (fault : StructureFault) → structure_fault accepts content ≡ Some fault
-        → judged (rules_with hash accepts runs) map_behind blocks content ≡ Err (Structure fault)
+        → judged (rules_by hash accepts policy runs) map_behind blocks content ≡ Err (Structure fault)
     unfolding judged
     judged_bad fault bad = rw bad refl

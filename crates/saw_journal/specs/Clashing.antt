@@ -6,8 +6,9 @@ use Rattle.saw_merkle.specs.Clashes.{IsClashFor}
 use Rattle.saw_merkle.specs.States.{States}
 use Rattle.saw_node.specs.Contents.{Node}
 use Rattle.saw_receipts.specs.declared.block.BlockRecord.{BlockRecord}
+use Rattle.saw_rules.specs.Policies.{Policy}
 use Rattle.saw_store.specs.declared.fault.StoreFault.TheVariants.{Collision}
-use Rattle.saw_journal.specs.Judgement.{Rules, rules_with, would_leave}
+use Rattle.saw_journal.specs.Judgement.{Rules, rules_by, would_leave}
 use Rattle.saw_receipts.specs.Running.{Runs}
 use Rattle.saw_journal.specs.Ledger.{Ledger, map_under}
 use Rattle.saw_receipts.specs.Running.{RunsBy}
@@ -22,11 +23,11 @@ pub record Clashes (rules : Rules) (states : States) (blocks : List BlockRecord)
   pub clash : IsClashFor rules.hash states left (Collision kept given)
 
 -- what a fault of a call says of nodes: where it tells two, they clash, by some way to run the block's batches
-abbrev pub ClashesAs : Processors → (List ℕ → List ℕ) → (List ℕ → List ℕ → List ℕ → Bool) → Ledger → List ℕ
+abbrev pub ClashesAs : Processors → (List ℕ → List ℕ) → (List ℕ → List ℕ → List ℕ → Bool) → Policy → Ledger → List ℕ
     → JournalFault → Type 0
-ClashesAs processors hash accepts old content (faults.Collision kept given) =
-    (runs : Runs) × RunsBy processors runs × Clashes (rules_with hash accepts runs) old.states old.blocks content kept given
-ClashesAs processors hash accepts old content _ = ⊤
+ClashesAs processors hash accepts policy old content (faults.Collision kept given) =
+    (runs : Runs) × RunsBy processors runs × Clashes (rules_by hash accepts policy runs) old.states old.blocks content kept given
+ClashesAs processors hash accepts policy old content _ = ⊤
 
 -- a fault that tells no nodes
 abbrev pub TellsNoNodes : JournalFault → Type 0

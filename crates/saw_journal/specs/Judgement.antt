@@ -3,7 +3,6 @@ use Rattle.std.specs.Prelude.{ℕ, Bool, List, [], map, Option, Some, None, Resu
 use Rattle.std.specs.List.{zip}
 use Rattle.saw_address.specs.Maps.{StateMap}
 use Rattle.saw_checks.specs.StructureFaults.{structure_fault}
-use Rattle.saw_checks.specs.Tests.{◌<|>◌}
 use Rattle.saw_checks.specs.declared.fault.StructureFault.{StructureFault}
 use Rattle.saw_checks.specs.declared.fault.StructureFault.TheVariants.{Undecodable}
 use Rattle.saw_context.specs.Serial.{left_after}
@@ -22,8 +21,9 @@ use Rattle.saw_receipts.specs.declared.block.BatchRecord.{BatchRecord}
 use Rattle.saw_receipts.specs.declared.block.BlockRecord.{BlockRecord}
 use Rattle.saw_receipts.specs.declared.verdict.BlockFault.{BlockFault}
 use Rattle.saw_receipts.specs.declared.verdict.BlockFault.TheVariants.{Structure}
+use Rattle.saw_rules.specs.Policies.{Policy, no_policy}
 use Rattle.saw_wire.specs.declared.fault.MessageFault.{MessageFault}
-use Rattle.saw_journal.specs.BlockFaults.{early_fault, failure_fault, fault_by, parent_of}
+use Rattle.saw_journal.specs.BlockFaults.{fault_but_root, fault_by, parent_of}
 use Rattle.saw_journal.specs.BlockShapes.{Parts, parts_of}
 
 -- what is kept of a block without fault
@@ -47,14 +47,19 @@ abbrev pub unless : {A : Type 0} → Option BlockFault → A → Result A BlockF
 unless None kept = Ok kept
 unless (Some fault) kept = Err fault
 
--- by what a block is judged: the hash of nodes, who vouches for signatures, and how batches are run
+-- by what a block is judged: the hash of nodes, who vouches for signatures, how batches are run, and a policy
 pub record Rules : Type 0 where
   pub hash : List ℕ → List ℕ
   pub accepts : List ℕ → List ℕ → List ℕ → Bool
   pub runs : Runs
+  pub policy : Policy
 
+abbrev pub rules_by : (List ℕ → List ℕ) → (List ℕ → List ℕ → List ℕ → Bool) → Policy → Runs → Rules
+rules_by hash accepts policy runs = record { hash = hash; accepts = accepts; runs = runs; policy = policy }
+
+-- by these without a policy
 abbrev pub rules_with : (List ℕ → List ℕ) → (List ℕ → List ℕ → List ℕ → Bool) → Runs → Rules
-rules_with hash accepts runs = record { hash = hash; accepts = accepts; runs = runs }
+rules_with hash accepts runs = rules_by hash accepts no_policy runs
 
 module _ (hash : List ℕ → List ℕ) where
   abbrev pub kept_of : Parts → StateMap → List BatchResult → Kept
@@ -71,14 +76,14 @@ module _ (hash : List ℕ → List ℕ) where
     left = left_after before results;
   }
 
-  abbrev pub judged_with : List BlockRecord → StateMap → List BatchResult → Parts → Result Kept BlockFault
-  judged_with blocks before results parts = unless (fault_by hash blocks before results parts) (kept_of parts before results)
+  abbrev pub judged_with : Policy → List BlockRecord → StateMap → List BatchResult → Parts → Result Kept BlockFault
+  judged_with policy blocks before results parts = unless (fault_by hash policy blocks before results parts) (kept_of parts before results)
 
-  module _ (runs : Runs) (map_behind : Option BlockRecord → StateMap) where
+  module _ (policy : Policy) (runs : Runs) (map_behind : Option BlockRecord → StateMap) where
     -- of a block whose structure has no fault: its batches are run over the map behind its parent
     abbrev pub judged_parts : List BlockRecord → Parts → Result Kept BlockFault
     judged_parts blocks parts =
-        judged_with blocks (map_behind (parent_of blocks parts.header)) (runs (map_behind (parent_of blocks parts.header)) (txs_of parts.batches)) parts
+        judged_with policy blocks (map_behind (parent_of blocks parts.header)) (runs (map_behind (parent_of blocks parts.header)) (txs_of parts.batches)) parts
 
     abbrev pub judged_header : List BlockRecord → Block → Result BlockHeader MessageFault → Result Kept BlockFault
     judged_header blocks b (Ok header) = judged_parts blocks (parts_of b header)
@@ -95,7 +100,7 @@ module _ (hash : List ℕ → List ℕ) where
 -- what comes of the bytes of a block behind accepted ones
 unfoldable pub judged : Rules → (Option BlockRecord → StateMap) → List BlockRecord → List ℕ → Result Kept BlockFault
 judged rules map_behind blocks content =
-    judged_unless rules.hash rules.runs map_behind blocks content (structure_fault rules.accepts content)
+    judged_unless rules.hash rules.policy rules.runs map_behind blocks content (structure_fault rules.accepts content)
 
 -- ---- the map that a block would leave, also where it is refused then for its root
 
@@ -103,13 +108,13 @@ abbrev pub some_unless : {A : Type 0} → Option BlockFault → A → Option A
 some_unless None left = Some left
 some_unless (Some fault) left = None
 
-module _ (runs : Runs) (map_behind : Option BlockRecord → StateMap) where
-  -- what its batches leave of the map behind its parent, where its place, the static rules and their run have no fault
+module _ (hash : List ℕ → List ℕ) (policy : Policy) (runs : Runs) (map_behind : Option BlockRecord → StateMap) where
+  -- what its batches leave of the map behind its parent, where no test but that of the root finds a fault
   abbrev pub left_parts : List BlockRecord → Parts → Option StateMap
   left_parts blocks parts =
       let before = map_behind (parent_of blocks parts.header) in
       let results = runs before (txs_of parts.batches) in
-      some_unless (early_fault blocks parts <|> failure_fault results) (left_after before results)
+      some_unless (fault_but_root hash policy blocks before results parts) (left_after before results)
 
   abbrev pub left_header : List BlockRecord → Block → Result BlockHeader MessageFault → Option StateMap
   left_header blocks b (Ok header) = left_parts blocks (parts_of b header)
@@ -126,4 +131,4 @@ module _ (runs : Runs) (map_behind : Option BlockRecord → StateMap) where
 -- the map that the bytes of a block would leave behind accepted ones: none where its batches are not run or one fails
 unfoldable pub would_leave : Rules → (Option BlockRecord → StateMap) → List BlockRecord → List ℕ → Option StateMap
 would_leave rules map_behind blocks content =
-    left_unless rules.runs map_behind blocks content (structure_fault rules.accepts content)
+    left_unless rules.hash rules.policy rules.runs map_behind blocks content (structure_fault rules.accepts content)

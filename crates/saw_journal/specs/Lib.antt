@@ -2,6 +2,7 @@ pub mod LowerFaults
 pub mod Stops
 pub mod BlockShapes
 pub mod BlockFaults
+pub mod Numbered
 pub mod Judgement
 pub mod Linked
 pub mod Left

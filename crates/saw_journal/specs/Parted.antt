@@ -3,7 +3,6 @@ use Rattle.std.specs.Prelude.{◌≡◌, ◌<◌, ℕ, Bool, true, false, List, 
 use Rattle.std.specs.Prelude.{Result, Ok, Err}
 use denote.Ref.{Bor}
 use Rattle.saw_address.specs.Maps.{no_entries}
-use Rattle.saw_checks.specs.Tests.{first_of, ◌<|>◌}
 use Rattle.saw_context.specs.Changed.{AreRising}
 use Rattle.saw_context.specs.Outcome.{Processors, map_after}
 use Rattle.saw_context.specs.Possible.{MayComeOfAll}
@@ -22,12 +21,13 @@ use Rattle.saw_receipts.specs.declared.block.BlockRecord.{BlockRecord}
 use Rattle.saw_receipts.specs.declared.verdict.BlockFault.{BlockFault}
 use Rattle.saw_receipts.specs.declared.verdict.Verdict.{Verdict}
 use Rattle.saw_receipts.specs.declared.verdict.Verdict.TheVariants as verdicts
+use Rattle.saw_rules.specs.Policies.{Policy}
 use Rattle.saw_store.specs.declared.fault.StoreFault.TheVariants.{Collision}
-use Rattle.saw_journal.specs.BlockFaults.{failure_fault, parent_of, place_tests, root_fault, static_fault}
+use Rattle.saw_journal.specs.BlockFaults.{failure_fault, first_in, parent_of, place_tests, run_tests, static_fault}
 use Rattle.saw_journal.specs.BlockShapes.{Parts}
 use Rattle.saw_journal.specs.Clashing.{Clashes}
 use Rattle.saw_receipts.specs.Heads.{head_of, is_new_head}
-use Rattle.saw_journal.specs.Judgement.{Kept, judged, kept_of, rules_with}
+use Rattle.saw_journal.specs.Judgement.{Kept, judged, kept_of, rules_by}
 use Rattle.saw_receipts.specs.Running.{Runs}
 use Rattle.saw_journal.specs.Ledger.{Ledger, map_under}
 use Rattle.saw_receipts.specs.Running.{RunsBy}
@@ -41,8 +41,8 @@ use Rattle.saw_journal.specs.declared.stop.Stop.TheVariants.{Refused, Failed}
 
 -- the accepted block before one that states this place, or the first fault of the place
 abbrev pub PlacedAs : List BlockRecord → List ℕ → BlockHeader → Result (Option (Bor BlockRecord)) Stop → Type 0
-PlacedAs blocks id header (Ok parent) = (first_of (place_tests blocks id header) ≡ None) × (option_copied parent ≡ parent_of blocks header)
-PlacedAs blocks id header (Err stop) = IsStop (first_of (place_tests blocks id header)) stop
+PlacedAs blocks id header (Ok parent) = (first_in (place_tests blocks id header) ≡ None) × (option_copied parent ≡ parent_of blocks header)
+PlacedAs blocks id header (Err stop) = IsStop (first_in (place_tests blocks id header)) stop
 
 -- a plan of all batches, or the fault of the first that is dropped
 abbrev pub PlansAs : Ids → List BatchShape → Result Plan Stop → Type 0
@@ -65,8 +65,7 @@ pub record IsNew (hash : List ℕ → List ℕ) (states : States) (kept : Kept) 
 
 -- the tests of a block that need the results of its batches
 abbrev pub run_fault : (List ℕ → List ℕ) → States → List ℕ → Parts → List BatchResult → Option BlockFault
-run_fault hash states before parts results =
-    failure_fault results <|> root_fault parts.header (root_of_map hash (left_after (map_at states before) results))
+run_fault hash states before parts results = first_in (run_tests hash (map_at states before) results parts.header)
 
 module _ (processors : Processors) (hash : List ℕ → List ℕ) (states : States) (before : List ℕ) (parts : Parts) where
   -- results that may come of the batches, of which these tests come
@@ -84,20 +83,20 @@ module _ (processors : Processors) (hash : List ℕ → List ℕ) (states : Stat
       × (failure_fault results ≡ None) × IsClashFor hash states (left_after (map_at states before) results) (Collision kept given)
   RunsAs (Err (Failed _)) = Unit {0}
 
-module _ (processors : Processors) (hash : List ℕ → List ℕ) (accepts : List ℕ → List ℕ → List ℕ → Bool) (blocks : List BlockRecord) (states : States)
-    (content : List ℕ) where
+module _ (processors : Processors) (hash : List ℕ → List ℕ) (accepts : List ℕ → List ℕ → List ℕ → Bool) (policy : Policy) (blocks : List BlockRecord)
+    (states : States) (content : List ℕ) where
   -- this comes of the bytes, by some way to run batches
   pub record ComesTo (came : Result Kept BlockFault) : Type 0 where
     pub runs : Runs
     pub by : RunsBy processors runs
-    pub judged_as : judged (rules_with hash accepts runs) (map_under states) blocks content ≡ came
+    pub judged_as : judged (rules_by hash accepts policy runs) (map_under states) blocks content ≡ came
 
   -- what a judgement of the bytes answers
   abbrev pub JudgedAs : Result New Stop → Type 0
   JudgedAs (Ok new) = (kept : Kept) × ComesTo (Ok kept) × IsNew hash states kept new
   JudgedAs (Err (Refused fault)) = ComesTo (Err fault)
   JudgedAs (Err (Failed (faults.Collision kept given))) =
-      (runs : Runs) × RunsBy processors runs × Clashes (rules_with hash accepts runs) states blocks content kept given
+      (runs : Runs) × RunsBy processors runs × Clashes (rules_by hash accepts policy runs) states blocks content kept given
   JudgedAs (Err (Failed _)) = Unit {0}
 
 -- the ids that a new block brings are those of the branch before it and its own

@@ -1,5 +1,5 @@
--- What comes of a block's batches by the static rules and by their run.
-use Rattle.std.specs.Prelude.{◌≡◌, List, Some, None, Result, Ok, Err}
+-- What comes of a block's batches by the rules on them and by their run.
+use Rattle.std.specs.Prelude.{◌≡◌, ℕ, List, Option, Some, None, Result, Ok, Err}
 use Rattle.saw_address.specs.Maps.{StateMap}
 use Rattle.saw_context.specs.Outcome.{Processors}
 use Rattle.saw_context.specs.Possible.{MayComeOfAll}
@@ -7,9 +7,11 @@ use Rattle.saw_messages.specs.TxShapes.{BatchShape}
 use Rattle.saw_plan.specs.BatchShapes.{txs_of}
 use Rattle.saw_plan.specs.SortingSteps.{both}
 use Rattle.saw_plan.specs.StaticRules.{Ids}
+use Rattle.saw_receipts.specs.declared.verdict.BlockFault.{BlockFault}
+use Rattle.saw_rules.specs.Policies.{Policy}
 use Rattle.saw_schedule.specs.BatchResults.{AreResultsFor}
 use Rattle.saw_schedule.specs.declared.results.Results.{Results}
-use Rattle.saw_journal.specs.BlockFaults.{static_fault}
+use Rattle.saw_journal.specs.BlockFaults.{first_in, rule_tests}
 use Rattle.saw_journal.specs.KnownBranches.{KnowsIds, own_ids}
 use Rattle.saw_journal.specs.Stops.{IsStop}
 use Rattle.saw_journal.specs.declared.branch_ids.BranchIds.{BranchIds}
@@ -18,21 +20,27 @@ use Rattle.saw_journal.specs.declared.ran.Ran.{Ran}
 use Rattle.saw_journal.specs.declared.stop.Stop.{Stop}
 use Rattle.saw_journal.specs.declared.stop.Stop.TheVariants.{Refused, Failed}
 
--- the ids there with those of batches that the static rules pass, or the fault of the first that they drop
-abbrev pub PassesAs : Ids → List BatchShape → Result BranchIds Stop → Type 0
-PassesAs there batches (Ok ids) = (static_fault there batches ≡ None) × KnowsIds ids (both there (own_ids batches))
-PassesAs there batches (Err stop) = IsStop (static_fault there batches) stop
+module _ (policy : Policy) (m : StateMap) (signer : List ℕ) (there : Ids) (batches : List BatchShape) where
+  -- the first reason why batches may not stand in a block by this signer over a map
+  abbrev pub rule_fault : Option BlockFault
+  rule_fault = first_in (rule_tests policy there m signer batches)
+
+  -- the ids there with those of batches that may stand in it, or the first fault
+  abbrev pub PassesAs : Result BranchIds Stop → Type 0
+  PassesAs (Ok ids) = (rule_fault ≡ None) × KnowsIds ids (both there (own_ids batches))
+  PassesAs (Err stop) = IsStop rule_fault stop
 
 -- results that batches may have over a map, one for each
 pub record AreOf (processors : Processors) (m : StateMap) (batches : List BatchShape) (results : Results) : Type 0 where
   pub may : MayComeOfAll processors m (txs_of batches) results.batches
   pub fit : AreResultsFor (txs_of batches) results.batches
 
--- both, where the rules pass all; only memory fails, and a processor, where `peer` tells of it
-abbrev pub RanAs : Processors → StateMap → Type 0 → Ids → List BatchShape → Result Ran Stop → Type 0
-RanAs processors m peer there batches (Ok ran) = PassesAs there batches (Ok ran.ids) × AreOf processors m batches ran.results
-RanAs processors m peer there batches (Err (Refused fault)) = static_fault there batches ≡ Some fault
-RanAs processors m peer there batches (Err (Failed (faults.Collision kept given))) = ⊥
-RanAs processors m peer there batches (Err (Failed faults.Full)) = ⊥
-RanAs processors m peer there batches (Err (Failed faults.PeerFailed)) = peer
-RanAs processors m peer there batches (Err (Failed faults.OutOfMemory)) = Unit {0}
+module _ (processors : Processors) (peer : Type 0) (policy : Policy) (m : StateMap) (signer : List ℕ) (there : Ids) (batches : List BatchShape) where
+  -- both, where nothing is against the batches; only memory fails, and a processor, where `peer` tells of it
+  abbrev pub RanAs : Result Ran Stop → Type 0
+  RanAs (Ok ran) = PassesAs policy m signer there batches (Ok ran.ids) × AreOf processors m batches ran.results
+  RanAs (Err (Refused fault)) = rule_fault policy m signer there batches ≡ Some fault
+  RanAs (Err (Failed (faults.Collision kept given))) = ⊥
+  RanAs (Err (Failed faults.Full)) = ⊥
+  RanAs (Err (Failed faults.PeerFailed)) = peer
+  RanAs (Err (Failed faults.OutOfMemory)) = Unit {0}

@@ -11,7 +11,7 @@ ghost use Rattle.saw_crew.specs.Desks.{Failed, HaveSameOffers, KeepsDesks, offer
 ghost use Rattle.saw_receipts.specs.Branches.{block_at, has_block, ids_in};
 ghost use Rattle.saw_journal.specs.Clashing.{ClashesAs, TellsNoNodes};
 ghost use Rattle.saw_receipts.specs.Heads.{as_parent, head_branch, head_of, is_new_head};
-ghost use Rattle.saw_journal.specs.Judgement.{rules_with};
+ghost use Rattle.saw_journal.specs.Judgement.{rules_by};
 ghost use Rattle.saw_receipts.specs.Running.{Runs};
 ghost use Rattle.saw_journal.specs.KnownBranches.{HaveIds, KnowsIds};
 ghost use Rattle.saw_journal.specs.Ledger.{IsFull, Says};
@@ -21,6 +21,7 @@ ghost use Rattle.saw_journal.specs.Parted.{BringsIds, JoinsAs, MayJoin};
 ghost use Rattle.saw_merkle.specs.Clashes.{AreTold, IsPreparedFor};
 ghost use Rattle.saw_merkle.specs.States.{AreRooted, Stays, knows, map_at, state_at};
 ghost use Rattle.saw_plan.specs.StaticRules.{Knows};
+ghost use Rattle.saw_rules.specs.Policies.{policy_by};
 ghost use Rattle.saw_station.specs.Serving.{processors_at};
 
 use crate::branch::known_behind;
@@ -34,6 +35,7 @@ use saw_merkle::State;
 use saw_node::NodeHasher;
 use saw_plan::Known;
 use saw_receipts::{BlockMap, BlockRecord, Parent, Verdict};
+use saw_rules::BlockPolicy;
 use saw_station::{Desk, Station};
 use saw_verify::Verifier;
 use std::alloc::{AllocError, Global};
@@ -269,10 +271,10 @@ impl<H: NodeHasher> Journal<H> {
         Ok(Verdict::Stored)
     }
 
-    /// Judges the bytes of a block. It is accepted exactly where it has no fault. After a fault of this call the journal is
+    /// Judges the bytes of a block, by the policy `P` too. It is accepted exactly where it has no fault. After a fault of this call the journal is
     /// as before. `Collision` may come in place of a fault of the root, of `Full` and of a verdict. The desks keep their
     /// offers and their remotes.
-    pub fn accept<T: Threads + Wait + Sync, V: Verifier, R: Station>(
+    pub fn accept<P: BlockPolicy, T: Threads + Wait + Sync, V: Verifier, R: Station>(
         &mut self,
         rt: &T,
         bytes: &[u8],
@@ -284,18 +286,20 @@ impl<H: NodeHasher> Journal<H> {
         requires alike { HaveSameOffers desks.old }
         ensures says { IfOk result (λ verdict. (runs : Runs)
             × RunsBy (processors_at R.next R.tells (offers_at desks.old)) runs
-            × Says (rules_with H.hash_of (V.accepts verifier.now) runs) self.old bytes.now verdict self.new) }
+            × Says (rules_by H.hash_of (V.accepts verifier.now) (policy_by P.fault P.end_fault) runs)
+            self.old bytes.now verdict self.new) }
         ensures full { IsErrOf result JournalFault.Full → (runs : Runs)
             × RunsBy (processors_at R.next R.tells (offers_at desks.old)) runs
-            × IsFull (rules_with H.hash_of (V.accepts verifier.now) runs) self.old bytes.now }
+            × IsFull (rules_by H.hash_of (V.accepts verifier.now) (policy_by P.fault P.end_fault) runs)
+            self.old bytes.now }
         ensures clash { IfErr result (ClashesAs (processors_at R.next R.tells (offers_at desks.old))
-            H.hash_of (V.accepts verifier.now) self.old bytes.now) }
+            H.hash_of (V.accepts verifier.now) (policy_by P.fault P.end_fault) self.old bytes.now) }
         ensures stays { OnOk result (Stays self.old.states self.new.states) }
         ensures err { OnErr result (self.new ≡ self.old) }
         ensures desks { KeepsDesks R.faults R.offered desks.old desks.new }
         ensures cause { IsErrOf result JournalFault.PeerFailed → Failed R.faults desks.old desks.new }
     {
-        match judge(
+        match judge::<P, H, T, V, R>(
             rt,
             self.alloc,
             &self.blocks,

@@ -1,11 +1,15 @@
 //! The judgement of a block.
 
-ghost use Rattle.std.specs.Prelude.{◌≡◌, ◌<◌, ◌^◌, map, length, string_bytes, option_copied, IfOk, IsErrOf};
+ghost use Rattle.std.specs.Prelude.{◌≡◌, ◌<◌, ◌^◌, ℕ, Bool, List, None, map, length, string_bytes, option_copied, IfOk, IsErrOf};
 ghost use Rattle.indexmap.specs.IndexMap.{keys, values};
+ghost use Rattle.saw_checks.specs.Readings.{IsBlockOf};
+ghost use Rattle.saw_checks.specs.StructureFaults.{structure_fault};
 ghost use Rattle.saw_crew.specs.Desks.{Failed, HaveSameOffers, KeepsDesks, offers_at};
 ghost use Rattle.saw_journal.specs.KnownBranches.{HaveIds};
 ghost use Rattle.saw_journal.specs.Parted.{BringsIds, JudgedAs, root_before};
 ghost use Rattle.saw_journal.specs.Standing.{IsFounded};
+ghost use Rattle.saw_plan.specs.BatchShapes.{transactions_in};
+ghost use Rattle.saw_rules.specs.Policies.{policy_by};
 ghost use Rattle.saw_station.specs.Serving.{processors_at};
 
 use crate::branch_ids::{BranchIds, ids_behind};
@@ -14,12 +18,13 @@ use crate::place::parent_of;
 use crate::ran::run_all;
 use crate::run::conclude;
 use crate::stop::Stop;
-use saw_checks::check_block;
+use saw_checks::{ReadBlock, read_block};
 use saw_crew::workers_at;
 use saw_merkle::{Prepared, State};
 use saw_messages::Change;
 use saw_node::{NodeHash, NodeHasher, root_by};
 use saw_receipts::{BlockMap, BlockRecord};
+use saw_rules::BlockPolicy;
 use saw_station::{Desk, Station};
 use saw_verify::Verifier;
 use saw_wire::Items;
@@ -55,7 +60,13 @@ fn root_before<H: NodeHasher>(
 }
 
 /// Judges the bytes of a block. It stops at the first fault.
-pub(crate) fn judge<H: NodeHasher, T: Threads + Wait + Sync, V: Verifier, R: Station>(
+pub(crate) fn judge<
+    P: BlockPolicy,
+    H: NodeHasher,
+    T: Threads + Wait + Sync,
+    V: Verifier,
+    R: Station,
+>(
     rt: &T,
     alloc: Global,
     blocks: &BlockMap,
@@ -72,7 +83,7 @@ pub(crate) fn judge<H: NodeHasher, T: Threads + Wait + Sync, V: Verifier, R: Sta
     requires some { 0 < length desks.old }
     requires alike { HaveSameOffers desks.old }
     ensures judged { let processors = processors_at R.next R.tells (offers_at desks.old) in
-        JudgedAs processors H.hash_of (V.accepts verifier.now)
+        JudgedAs processors H.hash_of (V.accepts verifier.now) (policy_by P.fault P.end_fault)
         (values blocks.now) state.now bytes.now result }
     ensures ids { IfOk result (BringsIds (values blocks.now)) }
     ensures room { IsErrOf result (Stop.Failed JournalFault.Full) → ⊥ }
@@ -80,11 +91,45 @@ pub(crate) fn judge<H: NodeHasher, T: Threads + Wait + Sync, V: Verifier, R: Sta
     ensures cause { IsErrOf result (Stop.Failed JournalFault.PeerFailed)
         → Failed R.faults desks.old desks.new }
 {
-    let checked = check_block(rt, alloc, bytes, verifier, workers_at(desks))?;
+    let read = read_block(rt, alloc, bytes, verifier, workers_at(desks))?;
+    judge_read::<P, H, T, R>(rt, alloc, blocks, ids, state, read, desks)
+}
+
+// The same of a block whose structure has no fault.
+fn judge_read<P: BlockPolicy, H: NodeHasher, T: Threads + Wait + Sync, R: Station>(
+    rt: &T,
+    alloc: Global,
+    blocks: &BlockMap,
+    ids: &[BranchIds],
+    state: &State<H>,
+    read: ReadBlock,
+    desks: &mut [Desk<R>],
+) -> Result<New, Stop>
+    requires founded { IsFounded H.hash_of (map string_bytes (keys blocks.now))
+        (values blocks.now) state.now }
+    requires kept { HaveIds (values blocks.now) (values blocks.now) ids.now }
+    requires few { length read.checked.batches < 2 ^ 32 }
+    requires counted { transactions_in read.checked.batches < 2 ^ 32 }
+    requires some { 0 < length desks.old }
+    requires alike { HaveSameOffers desks.old }
+    ensures judged { let processors = processors_at R.next R.tells (offers_at desks.old) in
+        (accepts : List ℕ → List ℕ → List ℕ → Bool) (content : List ℕ) → structure_fault accepts content ≡ None
+        → IsBlockOf content read.checked → JudgedAs processors H.hash_of accepts (policy_by P.fault P.end_fault)
+        (values blocks.now) state.now content result }
+    ensures ids { IfOk result (BringsIds (values blocks.now)) }
+    ensures room { IsErrOf result (Stop.Failed JournalFault.Full) → ⊥ }
+    ensures desks { KeepsDesks R.faults R.offered desks.old desks.new }
+    ensures cause { IsErrOf result (Stop.Failed JournalFault.PeerFailed)
+        → Failed R.faults desks.old desks.new }
+{
+    let checked = read.checked;
     let parent = parent_of(blocks, &checked.id, &checked.header)?;
     let known = ids_behind(alloc, blocks, ids, &checked.header.previous_block_id)?;
     let before = root_before::<H>(alloc, parent)?;
     let batches = checked.batches.as_slice();
-    let ran = run_all(rt, alloc, state, before, known, batches, desks)?;
+    let signer = &checked.header.signer_public_key;
+    let ran = run_all::<P, H, T, R>(
+        rt, alloc, state, before, signer, known, batches, read.spent, desks,
+    )?;
     conclude(rt, alloc, state, before, checked, ran, workers_at(desks))
 }

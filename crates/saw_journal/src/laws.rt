@@ -1,6 +1,7 @@
-//! Laws of branches, and of what a block leaves.
+//! Laws of branches, of what a block leaves, and of its tests.
 
 ghost use Rattle.saw_journal.specs.Left.{KeptIsLeft};
+ghost use Rattle.saw_journal.specs.Numbered.{FaultsHaveNumbers};
 ghost use Rattle.saw_journal.specs.Linked.{BranchIsChain, KeptBranchIs};
 
 /// The branch of an accepted block is the one chain by previous ids that ends with it.
@@ -16,4 +17,9 @@ pub fn kept_branch_is()
 /// What a block without fault leaves is its map, and one that states another root is told the root of its own.
 pub fn kept_is_left()
     ensures { KeptIsLeft }
+{}
+
+/// A fault that a test of a block finds has the number of the test.
+pub fn faults_have_numbers()
+    ensures { FaultsHaveNumbers }
 {}

@@ -9,15 +9,9 @@ ghost use Rattle.saw_journal.specs.Parted.{PlacedAs};
 
 use crate::stop::Stop;
 use saw_messages::BlockHeader;
-use saw_receipts::{BlockFault, BlockMap, BlockRecord};
+use saw_receipts::{BlockFault, BlockMap, BlockRecord, DEVMODE, NO_BLOCK};
 use saw_wire::Text;
 use std::alloc::AllocError;
-
-/// What a first block states as the id of the block before it.
-const NO_BLOCK: &str = "0000000000000000";
-
-/// What the consensus bytes of every other block begin with.
-const DEVMODE: &[u8] = b"Devmode";
 
 fn is_first(header: &BlockHeader) -> bool
     ensures { result ≡ is_first header.now }

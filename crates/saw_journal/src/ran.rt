@@ -1,13 +1,16 @@
-//! What comes of a block's batches: the static rules, and their run.
+//! What comes of a block's batches: the rules on them, and their run.
 
 ghost use Rattle.std.specs.Prelude.{◌≡◌, ◌<◌, ◌^◌, [], true, length, IfOk, IsSome};
 ghost use Rattle.std.specs.Thread.{IsSync};
 ghost use Rattle.saw_crew.specs.Desks.{Failed, HaveSameOffers, KeepsDesks, offers_at};
+ghost use Rattle.saw_journal.specs.BlockFaults.{policy_fault};
 ghost use Rattle.saw_journal.specs.KnownBranches.{KnowsIds};
 ghost use Rattle.saw_journal.specs.Passing.{AreOf, PassesAs, RanAs};
+ghost use Rattle.saw_journal.specs.Stops.{TestsAs};
 ghost use Rattle.saw_merkle.specs.States.{map_at, state_at};
 ghost use Rattle.saw_plan.specs.BatchShapes.{transactions_in};
 ghost use Rattle.saw_plan.specs.StaticRules.{Ids};
+ghost use Rattle.saw_rules.specs.Policies.{policy_by};
 ghost use Rattle.saw_station.specs.Serving.{processors_at};
 
 use crate::branch_ids::BranchIds;
@@ -16,10 +19,13 @@ use crate::stop::Stop;
 use saw_address::Base;
 use saw_crew::{execute, lanes_for, run_built_in, workers_at};
 use saw_merkle::State;
-use saw_messages::TxBatch;
+use saw_messages::{Block, TxBatch};
 use saw_node::{NodeHash, NodeHasher};
+use saw_receipts::BlockFault;
+use saw_rules::{BlockPolicy, Placed, first_fault};
 use saw_schedule::Results;
 use saw_station::{Desk, Station};
+use saw_wire::Text;
 use std::alloc::{AllocError, Global};
 use std::sync::{Arc, Wait};
 use std::thread;
@@ -32,15 +38,18 @@ pub(crate) struct Ran {
     pub(crate) ids: BranchIds,
 }
 
-/// Tests the batches of a block by the static rules, where the branch before it has these ids, and runs them over the map
-/// under the root `before`. It stops at the first batch that the rules drop.
-pub(crate) fn run_all<H: NodeHasher, T: Threads + Wait + Sync, R: Station>(
+/// Tests the batches of a block by this signer by the static rules, where the branch before it has these ids, and by a
+/// policy, and runs them over the map under the root `before`. It stops at the first fault of these tests. What the block
+/// was read from is given up.
+pub(crate) fn run_all<P: BlockPolicy, H: NodeHasher, T: Threads + Wait + Sync, R: Station>(
     rt: &T,
     alloc: Global,
     state: &State<H>,
     before: NodeHash,
+    signer: &Text,
     known: BranchIds,
     batches: &[TxBatch],
+    spent: Block,
     desks: &mut [Desk<R>],
 ) -> Result<Ran, Stop>
     requires known { IsSome (state_at state.now before) }
@@ -50,12 +59,15 @@ pub(crate) fn run_all<H: NodeHasher, T: Threads + Wait + Sync, R: Station>(
     requires some { 0 < length desks.old }
     requires alike { HaveSameOffers desks.old }
     ensures ran { (there : Ids) → KnowsIds known there → RanAs (processors_at R.next R.tells (offers_at desks.old))
-        (map_at state.now before) (Failed R.faults desks.old desks.new) there batches.now result }
+        (Failed R.faults desks.old desks.new) (policy_by P.fault P.end_fault) (map_at state.now before) signer.now
+        there batches.now result }
     ensures desks { KeepsDesks R.faults R.offered desks.old desks.new }
 {
     match state.tree(&before) {
         None => unreachable!(),
-        Some(tree) => run_over(rt, alloc, &tree, known, batches, desks),
+        Some(tree) => {
+            run_over::<P, _, T, R>(rt, alloc, &tree, signer, known, batches, spent, desks)
+        }
     }
 }
 
@@ -69,12 +81,14 @@ fn ask_no_others<R: Station>(desks: &[Desk<R>]) -> bool
 
 // The same over a base: the rules and the run side by side where the built-in processors alone are asked, which cannot
 // fail for a block that the rules refuse.
-fn run_over<B: Base, T: Threads + Wait + Sync, R: Station>(
+fn run_over<P: BlockPolicy, B: Base, T: Threads + Wait + Sync, R: Station>(
     rt: &T,
     alloc: Global,
     base: &B,
+    signer: &Text,
     known: BranchIds,
     batches: &[TxBatch],
+    spent: Block,
     desks: &mut [Desk<R>],
 ) -> Result<Ran, Stop>
     requires ids { (there : Ids) × KnowsIds known there }
@@ -83,21 +97,55 @@ fn run_over<B: Base, T: Threads + Wait + Sync, R: Station>(
     requires some { 0 < length desks.old }
     requires alike { HaveSameOffers desks.old }
     ensures ran { (there : Ids) → KnowsIds known there → RanAs (processors_at R.next R.tells (offers_at desks.old))
-        (B.entry base.now) (Failed R.faults desks.old desks.new) there batches.now result }
+        (Failed R.faults desks.old desks.new) (policy_by P.fault P.end_fault) (B.entry base.now) signer.now
+        there batches.now result }
     ensures desks { KeepsDesks R.faults R.offered desks.old desks.new }
 {
     let lanes = lanes_for(batches, workers_at(desks));
     if lanes > 1 && ask_no_others(desks) {
-        return run_beside::<B, T, R>(rt, alloc, base, known, batches, lanes);
+        return run_shared::<P, B, T, R>(rt, alloc, base, signer, known, batches, lanes, spent);
     }
-    run_behind(rt, alloc, base, known, batches, desks)
+    give_up(spent);
+    run_behind::<P, B, T, R>(rt, alloc, base, signer, known, batches, desks)
 }
 
-// The run in other threads, and the rules in this one.
-fn run_beside<B: Base, T: Threads + Wait + Sync, R: Station>(
+// Gives up what a block was read from.
+fn give_up(_spent: Block) {}
+
+// The rules and the run, while another thread gives up what the block was read from.
+fn run_shared<P: BlockPolicy, B: Base, T: Threads + Wait + Sync, R: Station>(
     rt: &T,
     alloc: Global,
     base: &B,
+    signer: &Text,
+    known: BranchIds,
+    batches: &[TxBatch],
+    lanes: u32,
+    spent: Block,
+) -> Result<Ran, Stop>
+    requires few { length batches.now < 2 ^ 32 }
+    requires counted { transactions_in batches.now < 2 ^ 32 }
+    ensures { (there : Ids) → KnowsIds known there → RanAs (processors_at R.next R.tells [])
+        ⊥ (policy_by P.fault P.end_fault) (B.entry base.now) signer.now there batches.now result }
+{
+    let (_, ran) = thread::join(
+        rt,
+        move || -> () { give_up(spent) },
+        move || -> Result<Ran, Stop>
+            requires { (length batches.now < 2 ^ 32) × (transactions_in batches.now < 2 ^ 32) }
+            ensures { (there : Ids) → KnowsIds known there → RanAs (processors_at R.next R.tells [])
+                ⊥ (policy_by P.fault P.end_fault) (B.entry base.entry.now) signer.entry.now there batches.entry.now result }
+        { run_beside::<P, B, T, R>(rt, alloc, base, signer, known, batches, lanes) },
+    );
+    ran
+}
+
+// The run in other threads, and the rules in this one.
+fn run_beside<P: BlockPolicy, B: Base, T: Threads + Wait + Sync, R: Station>(
+    rt: &T,
+    alloc: Global,
+    base: &B,
+    signer: &Text,
     known: BranchIds,
     batches: &[TxBatch],
     lanes: u32,
@@ -105,7 +153,7 @@ fn run_beside<B: Base, T: Threads + Wait + Sync, R: Station>(
     requires few { length batches.now < 2 ^ 32 }
     requires counted { transactions_in batches.now < 2 ^ 32 }
     ensures { (there : Ids) → KnowsIds known there → RanAs (processors_at R.next R.tells [])
-        (B.entry base.now) ⊥ there batches.now result }
+        ⊥ (policy_by P.fault P.end_fault) (B.entry base.now) signer.now there batches.now result }
 {
     let (results, ids) = thread::join(
         rt,
@@ -115,30 +163,55 @@ fn run_beside<B: Base, T: Threads + Wait + Sync, R: Station>(
         { run_built_in::<B, R, T>(rt, alloc, batches, base, lanes) },
         move || -> Result<BranchIds, Stop>
             requires { (length batches.now < 2 ^ 32) × (transactions_in batches.now < 2 ^ 32) }
-            ensures { (there : Ids) → KnowsIds known there → PassesAs there batches.entry.now result }
-        { passed(alloc, known, batches) },
+            ensures { (there : Ids) → KnowsIds known there → PassesAs (policy_by P.fault P.end_fault)
+                (B.entry base.entry.now) signer.entry.now there batches.entry.now result }
+        { passed::<P, B>(alloc, base, signer, known, batches) },
     );
     let ids = ids?;
     let results = results?;
     Ok(Ran { results, ids })
 }
 
-// The ids there and those of the batches. It stops at the first batch that the rules drop.
-fn passed(alloc: Global, known: BranchIds, batches: &[TxBatch]) -> Result<BranchIds, Stop>
+// The ids there and those of the batches. It stops at the first fault of the tests before the run.
+fn passed<P: BlockPolicy, B: Base>(
+    alloc: Global,
+    base: &B,
+    signer: &Text,
+    known: BranchIds,
+    batches: &[TxBatch],
+) -> Result<BranchIds, Stop>
     requires few { length batches.now < 2 ^ 32 }
     requires counted { transactions_in batches.now < 2 ^ 32 }
-    ensures { (there : Ids) → KnowsIds known there → PassesAs there batches.now result }
+    ensures { (there : Ids) → KnowsIds known there → PassesAs (policy_by P.fault P.end_fault)
+        (B.entry base.now) signer.now there batches.now result }
 {
     let mut ids = known;
     let _plan = plan_all(alloc, &mut ids, batches)?;
+    test_policy::<P, B>(alloc, base, signer, batches)?;
     Ok(ids)
 }
 
+// Whether the policy finds nothing wrong, over the map before the block.
+fn test_policy<P: BlockPolicy, B: Base>(
+    alloc: Global,
+    base: &B,
+    signer: &Text,
+    batches: &[TxBatch],
+) -> Result<(), Stop>
+    ensures { TestsAs (policy_fault (policy_by P.fault P.end_fault) (B.entry base.now) signer.now batches.now) result }
+{
+    match first_fault::<P, B>(alloc, base, signer.as_str(), batches)? {
+        None => Ok(()),
+        Some(Placed { k, fault }) => Err(Stop::Refused(BlockFault::Policy { k, fault })),
+    }
+}
+
 // The run behind the rules, by all desks.
-fn run_behind<B: Base, T: Threads + Wait + Sync, R: Station>(
+fn run_behind<P: BlockPolicy, B: Base, T: Threads + Wait + Sync, R: Station>(
     rt: &T,
     alloc: Global,
     base: &B,
+    signer: &Text,
     known: BranchIds,
     batches: &[TxBatch],
     desks: &mut [Desk<R>],
@@ -149,11 +222,13 @@ fn run_behind<B: Base, T: Threads + Wait + Sync, R: Station>(
     requires some { 0 < length desks.old }
     requires alike { HaveSameOffers desks.old }
     ensures ran { (there : Ids) → KnowsIds known there → RanAs (processors_at R.next R.tells (offers_at desks.old))
-        (B.entry base.now) (Failed R.faults desks.old desks.new) there batches.now result }
+        (Failed R.faults desks.old desks.new) (policy_by P.fault P.end_fault) (B.entry base.now) signer.now
+        there batches.now result }
     ensures desks { KeepsDesks R.faults R.offered desks.old desks.new }
 {
     let mut ids = known;
     let plan = Arc::new(alloc, plan_all(alloc, &mut ids, batches)?)?;
+    test_policy::<P, B>(alloc, base, signer, batches)?;
     let results = execute(rt, alloc, plan, base, desks)?;
     Ok(Ran { results, ids })
 }

@@ -55,7 +55,7 @@ fn batch_record(
 }
 
 /// Of so few batches no part goes to another thread: its start takes as long as the records of some ten.
-const WORTH: usize = 32;
+pub(crate) const WORTH: usize = 32;
 
 /// What is kept of batches with these results, made by at most so many threads.
 #[cycle(halves)]

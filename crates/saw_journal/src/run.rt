@@ -1,32 +1,37 @@
 //! What is kept of a block whose batches were run.
 
-ghost use Rattle.std.specs.Prelude.{◌≡◌, ◌<◌, ◌≤◌, ◌^◌, length, IfOk, IsErrOf, IsSome};
-ghost use Rattle.saw_context.specs.Outcome.{Processors};
+ghost use Rattle.std.specs.Prelude.{◌≡◌, ◌<◌, ◌≤◌, ◌^◌, length, IfErr, IfOk, IsErrOf, IsSome};
+ghost use Rattle.std.specs.Thread.{IsSync};
+ghost use Rattle.saw_context.specs.Changed.{AreRising};
+ghost use Rattle.saw_context.specs.Outcome.{Processors, map_after};
 ghost use Rattle.saw_context.specs.Possible.{MayComeOfAll};
 ghost use Rattle.saw_journal.specs.BlockFaults.{root_fault};
-ghost use Rattle.saw_journal.specs.Judgement.{batch_records};
 ghost use Rattle.saw_journal.specs.KnownBranches.{own_ids};
 ghost use Rattle.saw_journal.specs.Parted.{RunsAs};
 ghost use Rattle.saw_journal.specs.Stops.{TestsAs};
 ghost use Rattle.saw_journal.specs.BlockShapes.{parts_in};
+ghost use Rattle.saw_merkle.specs.Clashes.{IsClashFor, IsPreparedFor};
 ghost use Rattle.saw_merkle.specs.States.{map_at, state_at};
 ghost use Rattle.saw_plan.specs.BatchShapes.{txs_of};
 ghost use Rattle.saw_receipts.specs.Branches.{batch_ids};
 ghost use Rattle.saw_schedule.specs.BatchResults.{AreResultsFor};
 
+use crate::branch_ids::BranchIds;
 use crate::fault::JournalFault;
 use crate::judge::New;
 use crate::ran::Ran;
-use crate::results::{batch_records, test_results};
+use crate::results::{WORTH, batch_records, test_results};
 use crate::stop::Stop;
 use saw_checks::CheckedBlock;
-use saw_merkle::State;
-use saw_messages::BlockHeader;
+use saw_merkle::{Prepared, State};
+use saw_messages::{BlockHeader, Change, TxBatch};
 use saw_node::{NodeHash, NodeHasher};
-use saw_receipts::{BlockFault, BlockRecord};
+use saw_receipts::{BatchRecord, BlockFault, BlockRecord};
 use saw_schedule::Results;
-use saw_wire::Items;
-use std::alloc::{AllocError, Global};
+use saw_store::StoreFault;
+use saw_wire::{Items, Text};
+use std::alloc::Global;
+use std::thread;
 use std::thread::Threads;
 
 fn test_root(alloc: Global, header: &BlockHeader, root: NodeHash) -> Result<(), Stop>
@@ -41,36 +46,85 @@ fn test_root(alloc: Global, header: &BlockHeader, root: NodeHash) -> Result<(), 
     }))
 }
 
-fn record_of<T: Threads + Sync>(
-    rt: &T,
+// The record of a block with this root, and what else is kept of it, where it states the root.
+fn rooted(
     alloc: Global,
-    checked: CheckedBlock,
-    root: NodeHash,
-    results: &Results,
-    workers: u32,
-) -> Result<BlockRecord, AllocError>
-    ensures { IfOk result (λ block. block ≡ record {
-      id = checked.id;
-      number = checked.header.block_num;
-      previous = checked.header.previous_block_id;
-      signer = checked.header.signer_public_key;
-      root = root;
-      batches = batch_records checked.batches results.now.batches;
+    id: Text,
+    header: BlockHeader,
+    batches: Items<BatchRecord>,
+    ids: BranchIds,
+    before: NodeHash,
+    changes: Items<Change>,
+    prepared: Prepared,
+) -> Result<New, Stop>
+    ensures tested { TestsAs (root_fault header prepared.root) result }
+    ensures made { IfOk result (λ new. new ≡ record {
+      block = record {
+        id = id;
+        number = header.block_num;
+        previous = header.previous_block_id;
+        signer = header.signer_public_key;
+        root = prepared.root;
+        batches = batches;
+      };
+      ids = ids;
+      before = before;
+      changes = changes;
+      prepared = prepared;
     }) }
 {
-    let batches = checked.batches.as_slice();
-    let batches = batch_records(rt, alloc, batches, results.batches.as_slice(), workers)?;
-    let (id, header) = checked.into_names();
+    let root = prepared.root();
+    test_root(alloc, &header, root)?;
     let number = header.block_num;
     let (previous, signer) = header.into_names();
-    Ok(BlockRecord {
+    let block = BlockRecord {
         id,
         number,
         previous,
         signer,
         root,
-        batches: Items::from_vec(batches),
+        batches,
+    };
+    Ok(New {
+        block,
+        ids,
+        before,
+        changes,
+        prepared,
     })
+}
+
+// The state behind changes, while another thread gives up what is no longer needed.
+fn prepare_beside<H: NodeHasher, T: Threads + Sync>(
+    rt: &T,
+    state: &State<H>,
+    before: &NodeHash,
+    changes: &[Change],
+    workers: u32,
+    batches: Items<TxBatch>,
+    results: Results,
+) -> Result<Prepared, StoreFault>
+    requires known { IsSome (state_at state.now before.now) }
+    requires rising { AreRising changes.now }
+    requires workers { 1 ≤ workers }
+    ensures ok { IfOk result (IsPreparedFor H.hash_of state.now (map_after (map_at state.now before.now) changes.now)) }
+    ensures clash { IfErr result (IsClashFor H.hash_of state.now (map_after (map_at state.now before.now) changes.now)) }
+{
+    if workers <= 1 || batches.len() < WORTH {
+        return state.prepare(rt, before, changes, workers);
+    }
+    let (_, prepared) = thread::join(
+        rt,
+        move || -> () {
+            let _spent = (batches, results);
+        },
+        || -> Result<Prepared, StoreFault>
+            requires { IsSync T.row × IsSome (state_at state.now before.now) × AreRising changes.now × (1 ≤ workers) }
+            ensures { IfOk result (IsPreparedFor H.hash_of state.entry.now (map_after (map_at state.entry.now before.entry.now) changes.entry.now))
+                × IfErr result (IsClashFor H.hash_of state.entry.now (map_after (map_at state.entry.now before.entry.now) changes.entry.now)) }
+        { state.prepare(rt, before, changes, workers) },
+    );
+    prepared
 }
 
 /// Tests what the results of a block's batches say, which were run over the map under the root `before`, and makes what is
@@ -98,15 +152,20 @@ pub(crate) fn conclude<H: NodeHasher, T: Threads + Sync>(
     let Ran { results, ids } = ran;
     test_results(&results)?;
     let changes = results.changes(alloc)?;
-    let prepared = state.prepare(rt, &before, changes.as_slice(), workers)?;
-    let root = prepared.root();
-    test_root(alloc, &checked.header, root)?;
-    let block = record_of(rt, alloc, checked, root, &results, workers)?;
-    Ok(New {
-        block,
-        ids,
-        before,
-        changes,
-        prepared,
-    })
+    let records = {
+        let batches = checked.batches.as_slice();
+        batch_records(rt, alloc, batches, results.batches.as_slice(), workers)?
+    };
+    let (id, header, spent) = checked.into_parts();
+    let prepared = prepare_beside(
+        rt,
+        state,
+        &before,
+        changes.as_slice(),
+        workers,
+        spent,
+        results,
+    )?;
+    let batches = Items::from_vec(records);
+    rooted(alloc, id, header, batches, ids, before, changes, prepared)
 }

@@ -13,16 +13,10 @@ ghost use Rattle.saw_publish.specs.Room.{encoded};
 use crate::fates::Fate;
 use saw_messages::{BlockHeader, TxBatch, encode_block_header};
 use saw_node::NodeHash;
-use saw_receipts::Parent;
+use saw_receipts::{DEVMODE, NO_BLOCK, Parent};
 use saw_verify::Signer;
 use saw_wire::{Bytes, Items, Message, Text, put_bytes, put_item};
 use std::alloc::{AllocError, Global};
-
-/// What a first block states as the id of the block before it.
-const NO_BLOCK: &str = "0000000000000000";
-
-/// What the consensus bytes begin with, and here are.
-const DEVMODE: &[u8] = b"Devmode";
 
 fn number_behind(parent: Option<&Parent>) -> u64
     requires { IfSome (option_copied parent) (λ parent. parent.number + 1 < 2 ^ 64) }

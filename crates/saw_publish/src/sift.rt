@@ -9,16 +9,13 @@ ghost use Rattle.saw_publish.specs.Room.{encoded};
 ghost use Rattle.saw_publish.specs.Sifting.{IsSifted};
 
 use crate::fates::Fate;
-use saw_checks::{Judged, check_batches};
+use saw_checks::{Judged, MAX_TRANSACTIONS, check_batches};
 use saw_messages::{Batch, TxBatch, encode_batch};
 use saw_receipts::LossCause;
 use saw_verify::Verifier;
 use saw_wire::{Bytes, Items};
 use std::alloc::{AllocError, Global};
 use std::thread::Threads;
-
-/// The most transactions of a candidate.
-const MAX_TRANSACTIONS: usize = 20_000;
 
 /// The most bytes of a candidate's batches.
 const MAX_BYTES: usize = 12_582_912;
@@ -60,7 +57,7 @@ impl Sifted {
         ensures { result ≡ (nat_le (self.now.transactions + transactions) 20000
             && nat_le (self.now.bytes + bytes) 12582912) }
     {
-        has_room(self.transactions, transactions, MAX_TRANSACTIONS)
+        has_room(self.transactions, transactions, MAX_TRANSACTIONS as usize)
             && has_room(self.bytes, bytes, MAX_BYTES)
     }
 

@@ -5,6 +5,12 @@ use saw_messages::Receipt;
 use saw_node::NodeHash;
 use saw_wire::{Items, Text};
 
+/// What a first block states as the id of the block before it.
+pub const NO_BLOCK: &str = "0000000000000000";
+
+/// What the consensus bytes of a block begin with.
+pub const DEVMODE: &[u8] = b"Devmode";
+
 /// An accepted block.
 pub struct BlockRecord {
     /// Its signature's 128 hex digits.

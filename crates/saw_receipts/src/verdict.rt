@@ -1,9 +1,10 @@
 //! What is said of a block.
 
 ghost use Rattle.std.specs.Prelude.{◌≡◌};
+ghost use Rattle.saw_receipts.specs.Numbers.{fault_name, fault_number};
 ghost use Rattle.saw_receipts.specs.Verdicts.{is_accepted};
 
-use saw_checks::StructureFault;
+use saw_checks::{PolicyFault, StructureFault};
 use saw_messages::Reason;
 use saw_node::NodeHash;
 use saw_plan::DropCause;
@@ -26,10 +27,50 @@ pub enum BlockFault {
     Consensus,
     /// The static rules drop its batch at place `k`.
     Static { k: u32, cause: DropCause },
+    /// The policy finds this wrong with its batch at place `k`, or, where `k` is the number of batches, with all of them.
+    Policy { k: u32, fault: PolicyFault },
     /// The transaction at `t` of its batch at `k` is the first invalid one.
     BatchInvalid { k: u32, t: u32, reason: Reason },
     /// It states another root than the computed one.
     Root { stated: Text, computed: NodeHash },
+}
+
+impl BlockFault {
+    /// The number of its test.
+    pub fn number(&self) -> u64
+        ensures { result ≡ fault_number self.now }
+    {
+        match self {
+            BlockFault::Structure(fault) => fault.number(),
+            BlockFault::Known => 8,
+            BlockFault::GenesisAgain => 9,
+            BlockFault::PreviousUnknown => 10,
+            BlockFault::BlockNumber { .. } => 11,
+            BlockFault::Consensus => 12,
+            BlockFault::Static { .. } => 13,
+            BlockFault::Policy { .. } => 16,
+            BlockFault::BatchInvalid { .. } => 14,
+            BlockFault::Root { .. } => 15,
+        }
+    }
+
+    /// Its name, as lines tell it.
+    pub fn name(&self) -> &'static str
+        ensures { result.now ≡ fault_name self.now }
+    {
+        match self {
+            BlockFault::Structure(fault) => fault.name(),
+            BlockFault::Known => "Known",
+            BlockFault::GenesisAgain => "GenesisAgain",
+            BlockFault::PreviousUnknown => "PreviousUnknown",
+            BlockFault::BlockNumber { .. } => "BlockNumber",
+            BlockFault::Consensus => "Consensus",
+            BlockFault::Static { .. } => "Static",
+            BlockFault::Policy { .. } => "Policy",
+            BlockFault::BatchInvalid { .. } => "BatchInvalid",
+            BlockFault::Root { .. } => "Root",
+        }
+    }
 }
 
 /// What is said of a block.

@@ -6,6 +6,8 @@ use Rattle.saw_checks.specs.declared.fault.BatchFault.{BatchFault}
 use Rattle.saw_checks.specs.declared.fault.BatchFault.TheVariants as batches
 use Rattle.saw_checks.specs.declared.fault.StructureFault.{StructureFault}
 use Rattle.saw_checks.specs.declared.fault.StructureFault.TheVariants as blocks
+use Rattle.saw_checks.specs.declared.policy.PolicyFault.{PolicyFault}
+use Rattle.saw_checks.specs.declared.policy.PolicyFault.TheVariants as policies
 use Rattle.saw_merkle.specs.States.{Listed}
 use Rattle.saw_messages.specs.declared.outcome.Reason.{Reason}
 use Rattle.saw_messages.specs.declared.outcome.Reason.TheVariants as reasons
@@ -13,6 +15,7 @@ use Rattle.saw_messages.specs.declared.receipt.Receipt.{Receipt}
 use Rattle.saw_messages.specs.Receipts.{receipt_pieces}
 use Rattle.saw_plan.specs.declared.sorted.DropCause.{DropCause}
 use Rattle.saw_plan.specs.declared.sorted.DropCause.TheVariants as causes
+use Rattle.saw_receipts.specs.Numbers.{fault_name, fault_number}
 use Rattle.saw_receipts.specs.declared.block.BlockRecord.{BlockRecord}
 use Rattle.saw_receipts.specs.declared.loss.Loss.{Loss}
 use Rattle.saw_receipts.specs.declared.loss.LossCause.{LossCause}
@@ -52,15 +55,15 @@ batch_fault_text (batches.TooManyDeclared t) = decimal 13 ++ spaced t
 batch_fault_text batches.Signature = decimal 14
 batch_fault_text batches.OutOfMemory = []
 
--- the number of a fault, and what it says; want of memory is no fault of a block
+-- what a fault of a block's structure says behind its number and name
 abbrev pub structure_text : StructureFault → List ℕ
-structure_text (blocks.Undecodable e) = codes "1 Undecodable"
-structure_text blocks.IdText = codes "2 IdText"
-structure_text blocks.KeyText = codes "3 KeyText"
-structure_text (blocks.TooManyTransactions count) = codes "4 TooManyTransactions" ++ spaced count
-structure_text (blocks.BatchIds index) = codes "5 BatchIds" ++ spaced index
-structure_text (blocks.Batch k fault) = codes "6 Batch" ++ spaced k ++ codes " " ++ batch_fault_text fault
-structure_text blocks.Signature = codes "7 Signature"
+structure_text (blocks.Undecodable e) = []
+structure_text blocks.IdText = []
+structure_text blocks.KeyText = []
+structure_text (blocks.TooManyTransactions count) = spaced count
+structure_text (blocks.BatchIds index) = spaced index
+structure_text (blocks.Batch k fault) = spaced k ++ codes " " ++ batch_fault_text fault
+structure_text blocks.Signature = []
 structure_text blocks.OutOfMemory = []
 
 -- the number of a cause, and the transaction that it has
@@ -78,16 +81,26 @@ reason_number reasons.TooManyRequests = 4
 reason_number reasons.Remote = 5
 reason_number (reasons.Family number) = number
 
+-- the number of a fault by a policy, and the transaction or the rule that it has
+abbrev pub policy_text : PolicyFault → List ℕ
+policy_text (policies.Family t) = spaced 1 ++ spaced t
+policy_text (policies.Rule index) = spaced 2 ++ spaced index
+
+-- what a fault of a block says behind its number and name
+abbrev pub said_text : BlockFault → List ℕ
+said_text (faults.Structure fault) = structure_text fault
+said_text faults.Known = []
+said_text faults.GenesisAgain = []
+said_text faults.PreviousUnknown = []
+said_text (faults.BlockNumber stated due) = spaced stated ++ spaced due
+said_text faults.Consensus = []
+said_text (faults.Static k cause) = spaced k ++ codes " " ++ cause_text cause
+said_text (faults.Policy k fault) = spaced k ++ policy_text fault
+said_text (faults.BatchInvalid k t reason) = spaced k ++ spaced t ++ spaced (reason_number reason)
+said_text (faults.Root stated computed) = codes " " ++ encode_lower computed
+
 abbrev pub fault_text : BlockFault → List ℕ
-fault_text (faults.Structure fault) = structure_text fault
-fault_text faults.Known = codes "8 Known"
-fault_text faults.GenesisAgain = codes "9 GenesisAgain"
-fault_text faults.PreviousUnknown = codes "10 PreviousUnknown"
-fault_text (faults.BlockNumber stated due) = codes "11 BlockNumber" ++ spaced stated ++ spaced due
-fault_text faults.Consensus = codes "12 Consensus"
-fault_text (faults.Static k cause) = codes "13 Static" ++ spaced k ++ codes " " ++ cause_text cause
-fault_text (faults.BatchInvalid k t reason) = codes "14 BatchInvalid" ++ spaced k ++ spaced t ++ spaced (reason_number reason)
-fault_text (faults.Root stated computed) = codes "15 Root " ++ encode_lower computed
+fault_text fault = decimal (fault_number fault) ++ codes " " ++ fault_name fault ++ said_text fault
 
 -- of an accepted block besides the numbers of its batches and transactions
 abbrev pub accepted_text : Option BlockRecord → List ℕ

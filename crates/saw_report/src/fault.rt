@@ -1,16 +1,16 @@
 //! The words of faults and losses.
 
 ghost use Rattle.std.specs.Prelude.{◌≡◌, ◌++◌, codes, OnOk};
-ghost use Rattle.saw_report.specs.Lines.{spaced, batch_fault_text, structure_text, cause_text, reason_number, fault_text, loss_text};
+ghost use Rattle.saw_report.specs.Lines.{spaced, batch_fault_text, structure_text, cause_text, policy_text, reason_number, said_text, fault_text, loss_text};
 
-use crate::word::{put_counted, put_number, put_pair, put_placed, put_spaced};
-use saw_checks::{BatchFault, StructureFault};
+use crate::word::{put_number, put_pair, put_placed, put_spaced};
+use saw_checks::{BatchFault, PolicyFault, StructureFault};
 use saw_messages::Reason;
 use saw_plan::DropCause;
 use saw_receipts::{BlockFault, LossCause};
 use std::alloc::{AllocError, Global};
 
-/// Appends what a fault says.
+/// Appends a fault: its number, its name and what else it says.
 pub(crate) fn put_fault(
     alloc: Global,
     out: &mut Vec<u8>,
@@ -18,27 +18,36 @@ pub(crate) fn put_fault(
 ) -> Result<(), AllocError>
     ensures { OnOk result (out.new.items ≡ out.old.items ++ fault_text fault.now) }
 {
+    put_number(alloc, out, fault.number())?;
+    out.push(b' ')?;
+    out.extend_from_slice(fault.name().as_bytes())?;
+    put_said(alloc, out, fault)
+}
+
+fn put_said(alloc: Global, out: &mut Vec<u8>, fault: &BlockFault) -> Result<(), AllocError>
+    ensures { OnOk result (out.new.items ≡ out.old.items ++ said_text fault.now) }
+{
     match fault {
         BlockFault::Structure(fault) => put_structure_fault(alloc, out, fault),
-        BlockFault::Known => out.extend_from_slice(b"8 Known"),
-        BlockFault::GenesisAgain => out.extend_from_slice(b"9 GenesisAgain"),
-        BlockFault::PreviousUnknown => out.extend_from_slice(b"10 PreviousUnknown"),
-        BlockFault::BlockNumber { stated, due } => {
-            put_pair(alloc, out, b"11 BlockNumber", *stated, *due)
-        }
-        BlockFault::Consensus => out.extend_from_slice(b"12 Consensus"),
-        BlockFault::Static { k, cause } => {
-            put_dropped(alloc, out, b"13 Static", *k as u64, cause)
+        BlockFault::Known => Ok(()),
+        BlockFault::GenesisAgain => Ok(()),
+        BlockFault::PreviousUnknown => Ok(()),
+        BlockFault::BlockNumber { stated, due } => put_pair(alloc, out, b"", *stated, *due),
+        BlockFault::Consensus => Ok(()),
+        BlockFault::Static { k, cause } => put_dropped(alloc, out, *k as u64, cause),
+        BlockFault::Policy { k, fault } => {
+            put_spaced(alloc, out, *k as u64)?;
+            put_policy_fault(alloc, out, fault)
         }
         BlockFault::BatchInvalid { k, t, reason } => {
-            let number = reason_number(reason);
-            put_failure(alloc, out, b"14 BatchInvalid", *k as u64, *t as u64, number)
+            put_pair(alloc, out, b"", *k as u64, *t as u64)?;
+            put_spaced(alloc, out, reason_number(reason))
         }
         BlockFault::Root {
             stated: _,
             computed,
         } => {
-            out.extend_from_slice(b"15 Root ")?;
+            out.push(b' ')?;
             out.extend_from_slice(&computed.to_hex())
         }
     }
@@ -76,21 +85,17 @@ fn put_structure_fault(
     ensures { OnOk result (out.new.items ≡ out.old.items ++ structure_text fault.now) }
 {
     match fault {
-        StructureFault::Undecodable(_) => out.extend_from_slice(b"1 Undecodable"),
-        StructureFault::IdText => out.extend_from_slice(b"2 IdText"),
-        StructureFault::KeyText => out.extend_from_slice(b"3 KeyText"),
-        StructureFault::TooManyTransactions { count } => {
-            put_counted(alloc, out, b"4 TooManyTransactions", *count as u64)
-        }
-        StructureFault::BatchIds { index } => {
-            put_counted(alloc, out, b"5 BatchIds", *index as u64)
-        }
+        StructureFault::Undecodable(_) => Ok(()),
+        StructureFault::IdText => Ok(()),
+        StructureFault::KeyText => Ok(()),
+        StructureFault::TooManyTransactions { count } => put_spaced(alloc, out, *count as u64),
+        StructureFault::BatchIds { index } => put_spaced(alloc, out, *index as u64),
         StructureFault::Batch { k, fault } => {
-            put_counted(alloc, out, b"6 Batch", *k as u64)?;
+            put_spaced(alloc, out, *k as u64)?;
             out.push(b' ')?;
             put_batch_fault(alloc, out, fault)
         }
-        StructureFault::Signature => out.extend_from_slice(b"7 Signature"),
+        StructureFault::Signature => Ok(()),
         StructureFault::OutOfMemory => Ok(()),
     }
 }
@@ -117,18 +122,27 @@ fn put_batch_fault(alloc: Global, out: &mut Vec<u8>, fault: &BatchFault) -> Resu
     }
 }
 
-// A word, the place of a dropped batch and the cause.
+// The number of a fault by a policy, and the place that it has.
+fn put_policy_fault(alloc: Global, out: &mut Vec<u8>, fault: &PolicyFault) -> Result<(), AllocError>
+    ensures { OnOk result (out.new.items ≡ out.old.items ++ policy_text fault.now) }
+{
+    match *fault {
+        PolicyFault::Family { t } => put_pair(alloc, out, b"", 1, t as u64),
+        PolicyFault::Rule { index } => put_pair(alloc, out, b"", 2, index as u64),
+    }
+}
+
+// The place of a dropped batch and the cause.
 fn put_dropped(
     alloc: Global,
     out: &mut Vec<u8>,
-    word: &[u8],
     k: u64,
     cause: &DropCause,
 ) -> Result<(), AllocError>
     ensures { OnOk result (out.new.items ≡ out.old.items
-        ++ (word.now ++ spaced k ++ codes " " ++ cause_text cause.now)) }
+        ++ (spaced k ++ codes " " ++ cause_text cause.now)) }
 {
-    put_counted(alloc, out, word, k)?;
+    put_spaced(alloc, out, k)?;
     out.push(b' ')?;
     put_cause(alloc, out, cause)
 }
@@ -141,22 +155,6 @@ fn put_cause(alloc: Global, out: &mut Vec<u8>, cause: &DropCause) -> Result<(), 
         DropCause::DuplicateTransaction { t } => put_placed(alloc, out, 2, *t),
         DropCause::MissingDependency { t, id: _ } => put_placed(alloc, out, 3, *t),
     }
-}
-
-// A word and the two places and the reason of a failed batch.
-fn put_failure(
-    alloc: Global,
-    out: &mut Vec<u8>,
-    word: &[u8],
-    k: u64,
-    t: u64,
-    reason: u64,
-) -> Result<(), AllocError>
-    ensures { OnOk result (out.new.items ≡ out.old.items
-        ++ (word.now ++ spaced k ++ spaced t ++ spaced reason)) }
-{
-    put_pair(alloc, out, word, k, t)?;
-    put_spaced(alloc, out, reason)
 }
 
 fn reason_number(reason: &Reason) -> u64

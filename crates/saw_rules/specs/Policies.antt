@@ -12,6 +12,18 @@ BatchTest = StateMap → List ℕ → List BatchShape → BatchShape → Option 
 abbrev pub EndTest : Type 0
 EndTest = StateMap → List BatchShape → Option PolicyFault
 
+-- who judges blocks so
+pub record Policy : Type 0 where
+  pub fault : BatchTest
+  pub end_fault : EndTest
+
+abbrev pub policy_by : BatchTest → EndTest → Policy
+policy_by fault end_fault = record { fault = fault; end_fault = end_fault }
+
+-- who finds nothing wrong
+abbrev pub no_policy : Policy
+no_policy = policy_by (λ m signer before batch. None) (λ m batches. None)
+
 module _ (fault : BatchTest) (end_fault : EndTest) (m : StateMap) (signer : List ℕ) where
   abbrev pub first_or : Option PolicyFault → ℕ → Option Placed → Option Placed
   first_or None k others = others

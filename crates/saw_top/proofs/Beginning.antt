@@ -1,4 +1,4 @@
--- How far processors elsewhere have begun.
+-- How far external processors have begun.
 use Rattle.std.proofs.Common.{◌≡◌, ◌⊎◌, inl, inr, ℕ, zero, suc, ◌+◌, ◌<◌, ◌≤◌, Bool, true, List, [], ◌∷◌, length, drop, set, take, refl, sym, ap₂, subst, ◌∙◌, get_or-set_other, length-set, arith}
 use Rattle.std.specs.Prelude.{All, slice_index_or}
 use Rattle.std.proofs.lemmas.List.Elements.{All-cons, All-nil}

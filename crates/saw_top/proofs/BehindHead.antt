@@ -6,11 +6,10 @@ use Rattle.std.specs.Str.{bytes_eq}
 use Rattle.std.proofs.lemmas.Bool.{eq-eqb, lt-ltb}
 use Rattle.std.proofs.lemmas.List.{reverse-reverse}
 use Rattle.saw_address.specs.Texts.{is_hex_text}
-use Rattle.saw_checks.specs.Tests.{first_of}
 use Rattle.saw_journal.proofs.Linking.{AreBack, all_found, all_push, are_back, head_so, latest_last}
 use Rattle.saw_journal.proofs.Lookups.{is_there}
 use Rattle.saw_journal.proofs.Named.{hex_names}
-use Rattle.saw_journal.specs.BlockFaults.{ids_before, parent_of, place_tests}
+use Rattle.saw_journal.specs.BlockFaults.{first_in, ids_before, parent_of, place_tests}
 use Rattle.saw_journal.specs.Ledger.{map_under}
 use Rattle.saw_journal.specs.Linked.{AreLinked}
 use Rattle.saw_merkle.specs.States.{States}
@@ -91,7 +90,7 @@ module _ (key : List ℕ) (ids : List (List ℕ)) (root : List ℕ) where
 
   -- its place has no fault
   pub placed : (blocks : List BlockRecord) (head : Option BlockRecord) (id : List ℕ) → IsHead blocks head → has_block blocks id ≡ false
-      → first_of (place_tests blocks id (header_with key (option_map as_parent head) ids root)) ≡ None
+      → first_in (place_tests blocks id (header_with key (option_map as_parent head) ids root)) ≡ None
   placed blocks None id is fresh = rw is refl
   placed blocks (Some head) id is fresh =
       let named = is.1 in

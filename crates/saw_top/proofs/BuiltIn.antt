@@ -33,7 +33,7 @@ built_in_tell = (tells_all (λ tx turns. actions.Invalid Remote) [], processors_
 
 -- ---- where all is told
 
--- where nothing is offered elsewhere
+-- where nothing is offered by an external processor
 none_offered : (next : TxShape → List Turn → Action) (tells : Bool) → TellsAll (processors_at next tells [])
 none_offered next tells family version = by_test (is_some (family_of family version)) refl
   where

@@ -13,7 +13,7 @@ use Rattle.saw_top.specs.Answers.{Prepared, answer_for, prepared}
 use Rattle.saw_generate.specs.Streams.{stream}
 use Rattle.saw_generate.specs.declared.wish.GenerateWish.{GenerateWish}
 use Rattle.saw_top.specs.Command.{Asked, Generate, Judge, Wish}
-use Rattle.saw_top.specs.Headline.{Carries, CarriesOut, Does, EndsBy, GoesOn, HasCause, HasFault, Shows, TellsFirst, WritesBy}
+use Rattle.saw_top.specs.Headline.{DoesAsked, DoesJob, DoesTask, EndsBy, LinesInTime, HasCause, HasFault, WritesAnswer, TellsFirst, WritesBy}
 use Rattle.saw_top.specs.History.{ended, history}
 use Rattle.saw_top.specs.Outside.{AreLater, End, Outside, SomeRose, sides, sides_of}
 use Rattle.saw_top.specs.Run.{faulty, noted_by, written_by}
@@ -35,7 +35,7 @@ signs key signature = record { key = key; signature = signature }
 -- ---- nothing was taken or written
 
 module _ (ways : Ways) (bytes : List ℕ) (old told : Option (List ℕ)) where
-  begun : (task : Task) (ready : Result Prepared RunFault) → GoesOn (answer_for ways task ready bytes) bytes (Some bytes) (sides old old told told)
+  begun : (task : Task) (ready : Result Prepared RunFault) → LinesInTime (answer_for ways task ready bytes) bytes (Some bytes) (sides old old told told)
   unfolding history
   begun task ready = record {
     frames = [];
@@ -68,13 +68,13 @@ untouched All old told noted = tt
 untouched Refused old told noted = inl refl
 
 module _ (processors : Processors) (own : HasOwnReasons processors) (before : Outside) (held : End Files) (counts : List ℕ) where
-  -- only the shelf and the processors elsewhere were asked
+  -- only the shelf and the external processors were asked
   abbrev still : Outside
   still = record before { shelf = held; remotes = counts }
 
   pub nothing : (task : Task) (ready : Result Prepared RunFault) (came : Result ℕ RunFault) → HasCause processors task ready before still came
       → ((bytes : List ℕ) (left : Option (List ℕ)) → EndsBy (answer_for (serially processors) task ready bytes) bytes left (sides_of before still) came)
-      → Does processors task ready before still came
+      → DoesTask processors task ready before still came
   nothing task ready came cause ends = record {
     cause = cause;
     lines = [];
@@ -89,7 +89,7 @@ module _ (processors : Processors) (own : HasOwnReasons processors) (before : Ou
   }
     where
       here : (first : Option (List ℕ)) → IfSome first (λ bytes. let answer = answer_for (serially processors) task ready bytes in
-          Shows answer bytes first (sides_of before still) came × TellsFirst task.lines answer.noted (sides_of before still))
+          WritesAnswer answer bytes first (sides_of before still) came × TellsFirst task.lines answer.noted (sides_of before still))
       here None = tt
       here (Some bytes) = (
         record {
@@ -104,12 +104,12 @@ module _ (processors : Processors) (own : HasOwnReasons processors) (before : Ou
   -- words or a list have a fault
   faulted : (task : Task) (fault : RunFault) → HasCause processors task (Err fault) before still (Err fault)
       → ((bytes : List ℕ) (left : Option (List ℕ)) → EndsBy (faulty fault) bytes left (sides_of before still) (Err fault))
-      → Does processors task (Err fault) before still (Err fault)
+      → DoesTask processors task (Err fault) before still (Err fault)
   faulted task fault cause ends = nothing task (Err fault) (Err fault) cause ends
 
 -- the words ask for nothing
 pub unasked : (accepts : Accepts) (signing : Signing) (processors : Processors) → HasOwnReasons processors → (asked : Option Asked) (before : Outside) → asked ≡ None
-    → Carries (world_with accepts signing processors) asked before before (Err runs.Words)
+    → DoesAsked (world_with accepts signing processors) asked before before (Err runs.Words)
 unasked accepts signing processors own asked before none =
     let at = files_in before.shelf.tells in
     rw none (record {
@@ -123,7 +123,7 @@ unasked accepts signing processors own asked before none =
 
 -- memory was refused while the words were read
 pub unread : (accepts : Accepts) (signing : Signing) (processors : Processors) → HasOwnReasons processors → (asked : Option Asked) (before : Outside) → IsSome asked
-    → Carries (world_with accepts signing processors) asked before before (Err runs.Memory)
+    → DoesAsked (world_with accepts signing processors) asked before before (Err runs.Memory)
 unread accepts signing processors own None before some = absurd cc
 unread accepts signing processors own (Some (Judge wish)) before some =
     let at = files_in before.shelf.tells in
@@ -141,15 +141,15 @@ unread accepts signing processors own (Some (Generate wish)) before some =
 
 -- a job was done
 pub judged : (given : Files → World) (asked : Option Asked) (wish : Wish) (before after : Outside) (came : Result ℕ RunFault) → Some (Judge wish) ≡ asked
-    → CarriesOut given (Some wish) before after came → Carries given asked before after came
-judged given asked wish before after came is does = subst (λ (a : Option Asked). Carries given a before after came) is does
+    → DoesJob given (Some wish) before after came → DoesAsked given asked before after came
+judged given asked wish before after came is does = subst (λ (a : Option Asked). DoesAsked given a before after came) is does
 
 -- a new stream was written
 pub generated : (given : Files → World) (asked : Option Asked) (wish : GenerateWish) (before after : Outside) (came : Result ℕ RunFault)
     → Some (Generate wish) ≡ asked → after ≡ record before { output = after.output }
-    → ((files : Files) → WritesBy (stream (given files).signing wish) before.output after.output came) → Carries given asked before after came
+    → ((files : Files) → WritesBy (stream (given files).signing wish) before.output after.output came) → DoesAsked given asked before after came
 generated given asked wish before after came is still wrote =
-    subst (λ (a : Option Asked). Carries given a before after came) is (λ files. record { still = still; wrote = wrote files })
+    subst (λ (a : Option Asked). DoesAsked given a before after came) is (λ files. record { still = still; wrote = wrote files })
 
 module _ (accepts : Accepts) (signing : Signing) (processors : Processors) (own : HasOwnReasons processors) (workers : ℕ) (task : Task) (list batches : Option (List ℕ))
     (before : Outside) (held : End Files) where
@@ -167,14 +167,14 @@ module _ (accepts : Accepts) (signing : Signing) (processors : Processors) (own 
   why = ((is_some list || is_some batches) ≡ true) × Rose before.shelf.faults held.faults
 
   abbrev Carried : RunFault → Type 0
-  Carried fault = CarriesOut (world_with accepts signing processors) wish before asked (Err fault)
+  Carried fault = DoesJob (world_with accepts signing processors) wish before asked (Err fault)
 
   -- nothing was prepared
   pub unprepared : (fault : RunFault) → Prepares accepts signing list batches before.shelf held (Err fault) → Carried fault
   unprepared fault prepares = by_fault fault prepares.by
     where
       carried : (fault : RunFault) → (fault ≡ runs.Words → ⊥) → (fault ≡ runs.FileFailed → (is_some list || is_some batches) ≡ true)
-          → Does processors task (ready_in prepares.files) before asked (Err fault) → Carried fault
+          → DoesTask processors task (ready_in prepares.files) before asked (Err fault) → Carried fault
       carried fault other named does = record {
         files = prepares.files;
         held = prepares.held;
@@ -190,7 +190,7 @@ module _ (accepts : Accepts) (signing : Signing) (processors : Processors) (own 
           → ((bytes : List ℕ) (left : Option (List ℕ)) → EndsBy (faulty fault) bytes left (sides_of before asked) (Err fault))
           → Carried fault
       of_file fault other named is cause ends = carried fault other named
-          (subst (λ (r : Result Prepared RunFault). Does processors task r before asked (Err fault)) (sym is)
+          (subst (λ (r : Result Prepared RunFault). DoesTask processors task r before asked (Err fault)) (sym is)
           (faulted processors own before held before.remotes task fault cause ends))
 
       by_fault : (fault : RunFault) → ComesBy why (ready_in prepares.files) (Err fault) → Carried fault
@@ -225,15 +225,15 @@ module _ (accepts : Accepts) (signing : Signing) (processors : Processors) (own 
 
     -- the task was done; no fetch failed any more, since none was needed
     pub with_ready : (after : Outside) (came : Result ℕ RunFault) → after.shelf ≡ held → AreLater before.remotes after.remotes
-        → ((from to : End Files) → Does processors task (Ok made) (record before { shelf = from }) (record after { shelf = to }) came)
-        → CarriesOut (world_with accepts signing processors) wish before after came
+        → ((from to : End Files) → DoesTask processors task (Ok made) (record before { shelf = from }) (record after { shelf = to }) came)
+        → DoesJob (world_with accepts signing processors) wish before after came
     with_ready after came same later does = record {
       files = prepares.files;
       held = prepares.held;
       words = (λ is. absurd (never_words is), λ none. absurd cc);
       named = λ is. absurd (never_failed is);
       later = later;
-      does = subst (λ (r : Result Prepared RunFault). Does processors task r before after came) (sym prepares.by) (does before.shelf after.shelf);
+      does = subst (λ (r : Result Prepared RunFault). DoesTask processors task r before after came) (sym prepares.by) (does before.shelf after.shelf);
     }
       where
         causes : Causes before after came
@@ -249,7 +249,7 @@ module _ (accepts : Accepts) (signing : Signing) (processors : Processors) (own 
             let failed : Causes before after (Err runs.FileFailed) = subst (Causes before after) is causes in
             omega (arith, failed.0)
 
--- ---- processors elsewhere
+-- ---- external processors
 
 -- what was done with some of them, as done with all
 module _ (processors : Processors) (task : Task) (ready : Prepared) (before after : Outside) (olds news all_olds all_news : List ℕ)
@@ -285,8 +285,8 @@ module _ (processors : Processors) (task : Task) (ready : Prepared) (before afte
   cause_so (Err (runs.Collision kept given)) cause = cause
   cause_so (Err fault) cause = (ready, refl)
 
-  pub does_so : (came : Result ℕ RunFault) → Does processors task (Ok ready) some_before some_after came
-      → Does processors task (Ok ready) all_before all_after came
+  pub does_so : (came : Result ℕ RunFault) → DoesTask processors task (Ok ready) some_before some_after came
+      → DoesTask processors task (Ok ready) all_before all_after came
   does_so came does = record {
     cause = cause_so came does.cause;
     lines = does.lines;
@@ -305,7 +305,7 @@ module _ (given : Files → World) (wish : Wish) (before : Outside) (counts : Li
 
   -- one of them failed as it began, or memory was refused
   pub unbegun : ((files : Files) → HasOwnReasons (given files).processors) → (fault : RunFault) → (fault ≡ runs.Peer) ⊎ (fault ≡ runs.Memory) → (fault ≡ runs.Peer → SomeRose before.remotes counts)
-      → CarriesOut given (Some wish) before begun_at (Err fault)
+      → DoesJob given (Some wish) before begun_at (Err fault)
   unbegun own fault (inl is) rose =
       let at = files_in before.shelf.tells in
       let world = given at.0 in
@@ -331,7 +331,7 @@ module _ (given : Files → World) (wish : Wish) (before : Outside) (counts : Li
       })
 
   -- what was done behind their beginning
-  module _ (after : Outside) (came : Result ℕ RunFault) (done : CarriesOut given (Some wish) begun_at after came) where
+  module _ (after : Outside) (came : Result ℕ RunFault) (done : DoesJob given (Some wish) begun_at after came) where
     abbrev CausesFrom : Outside → Result ℕ RunFault → Type 0
     CausesFrom from came = let world = given done.files in HasCause world.processors wish.task (prepared world (Some wish)) from after came
 
@@ -353,7 +353,7 @@ module _ (given : Files → World) (wish : Wish) (before : Outside) (counts : Li
     never_words : came ≡ Err runs.Words → ⊥
     never_words is = let none = done.words.0 is in cc none
 
-    pub since_begun : CarriesOut given (Some wish) before after came
+    pub since_begun : DoesJob given (Some wish) before after came
     since_begun =
         let does = done.does in
         record {

@@ -32,7 +32,7 @@ use Rattle.saw_receipts.specs.Branches.{ids_in}
 use Rattle.saw_messages.specs.declared.batch.Batch.{Batch as BatchMessage}
 use Rattle.saw_address.specs.Maps.{StateMap}
 use Rattle.saw_top.specs.EndingFaults.{IsOfStream}
-use Rattle.saw_top.specs.Headline.{Does, EndsBy, GoesOn, HasCause, HasFault, IsDone, KeepsUp, MeetsClash, MeetsClashBehind, Shows, ShowsBy, TellsFirst}
+use Rattle.saw_top.specs.Headline.{DoesTask, EndsBy, LinesInTime, HasCause, HasFault, IsDone, LinesOfAllRead, MeetsClash, MeetsClashBehind, WritesAnswer, WritesAnswerOf, TellsFirst}
 use Rattle.saw_top.specs.History.{History, map_behind, maps_of, records_of, some_refused}
 use Rattle.saw_top.specs.StreamJudging.{JudgesFor}
 use Rattle.saw_top.specs.StreamJudging.{IsPrompt, IsUpToDate, Judges, JudgesAll, JudgesBy, JudgesTo, StopsAtClash}
@@ -40,7 +40,7 @@ use Rattle.saw_top.specs.Listing.{batch_status, batch_text, listing, listing_sta
 use Rattle.saw_top.specs.Outside.{End, Outside, Sides, SomeRose, WritesFront, lines_side, other_side, sides_of}
 use Rattle.saw_top.specs.Reports.{report}
 use Rattle.saw_top.specs.Run.{Answer, AtEnd, end_by, ending_of, fault_of, history_of, noted_by, run_of, run_to, status_by, task_answer, written_by}
-use Rattle.saw_top.specs.KeptBlocks.{IsAfter, IsKept}
+use Rattle.saw_top.specs.KeptBlocks.{IsAfter, IsKeptBlock}
 use Rattle.saw_top.specs.World.{Accepts, AreWays, Judging, Ways, judging_by, serially}
 use Rattle.saw_top.specs.declared.task.Ending.{Ending}
 use Rattle.saw_top.specs.declared.task.Ending.TheVariants.{Batch, Candidate, Head, Entries, Receipts}
@@ -135,7 +135,7 @@ module _ (judging : Judging) (rules : Rules) (waiting : Waiting) (task : Task) (
   abbrev on_notes : List ℕ
   on_notes = noted_by task.lines run
 
-  keeps_up : IsUpToDate judging task.lines bytes left old mid → KeepsUp answer bytes left at
+  keeps_up : IsUpToDate judging task.lines bytes left old mid → LinesOfAllRead answer bytes left at
   keeps_up up =
       let there = placed_all before middle (run_to judging bytes (length up.frames)) task.lines aside up.written in
       record {
@@ -201,7 +201,7 @@ module _ (judging : Judging) (rules : Rules) (waiting : Waiting) (task : Task) (
     abbrev behind : Sides
     behind = sides_of before (record middle { output = out; notes = told })
 
-    goes_on : IsPrompt judging task.lines bytes left old mid → GoesOn answer bytes left behind
+    goes_on : IsPrompt judging task.lines bytes left old mid → LinesInTime answer bytes left behind
     goes_on prompt =
         let there = placed before middle (run_to judging bytes (length prompt.frames)) task.lines aside prompt.part prompt.written in
         let output = answer.output_for (length prompt.frames) in
@@ -221,7 +221,7 @@ module _ (judging : Judging) (rules : Rules) (waiting : Waiting) (task : Task) (
         }
 
   -- nothing was
-  pub shows_fault : (ledger : Ledger) (e : RunFault) → Judges judging task.lines bytes left old mid ledger (Err e) → Shows answer bytes left at (Err e)
+  pub shows_fault : (ledger : Ledger) (e : RunFault) → Judges judging task.lines bytes left old mid ledger (Err e) → WritesAnswer answer bytes left at (Err e)
   shows_fault ledger e judged =
       let front = placed_front before middle run task.lines aside judged.front in
       let end = end_by rules waiting task.ending run (fault_of judging bytes) in
@@ -290,7 +290,7 @@ module _ (judging : Judging) (rules : Rules) (waiting : Waiting) (task : Task) (
     ends_by (Err e) by kind = absurd kind
 
     pub finished : (result : Result ℕ RunFault) → WritesEnd end ledger middle.output out middle.notes told result
-        → IfErr result IsOfEnd → Shows answer bytes left last result
+        → IfErr result IsOfEnd → WritesAnswer answer bytes left last result
     finished result wrote kind = record {
       output = front_behind answer.output at.old at.new out.tells on_output end.output output_is there.0 wrote.output;
       notes = front_behind answer.noted at.told_old at.told_new told.tells on_notes end.noted noted_is there.1 wrote.notes;
@@ -300,7 +300,7 @@ module _ (judging : Judging) (rules : Rules) (waiting : Waiting) (task : Task) (
 
 -- ---- what a journal with all blocks has at the end
 
-right_head : (accepted : List Kept) (states : States) → AllByRecursion (IsKept accepted states) accepted → (head : Option BlockRecord)
+right_head : (accepted : List Kept) (states : States) → AllByRecursion (IsKeptBlock accepted states) accepted → (head : Option BlockRecord)
     → head_of (records_of accepted) ≡ head
     → map_under states head ≡ map_behind accepted head
 right_head accepted states kept None is = refl
@@ -419,14 +419,14 @@ module _ (processors : Processors) (own : HasOwnReasons processors) (task : Task
     -- what is shown of the bytes, where they are told
     shown_to : (ways : Ways) (result : Result Bool RunFault) (after : Outside) (came : Result ℕ RunFault) (first : Option (List ℕ))
         → IfSome first (JudgedBy ways.blocks result)
-        → ((bytes : List ℕ) → JudgedBy ways.blocks result bytes → ShowsBy processors task (Ok ready) before after came ways bytes)
-        → IfSome first (ShowsBy processors task (Ok ready) before after came ways)
+        → ((bytes : List ℕ) → JudgedBy ways.blocks result bytes → WritesAnswerOf processors task (Ok ready) before after came ways bytes)
+        → IfSome first (WritesAnswerOf processors task (Ok ready) before after came ways)
     shown_to ways result after came None judged shows = tt
     shown_to ways result after came (Some bytes) judged shows = shows bytes judged
 
     -- the judging ended it
     pub does_to : (e : RunFault) → JudgesFor processors accepts task.lines before middle ledger (Err e)
-        → Does processors task (Ok ready) before middle (Err e)
+        → DoesTask processors task (Ok ready) before middle (Err e)
     does_to e judged =
         let noted = noted_by_lines task.lines before middle judged.aside judged.wrote.0 judged.wrote.1 in
         record {
@@ -449,7 +449,7 @@ module _ (processors : Processors) (own : HasOwnReasons processors) (task : Task
         may : AreWays processors ways
         may = record { blocks = judged.judges.may; candidate = (serial_may processors own).candidate }
 
-        shows : IfSome before.input.tells (ShowsBy processors task (Ok ready) before middle (Err e) ways)
+        shows : IfSome before.input.tells (WritesAnswerOf processors task (Ok ready) before middle (Err e) ways)
         shows = shown_to ways (Err e) middle (Err e) before.input.tells judged.judges.so
             (λ bytes found. (
               shows_fault (judging_by accepts ways) (rules_with first_half accepts ways.candidate) ready.waiting task bytes middle.input.tells before middle
@@ -490,7 +490,7 @@ module _ (processors : Processors) (own : HasOwnReasons processors) (task : Task
       may : AreWays processors ways
       may = record { blocks = judged.judges.may; candidate = finish.may }
 
-      shown_at : (bytes : List ℕ) → JudgedBy judged.judges.ways (Ok refused) bytes → ShowsBy processors task (Ok ready) before after result ways bytes
+      shown_at : (bytes : List ℕ) → JudgedBy judged.judges.ways (Ok refused) bytes → WritesAnswerOf processors task (Ok ready) before after result ways bytes
       shown_at bytes j =
           let judging = judging_by accepts ways in
           let rules = rules_with first_half accepts finish.way in
@@ -506,10 +506,10 @@ module _ (processors : Processors) (own : HasOwnReasons processors) (task : Task
                 finish.writes.order,
           )
 
-      shows : IfSome before.input.tells (ShowsBy processors task (Ok ready) before after result ways)
+      shows : IfSome before.input.tells (WritesAnswerOf processors task (Ok ready) before after result ways)
       shows = shown_to ways (Ok refused) after result before.input.tells judged.judges.so shown_at
 
-      pub does_all : Does processors task (Ok ready) before after result
+      pub does_all : DoesTask processors task (Ok ready) before after result
       does_all =
           let noted = noted_by_lines task.lines before middle judged.aside judged.wrote.0 judged.wrote.1 in
           let first : before.notes.faults ≤ middle.notes.faults = later_notes task.lines before middle judged.aside judged.later in
@@ -526,7 +526,7 @@ module _ (processors : Processors) (own : HasOwnReasons processors) (task : Task
           }
 
   -- nothing was judged, since memory was refused
-  pub does_nothing : (held : End Files) → Does processors task (Ok ready) before (record before { shelf = held }) (Err runs.Memory)
+  pub does_nothing : (held : End Files) → DoesTask processors task (Ok ready) before (record before { shelf = held }) (Err runs.Memory)
   does_nothing held = does_to (record before { shelf = held }) none runs.Memory (judges task.lines)
     where
       none : Ledger

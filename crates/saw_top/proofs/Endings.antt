@@ -13,7 +13,7 @@ use Rattle.saw_generate.specs.Streams.{stream}
 use Rattle.saw_top.specs.Answers.{Prepared, answer_by, answer_to, prepared, task_by}
 use Rattle.saw_top.specs.Command.{Asked, Generate, Judge, Wish, asked_of}
 use Rattle.saw_top.specs.EndingFaults.{is_told}
-use Rattle.saw_top.specs.Headline.{Carries, CarriesOut, EndsBy, Gives, HasCause, HasEnded, HasFault, IsAnswered, IsToldFor, IsWhole, ShowsBy, TellsEnd, TellsFault, WhereRead, WritesBy}
+use Rattle.saw_top.specs.Headline.{DoesAsked, DoesJob, EndsBy, IsWritten, HasCause, HasEnded, HasFault, IsAnswered, IsToldFor, IsWhole, WritesAnswerOf, TellsEnd, TellsFault, WhereRead, WritesBy}
 use Rattle.saw_node.specs.Contents.{Node}
 use Rattle.saw_top.specs.Outside.{End, Outside, SomeFailed, sides_of}
 use Rattle.saw_top.specs.Run.{Answer, line_by, whole}
@@ -34,7 +34,7 @@ module _ (answer : Answer) (bytes : List ℕ) (before after : Outside) (notes : 
   middle = record after { notes = notes }
 
   abbrev Answered : Type 0
-  Answered = (status ≡ 7) ⊎ ((status ≡ 9) ⊎ (SomeFailed before after ⊎ Gives answer (sides_of before after) status))
+  Answered = (status ≡ 7) ⊎ ((status ≡ 9) ⊎ (SomeFailed before after ⊎ IsWritten answer (sides_of before after) status))
 
   failed_so : SomeFailed before after → Answered
   failed_so failed = inr (inr (inl failed))
@@ -43,7 +43,7 @@ module _ (answer : Answer) (bytes : List ℕ) (before after : Outside) (notes : 
   Whole = IsWhole answer bytes after.input.tells (sides_of before middle)
 
   gives : (fault : Option RunFault) (code : ℕ) → Whole code → answer.fault ≡ fault → status ≡ code → Appends notes.tells after.notes.tells (line_by fault)
-      → Gives answer (sides_of before after) status
+      → IsWritten answer (sides_of before after) status
   gives fault code whole is same wrote = record {
     output = whole.output;
     notes = subst (λ (f : Option RunFault). Appends before.notes.tells after.notes.tells (answer.noted ++ line_by f)) (sym is)
@@ -111,7 +111,7 @@ module _ (given : Files → World) (before after : Outside) (notes : End (List �
     pub comes : WhereRead asked before.input.tells
         (λ bytes. Answered (answer_by ways (given files) asked bytes) bytes before after notes status)
 
-  module _ (wish : Option Wish) (came : Result ℕ RunFault) (done : CarriesOut given wish before noted came) (told : TellsEnd came notes after.notes status) where
+  module _ (wish : Option Wish) (came : Result ℕ RunFault) (done : DoesJob given wish before noted came) (told : TellsEnd came notes after.notes status) where
     abbrev world : World
     world = given done.files
 
@@ -119,20 +119,20 @@ module _ (given : Files → World) (before after : Outside) (notes : End (List �
     ready = prepared world wish
 
     -- what is shown of bytes is the answer
-    as_answered : (ways : Ways) (bytes : List ℕ) → ShowsBy world.processors (task_by wish) ready before noted came ways bytes
+    as_answered : (ways : Ways) (bytes : List ℕ) → WritesAnswerOf world.processors (task_by wish) ready before noted came ways bytes
         → Answered (answer_to ways world wish bytes) bytes before after notes status
     as_answered ways bytes shows =
         by_end (answer_to ways world wish bytes) bytes before after notes status world.processors (task_by wish) ready came shows.0.ends done.does.cause told
         done.does.later
 
     answers : IfSome before.input.tells (λ bytes. Answered (answer_to done.does.ways world wish bytes) bytes before after notes status)
-    answers = some_map before.input.tells (ShowsBy world.processors (task_by wish) ready before noted came done.does.ways)
+    answers = some_map before.input.tells (WritesAnswerOf world.processors (task_by wish) ready before noted came done.does.ways)
         (λ bytes. Answered (answer_to done.does.ways world wish bytes) bytes before after notes status) (as_answered done.does.ways) done.does.shows
 
     answers_told : IfSome before.input.tells (λ bytes. IsTold world.processors ready bytes
         → Answered (answer_to (serially world.processors) world wish bytes) bytes before after notes status)
     answers_told = some_map before.input.tells
-        (λ bytes. IsTold world.processors ready bytes → ShowsBy world.processors (task_by wish) ready before noted came (serially world.processors) bytes)
+        (λ bytes. IsTold world.processors ready bytes → WritesAnswerOf world.processors (task_by wish) ready before noted came (serially world.processors) bytes)
         (λ bytes. IsTold world.processors ready bytes → Answered (answer_to (serially world.processors) world wish bytes) bytes before after notes status)
         (λ bytes shows all. as_answered (serially world.processors) bytes (shows all)) done.does.told
 
@@ -155,7 +155,7 @@ module _ (given : Files → World) (before after : Outside) (notes : End (List �
     of_stream (Err fault) wrote told = absurd wrote
 
   by_asked : ((files : Files) → HasOwnReasons (given files).processors) → (asked : Option Asked) (came : Result ℕ RunFault)
-      → Carries given asked before noted came → TellsEnd came notes after.notes status → Holds asked
+      → DoesAsked given asked before noted came → TellsEnd came notes after.notes status → Holds asked
   by_asked own None came done told = record {
     files = done.files;
     held = done.held;

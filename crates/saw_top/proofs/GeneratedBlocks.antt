@@ -5,7 +5,6 @@ use Rattle.std.specs.Prelude.{option_map}
 use Rattle.std.specs.List.{flat_map, list_any, range_with_len}
 use Rattle.std.specs.Str.{bytes_eq}
 use Rattle.std.proofs.lemmas.List.{length_push, map_push}
-use Rattle.saw_checks.specs.Tests.{first_of}
 use Rattle.saw_generate.proofs.Every.{every_batch_applies}
 use Rattle.saw_generate.proofs.Places.{ids_more, parts_more}
 use Rattle.saw_generate.proofs.WholeBlocks.{batches_free, block_good, none_failed, number_is}
@@ -17,7 +16,7 @@ use Rattle.saw_journal.proofs.Branching.{branch_of-new}
 use Rattle.saw_journal.proofs.Ids.{ids_push_block}
 use Rattle.saw_journal.proofs.Judging.{stands}
 use Rattle.saw_journal.proofs.Linking.{linked_push, none_linked}
-use Rattle.saw_journal.specs.BlockFaults.{ids_before, parent_of, place_tests}
+use Rattle.saw_journal.specs.BlockFaults.{first_in, ids_before, parent_of, place_tests}
 use Rattle.saw_journal.specs.BlockShapes.{Parts, parts_of}
 use Rattle.saw_journal.specs.Judgement.{Kept, kept_of}
 use Rattle.saw_journal.specs.Linked.{AreLinked, StandsBehind}
@@ -131,9 +130,9 @@ module _ (accepts : Accepts) (signing : Signing) (wish : GenerateWish) where
         (ids_are signing.key ids (root_at signing wish b) blocks (head_of blocks) at_head ∙ ap ids_in (branch_is blocks (head_of blocks) at_head))
         ∙ is.ids
 
-    well_placed : first_of (place_tests (records_after b) (id_at signing wish b) (header_at b)) ≡ None
+    well_placed : first_in (place_tests (records_after b) (id_at signing wish b) (header_at b)) ≡ None
     well_placed =
-        subst (λ (parent : Option Parent). first_of (place_tests blocks (id_at signing wish b) (header_behind parent)) ≡ None) is.parent
+        subst (λ (parent : Option Parent). first_in (place_tests blocks (id_at signing wish b) (header_behind parent)) ≡ None) is.parent
         (placed signing.key ids (root_at signing wish b) blocks (head_of blocks) (id_at signing wish b) at_head fresh)
 
     none_fails : first_failure 0 (results_at signing wish b) ≡ None

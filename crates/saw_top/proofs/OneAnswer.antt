@@ -12,7 +12,7 @@ use Rattle.saw_receipts.specs.Branches.{ids_in}
 use Rattle.saw_receipts.specs.Heads.{head_branch, head_of}
 use Rattle.saw_report.specs.declared.run_fault.RunFault.{RunFault}
 use Rattle.saw_top.specs.Answers.{Prepared, answer_for}
-use Rattle.saw_top.specs.Headline.{Shows, ShowsBy, TellsFirst}
+use Rattle.saw_top.specs.Headline.{WritesAnswer, WritesAnswerOf, TellsFirst}
 use Rattle.saw_top.specs.History.{History, history, map_behind, maps_of, records_of, some_refused, tried}
 use Rattle.saw_top.specs.Outside.{Outside, sides_of}
 use Rattle.saw_top.specs.Publishing.{Waiting, candidate_status, candidate_text, losses_text, map_left, parent_at}
@@ -111,9 +111,9 @@ module _ (processors : Processors) (ways : Ways) (may : AreWays processors ways)
 
   -- so what is shown of one is shown of that of batches that are run one after another
   pub shows_told : (task : Task) (ready : Result Prepared RunFault) (before after : Outside) (came : Result ℕ RunFault) (first : Option (List ℕ))
-      → IfSome first (ShowsBy processors task ready before after came ways)
-      → IfSome first (λ bytes. IsTold processors ready bytes → ShowsBy processors task ready before after came (serially processors) bytes)
+      → IfSome first (WritesAnswerOf processors task ready before after came ways)
+      → IfSome first (λ bytes. IsTold processors ready bytes → WritesAnswerOf processors task ready before after came (serially processors) bytes)
   shows_told task ready before after came None shows = tt
   shows_told task ready before after came (Some bytes) shows = λ told.
-      subst (λ (answer : Answer). Shows answer bytes after.input.tells (sides_of before after) came
+      subst (λ (answer : Answer). WritesAnswer answer bytes after.input.tells (sides_of before after) came
       × TellsFirst task.lines answer.noted (sides_of before after)) (one_answer task ready bytes told) shows

@@ -114,24 +114,24 @@ module _ (judging : Judging) (lines : Lines) where
     reported = report_on at.frames
 
     -- the stream goes on so behind the frames that were read
-    abbrev GoesOn : Stream → Type 0
-    GoesOn others = stream_of bytes ≡ all_before at.frames others
+    abbrev FollowedBy : Stream → Type 0
+    FollowedBy others = stream_of bytes ≡ all_before at.frames others
 
     abbrev behind : Stream → History
     behind others = history judging (length at.frames) others.frames seen.accepted
 
-    run_at : (others : Stream) → GoesOn others → run_of judging bytes ≡ after seen (behind others)
+    run_at : (others : Stream) → FollowedBy others → run_of judging bytes ≡ after seen (behind others)
     run_at others is = ap (λ (s : Stream). so_far s.frames) is ∙ behind_first judging at.frames others.frames at.room
 
-    report_at : (others : Stream) → GoesOn others → report_in judging lines bytes ≡ reported ++ report lines (length at.frames) (behind others).said
+    report_at : (others : Stream) → FollowedBy others → report_in judging lines bytes ≡ reported ++ report lines (length at.frames) (behind others).said
     report_at others is = ap (λ (s : Stream). report_on s.frames) is ∙ report-behind lines judging at.frames others.frames at.room
 
-    fault_at : (others : Stream) → GoesOn others → fault_of judging bytes ≡ fault_in (behind others) others.fault
+    fault_at : (others : Stream) → FollowedBy others → fault_of judging bytes ≡ fault_in (behind others) others.fault
     fault_at others is =
         ap (λ (run : History). fault_in run (stream_of bytes).fault) (run_at others is) ∙ ap (λ (s : Stream). fault_in (behind others) s.fault) is
 
     -- nothing stands behind them
-    module _ (fault : Option RunFault) (is : GoesOn (no_frames fault)) where
+    module _ (fault : Option RunFault) (is : FollowedBy (no_frames fault)) where
       run_last : run_of judging bytes ≡ seen
       run_last = ap (λ (s : Stream). so_far s.frames) is ∙ ap so_far (append-nil at.frames)
 
@@ -201,7 +201,7 @@ module _ (judging : Judging) (lines : Lines) where
     }
 
     -- a fault of the bytes themselves
-    shown_fault : (fault : RunFault) → GoesOn (no_frames (Some fault)) → JudgesTo judging lines bytes old mid fault
+    shown_fault : (fault : RunFault) → FollowedBy (no_frames (Some fault)) → JudgesTo judging lines bytes old mid fault
     shown_fault fault is = (fault_last (Some fault) is, written_last (Some fault) is)
 
     -- ---- a read that gave no frame
@@ -217,7 +217,7 @@ module _ (judging : Judging) (lines : Lines) where
         took : (length taken ≤ 4) ⊎ IsPart taken → TakesNext place at.rest next
         took few = inl (below, inl (taken, rest, few))
 
-        faulty : (e : FrameFault) → frame_at max_length at.rest ≡ Err e → GoesOn (no_frames (Some (fault_of_frame e)))
+        faulty : (e : FrameFault) → frame_at max_length at.rest ≡ Err e → FollowedBy (no_frames (Some (fault_of_frame e)))
         faulty e is = stream_faulty max_frames at.frames bytes at.rest at.reads (omega (arith, at.count)) e is
 
         by_fault : (e : FrameFault) → FrameGives max_length now next (Err e) → Takes e taken next → Ends next ledger (Err (fault_of_frame e))
@@ -248,7 +248,7 @@ module _ (judging : Judging) (lines : Lines) where
 
     -- ---- the end of the stream
 
-    ended_all : (next : Option (List ℕ)) → place ≤ max_frames → TakesNext place at.rest next → IsAtEnd next → GoesOn (no_frames None)
+    ended_all : (next : Option (List ℕ)) → place ≤ max_frames → TakesNext place at.rest next → IsAtEnd next → FollowedBy (no_frames None)
         → Ends next ledger (Ok refused)
     ended_all next fits taken ended is =
         let run = run_last None is in
@@ -283,7 +283,7 @@ module _ (judging : Judging) (lines : Lines) where
       abbrev others : Stream
       others = stream_from (max_frames - length at.frames - 1) (rw at.left at told).0
 
-      goes_on : GoesOn (before content.items others)
+      goes_on : FollowedBy (before content.items others)
       goes_on =
           let read = rw at.left at told in
           stream_goes_on max_frames at.frames bytes at.rest at.reads (omega (arith, at.count)) content.items read.0 read.2

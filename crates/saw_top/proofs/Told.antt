@@ -5,7 +5,6 @@ use Rattle.std.proofs.lemmas.Bool.{and_from, and_parts}
 use Rattle.std.specs.List.{list_all}
 use Rattle.saw_address.specs.Maps.{StateMap}
 use Rattle.saw_checks.specs.StructureFaults.{structure_fault}
-use Rattle.saw_checks.specs.Tests.{◌<|>◌}
 use Rattle.saw_checks.specs.declared.fault.StructureFault.{StructureFault}
 use Rattle.saw_context.proofs.Coming.{from_told}
 use Rattle.saw_context.specs.Outcome.{Processors}
@@ -13,8 +12,9 @@ use Rattle.saw_context.specs.Possible.{are_told}
 use Rattle.saw_context.specs.Serial.{serial}
 use Rattle.saw_journal.specs.BlockFaults.{parent_of}
 use Rattle.saw_journal.specs.BlockShapes.{Parts, parts_of}
+use Rattle.saw_rules.specs.Policies.{no_policy}
 use Rattle.saw_journal.specs.Judgement.{judged, judged_block, judged_header, judged_parts, judged_unless, judged_with, left_block, left_header, left_parts, left_unless, rules_with, some_unless, would_leave}
-use Rattle.saw_journal.specs.BlockFaults.{early_fault, failure_fault}
+use Rattle.saw_journal.specs.BlockFaults.{fault_but_root}
 use Rattle.saw_context.specs.Serial.{left_after}
 use Rattle.saw_context.specs.declared.batch_result.BatchResult.{BatchResult}
 use Rattle.saw_messages.specs.Blocks.{block, block_header}
@@ -86,46 +86,46 @@ module _ (processors : Processors) (runs : Runs) (by : RunsBy processors runs) w
   module _ (map_behind : Option BlockRecord → StateMap) (blocks : List BlockRecord) where
     module _ (hash : List ℕ → List ℕ) where
       judged_parts_told : (parts : Parts) → are_told processors (txs_of parts.batches) ≡ true
-          → judged_parts hash runs map_behind blocks parts ≡ judged_parts hash serially map_behind blocks parts
+          → judged_parts hash no_policy runs map_behind blocks parts ≡ judged_parts hash no_policy serially map_behind blocks parts
       judged_parts_told parts told =
           let before = map_behind (parent_of blocks parts.header) in
-          ap (λ (results : List BatchResult). judged_with hash blocks before results parts) (same before (txs_of parts.batches) told)
+          ap (λ (results : List BatchResult). judged_with hash no_policy blocks before results parts) (same before (txs_of parts.batches) told)
 
       judged_header_told : (b : Block) (header : Result BlockHeader MessageFault) → tell_batches processors b.batches ≡ true
-          → judged_header hash runs map_behind blocks b header ≡ judged_header hash serially map_behind blocks b header
+          → judged_header hash no_policy runs map_behind blocks b header ≡ judged_header hash no_policy serially map_behind blocks b header
       judged_header_told b (Ok header) told = judged_parts_told (parts_of b header) told
       judged_header_told b (Err e) told = refl
 
       judged_block_told : (read : Result Block MessageFault) → tell_read processors read ≡ true
-          → judged_block hash runs map_behind blocks read ≡ judged_block hash serially map_behind blocks read
+          → judged_block hash no_policy runs map_behind blocks read ≡ judged_block hash no_policy serially map_behind blocks read
       judged_block_told (Ok b) told = judged_header_told b (block_header b.header) told
       judged_block_told (Err e) told = refl
 
       judged_unless_told : (content : List ℕ) (fault : Option StructureFault) → tell_block processors content ≡ true
-          → judged_unless hash runs map_behind blocks content fault ≡ judged_unless hash serially map_behind blocks content fault
+          → judged_unless hash no_policy runs map_behind blocks content fault ≡ judged_unless hash no_policy serially map_behind blocks content fault
       judged_unless_told content (Some fault) told = refl
       judged_unless_told content None told = judged_block_told (block content) told
 
-    left_parts_told : (parts : Parts) → are_told processors (txs_of parts.batches) ≡ true
-        → left_parts runs map_behind blocks parts ≡ left_parts serially map_behind blocks parts
-    left_parts_told parts told =
-        let before = map_behind (parent_of blocks parts.header) in
-        ap (λ (results : List BatchResult). some_unless (early_fault blocks parts <|> failure_fault results) (left_after before results)) (same before (txs_of parts.batches) told)
+      left_parts_told : (parts : Parts) → are_told processors (txs_of parts.batches) ≡ true
+          → left_parts hash no_policy runs map_behind blocks parts ≡ left_parts hash no_policy serially map_behind blocks parts
+      left_parts_told parts told =
+          let before = map_behind (parent_of blocks parts.header) in
+          ap (λ (results : List BatchResult). some_unless (fault_but_root hash no_policy blocks before results parts) (left_after before results)) (same before (txs_of parts.batches) told)
 
-    left_header_told : (b : Block) (header : Result BlockHeader MessageFault) → tell_batches processors b.batches ≡ true
-        → left_header runs map_behind blocks b header ≡ left_header serially map_behind blocks b header
-    left_header_told b (Ok header) told = left_parts_told (parts_of b header) told
-    left_header_told b (Err e) told = refl
+      left_header_told : (b : Block) (header : Result BlockHeader MessageFault) → tell_batches processors b.batches ≡ true
+          → left_header hash no_policy runs map_behind blocks b header ≡ left_header hash no_policy serially map_behind blocks b header
+      left_header_told b (Ok header) told = left_parts_told (parts_of b header) told
+      left_header_told b (Err e) told = refl
 
-    left_block_told : (read : Result Block MessageFault) → tell_read processors read ≡ true
-        → left_block runs map_behind blocks read ≡ left_block serially map_behind blocks read
-    left_block_told (Ok b) told = left_header_told b (block_header b.header) told
-    left_block_told (Err e) told = refl
+      left_block_told : (read : Result Block MessageFault) → tell_read processors read ≡ true
+          → left_block hash no_policy runs map_behind blocks read ≡ left_block hash no_policy serially map_behind blocks read
+      left_block_told (Ok b) told = left_header_told b (block_header b.header) told
+      left_block_told (Err e) told = refl
 
-    left_unless_told : (content : List ℕ) (fault : Option StructureFault) → tell_block processors content ≡ true
-        → left_unless runs map_behind blocks content fault ≡ left_unless serially map_behind blocks content fault
-    left_unless_told content (Some fault) told = refl
-    left_unless_told content None told = left_block_told (block content) told
+      left_unless_told : (content : List ℕ) (fault : Option StructureFault) → tell_block processors content ≡ true
+          → left_unless hash no_policy runs map_behind blocks content fault ≡ left_unless hash no_policy serially map_behind blocks content fault
+      left_unless_told content (Some fault) told = refl
+      left_unless_told content None told = left_block_told (block content) told
 
   -- what comes of the bytes of a block, and the map that it would leave
   module _ (accepts : Accepts) (map_behind : Option BlockRecord → StateMap) (blocks : List BlockRecord) (content : List ℕ)
@@ -136,4 +136,4 @@ module _ (processors : Processors) (runs : Runs) (by : RunsBy processors runs) w
 
     pub left_told : would_leave (rules_with first_half accepts runs) map_behind blocks content ≡ would_leave (rules_with first_half accepts serially) map_behind blocks content
     unfolding would_leave
-    left_told = left_unless_told map_behind blocks content (structure_fault accepts content) told
+    left_told = left_unless_told map_behind blocks first_half content (structure_fault accepts content) told

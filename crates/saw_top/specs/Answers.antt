@@ -75,7 +75,7 @@ prepared world None = Err Words
 prepared world (Some wish) =
     prepared_by world.signing (batches_with world.files wish.batches) (vouching_with world.accepts world.files wish.list)
 
--- words that are of no form ask for nothing
+-- invalid arguments ask for nothing
 abbrev pub task_by : Option Wish → Task
 task_by None = record { lines = All; ending = Head }
 task_by (Some wish) = wish.task

@@ -34,7 +34,7 @@ use Rattle.saw_top.specs.declared.task.Task.{Task}
 -- ---- what was written of an answer
 
 -- an answer was given: output, notes and status
-pub record Gives (answer : Answer) (written : Sides) (status : ℕ) : Type 0 where
+pub record IsWritten (answer : Answer) (written : Sides) (status : ℕ) : Type 0 where
   pub output : Appends written.old written.new answer.output
   pub notes : Appends written.told_old written.told_new (notes_of answer)
   pub code : status ≡ answer.status
@@ -48,7 +48,7 @@ module _ (answer : Answer) (bytes : List ℕ) (left : Option (List ℕ)) (writte
 
   -- What was read is whole frames that have a verdict, with their lines written, and at most what comes next. So nothing is
   -- read behind a block without room, or behind as many frames as may be.
-  pub record GoesOn : Type 0 where
+  pub record LinesInTime : Type 0 where
     pub frames : List (List ℕ)
     pub rest : List ℕ
     pub reads : Reads frames bytes rest
@@ -60,7 +60,7 @@ module _ (answer : Answer) (bytes : List ℕ) (left : Option (List ℕ)) (writte
     pub notes : Appends written.told_old written.told_new (answer.noted_for (length frames) ++ noted)
 
   -- What was read is whole frames, with their lines written and no more, and less than a frame.
-  pub record KeepsUp : Type 0 where
+  pub record LinesOfAllRead : Type 0 where
     pub frames : List (List ℕ)
     pub rest : List ℕ
     pub reads : Reads frames bytes rest
@@ -109,7 +109,7 @@ module _ (answer : Answer) (bytes : List ℕ) (left : Option (List ℕ)) (writte
   EndsBy (Ok status) = IsWhole status × (answer.fault ≡ None)
   EndsBy (Err (Truncated have want)) = HasFault (Truncated have want) × IsAtEnd left
   EndsBy (Err (TooLong size)) = HasFault (TooLong size) × StopsAtLength bytes left
-  EndsBy (Err Read) = KeepsUp
+  EndsBy (Err Read) = LinesOfAllRead
   EndsBy (Err Write) = Unit {0}
   EndsBy (Err Peer) = Unit {0}
   EndsBy (Err (Collision kept given)) = MeetsClash kept given ⊎ MeetsClashBehind kept given
@@ -118,10 +118,10 @@ module _ (answer : Answer) (bytes : List ℕ) (left : Option (List ℕ)) (writte
   EndsBy (Err fault) = HasFault fault
 
   -- however a run came to its end, a front of both was written, and each line in time; and all of it, by how it did
-  pub record Shows (came : Result ℕ RunFault) : Type 0 where
+  pub record WritesAnswer (came : Result ℕ RunFault) : Type 0 where
     pub output : WritesFront answer.output written.old written.new
     pub notes : WritesFront answer.noted written.told_old written.told_new
-    pub prompt : GoesOn
+    pub prompt : LinesInTime
     pub ends : EndsBy came
 
 -- Where the lines of blocks go to the notes, all that is to be told there was told before anything was written.
@@ -143,11 +143,11 @@ module _ (processors : Processors) (task : Task) (ready : Result Prepared RunFau
   abbrev pub IsReady : Type 0
   IsReady = (made : Prepared) × (ready ≡ Ok made)
 
-  -- only the shelf and the processors elsewhere were asked
+  -- only the shelf and the external processors were asked
   abbrev pub IsStill : Type 0
   IsStill = after ≡ record before { shelf = after.shelf; remotes = after.remotes }
 
-  -- only the processors elsewhere were asked
+  -- only the external processors were asked
   abbrev pub IsUntouched : Type 0
   IsUntouched = after ≡ record before { remotes = after.remotes }
 
@@ -155,8 +155,8 @@ module _ (processors : Processors) (task : Task) (ready : Result Prepared RunFau
   abbrev pub ComesEarly : RunFault → Type 0
   ComesEarly fault = (ready ≡ Err fault) × IsStill
 
-  -- what it comes from, also where the input tells nothing: words and files are ready, unless it has their fault, or a
-  -- processor elsewhere failed before the files were asked for
+  -- what it comes from, also where the input tells nothing: words and files are ready, unless it has their fault, or an
+  -- external processor failed before the files were asked for
   abbrev pub HasCause : Result ℕ RunFault → Type 0
   HasCause (Ok status) = IsReady × IsDone task.ending status
   HasCause (Err Words) = (ready ≡ Err Words) × (after ≡ before)
@@ -174,14 +174,14 @@ module _ (processors : Processors) (task : Task) (ready : Result Prepared RunFau
   HasCause (Err fault) = IsReady
 
   -- what is shown of the bytes of the stream, where batches are run so
-  abbrev pub ShowsBy : Result ℕ RunFault → Ways → List ℕ → Type 0
-  ShowsBy came ways bytes = let answer = answer_for ways task ready bytes in
-      Shows answer bytes after.input.tells (sides_of before after) came
+  abbrev pub WritesAnswerOf : Result ℕ RunFault → Ways → List ℕ → Type 0
+  WritesAnswerOf came ways bytes = let answer = answer_for ways task ready bytes in
+      WritesAnswer answer bytes after.input.tells (sides_of before after) came
       × TellsFirst task.lines answer.noted (sides_of before after)
 
   -- What was done with words and files that prepare this. Each block's batches were run in a way that may come of its
   -- processors; where all is told, there is one.
-  pub record Does (came : Result ℕ RunFault) : Type 0 where
+  pub record DoesTask (came : Result ℕ RunFault) : Type 0 where
     pub cause : HasCause came
     pub lines : List ℕ
     pub aside : (task.lines ≡ All) × (task.ending ≢ Candidate) → lines ≡ []
@@ -189,9 +189,9 @@ module _ (processors : Processors) (task : Task) (ready : Result Prepared RunFau
     pub later : before.notes.faults ≤ after.notes.faults
     pub ways : Ways
     pub may : AreWays processors ways
-    pub shows : IfSome before.input.tells (ShowsBy came ways)
+    pub shows : IfSome before.input.tells (WritesAnswerOf came ways)
     pub told : IfSome before.input.tells
-        (λ bytes. IsTold processors ready bytes → ShowsBy came (serially processors) bytes)
+        (λ bytes. IsTold processors ready bytes → WritesAnswerOf came (serially processors) bytes)
 
 -- whether a file is named
 abbrev pub names_file : Option Wish → Bool
@@ -199,14 +199,14 @@ names_file None = false
 names_file (Some wish) = is_some wish.list || is_some wish.batches
 
 -- What was done of what was asked. Files that are not told are some files.
-pub record CarriesOut (given : Files → World) (wish : Option Wish) (before after : Outside)
+pub record DoesJob (given : Files → World) (wish : Option Wish) (before after : Outside)
     (came : Result ℕ RunFault) : Type 0 where
   pub files : Files
   pub held : IfSome before.shelf.tells (λ told. files ≡ told)
   pub words : (came ≡ Err Words) ↔ (wish ≡ None)
   pub named : came ≡ Err FileFailed → names_file wish ≡ true
   pub later : AreLater before.remotes after.remotes
-  pub does : Does (given files).processors (task_by wish) (prepared (given files) wish) before after came
+  pub does : DoesTask (given files).processors (task_by wish) (prepared (given files) wish) before after came
 
 -- ---- a new stream
 
@@ -225,10 +225,10 @@ pub record Generates (signing : Signing) (wish : GenerateWish) (before after : O
 -- ---- what was asked
 
 -- what was done of what was asked; a new stream is the same whatever the files are
-abbrev pub Carries : (Files → World) → Option Asked → Outside → Outside → Result ℕ RunFault → Type 0
-Carries given None before after came = CarriesOut given None before after came
-Carries given (Some (Judge wish)) before after came = CarriesOut given (Some wish) before after came
-Carries given (Some (Generate wish)) before after came =
+abbrev pub DoesAsked : (Files → World) → Option Asked → Outside → Outside → Result ℕ RunFault → Type 0
+DoesAsked given None before after came = DoesJob given None before after came
+DoesAsked given (Some (Judge wish)) before after came = DoesJob given (Some wish) before after came
+DoesAsked given (Some (Generate wish)) before after came =
     (files : Files) → Generates (given files).signing wish before after came
 
 -- What holds for the bytes that are unread, where they are told. A new stream is written whatever they are.
@@ -238,17 +238,17 @@ WhereRead (Some (Judge wish)) told holds = IfSome told holds
 WhereRead (Some (Generate wish)) told holds = (bytes : List ℕ) → holds bytes
 
 -- What was asked is told where each transaction that it names goes to a processor that tells its actions. A new stream and
--- words of no form go to nobody.
+-- invalid arguments go to nobody.
 abbrev pub IsToldFor : World → Option Asked → List ℕ → Type 0
 IsToldFor world None bytes = Unit {0}
 IsToldFor world (Some (Judge wish)) bytes = IsTold world.processors (prepared world (Some wish)) bytes
 IsToldFor world (Some (Generate wish)) bytes = Unit {0}
 
--- whether processors elsewhere are asked at all
-abbrev pub asks_elsewhere : Option Asked → Bool
-asks_elsewhere None = false
-asks_elsewhere (Some (Judge wish)) = true
-asks_elsewhere (Some (Generate wish)) = false
+-- whether external processors are asked at all
+abbrev pub asks_external : Option Asked → Bool
+asks_external None = false
+asks_external (Some (Judge wish)) = true
+asks_external (Some (Generate wish)) = false
 
 -- ---- what is told of it
 
@@ -285,7 +285,7 @@ module _ (given : Files → World) (words : List (List ℕ)) (before after : Out
   -- no call failed
   abbrev pub Answers : World → Ways → List ℕ → Type 0
   Answers world ways bytes = (status ≡ 7) ⊎ ((status ≡ 9)
-      ⊎ (SomeFailed before after ⊎ Gives (answer_of ways world words bytes) (sides_of before after) status))
+      ⊎ (SomeFailed before after ⊎ IsWritten (answer_of ways world words bytes) (sides_of before after) status))
 
   -- Where all is told, it is the answer of batches that are run one after another. Else it is that of some ways to run the
   -- batches of each block, and those that are published, of which each may come of their processors. It is so for some files,
@@ -303,5 +303,5 @@ module _ (given : Files → World) (words : List (List ℕ)) (before after : Out
   pub record HasEnded : Type 0 where
     pub came : Result ℕ RunFault
     pub notes : End (List ℕ)
-    pub done : Carries given (asked_of words) before (record after { notes = notes }) came
+    pub done : DoesAsked given (asked_of words) before (record after { notes = notes }) came
     pub told : TellsEnd came notes after.notes status

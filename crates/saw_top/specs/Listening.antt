@@ -1,4 +1,4 @@
--- Where processors elsewhere connect.
+-- Where external processors connect.
 use Rattle.std.specs.Prelude.{ℕ, List, Option, Some, None, option_map}
 use Rattle.std.specs.Option.{option_and_then}
 use Rattle.saw_words.specs.Numbers.{number_in}

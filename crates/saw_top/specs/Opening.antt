@@ -36,7 +36,7 @@ connected_by (Some given) = if are_of (connect ∷ []) given then by_port (requi
 abbrev pub opened_with : List ℕ → Option (List Given) → Wish
 opened_with word given = if bytes_eq word (codes "tp") then connected_by given else listened_by (wish_with word given) given
 
--- what the words ask to open; where they are of no form nothing is
+-- what the words ask to open; where they are invalid nothing is
 abbrev pub opened_of : List (List ℕ) → Wish
 opened_of [] = Plain
 opened_of (word ∷ words) = opened_with word (given_in None words)

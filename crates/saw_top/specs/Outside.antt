@@ -25,11 +25,11 @@ sink_end k output = record { tells = k.written output; faults = k.faults output 
 abbrev pub shelf_end : {F : Type 0} → shelf.Ghosts F → F → End Files
 shelf_end f held = record { tells = f.files held; faults = f.faults held }
 
--- how often each processor elsewhere has failed
+-- how often each external processor has failed
 abbrev pub counts_of : {R : Type 0} → (R → ℕ) → List (Place R) → List ℕ
 counts_of faults desks = filter_map (λ desk. option_map faults desk.remote) desks
 
--- all ends: what is unread, what was written, the files, and the processors elsewhere
+-- all ends: what is unread, what was written, the files, and the external processors
 pub record Outside : Type 0 where
   pub input : End (List ℕ)
   pub output : End (List ℕ)
@@ -46,7 +46,7 @@ module _ {S O N : Type 0} (s : source.Ghosts S) (o : sink.Ghosts O) (n : sink.Gh
   outside_with input output notes held remotes =
       at_ends (source_end s input) (sink_end o output) (sink_end n notes) held remotes
 
-  -- with these processors elsewhere
+  -- with these external processors
   abbrev pub outside : {F R : Type 0} → shelf.Ghosts F → (R → ℕ) → S → O → N → F → List R → Outside
   outside f faults input output notes held remotes = outside_with input output notes (shelf_end f held) (map faults remotes)
 

@@ -1,4 +1,4 @@
--- Processors elsewhere at their desks.
+-- External processors at their desks.
 use Rattle.std.specs.Prelude.{◌≡◌, ◌⊎◌, ◌+◌, ℕ, Bool, true, List, Result, Ok, Err, All, drop, take}
 use Rattle.std.specs.List.{AllByRecursion, filter_map}
 use Rattle.saw_report.specs.declared.run_fault.RunFault.{RunFault}
@@ -6,7 +6,7 @@ use Rattle.saw_report.specs.declared.run_fault.RunFault.TheVariants.{Peer, Memor
 use Rattle.saw_station.specs.DeskPlaces.{Place}
 use Rattle.saw_station.specs.declared.offer.Offer.{Offer}
 
--- the processors elsewhere of desks
+-- the external processors of desks
 abbrev pub remotes_at : {R : Type 0} → List (Place R) → List R
 remotes_at desks = filter_map (λ desk. desk.remote) desks
 
@@ -14,7 +14,7 @@ remotes_at desks = filter_map (λ desk. desk.remote) desks
 abbrev pub HaveOffers : {R : Type 0} → List Offer → List (Place R) → Type 0
 HaveOffers offers desks = AllByRecursion (λ desk. desk.offers ≡ offers) desks
 
--- ---- how far processors elsewhere have begun
+-- ---- how far external processors have begun
 
 -- one did not begin: those before it have, and those behind it were not asked
 pub record StopsAt {R : Type 0} (begun : R → Bool) (old new : List R) : Type 0 where
@@ -26,7 +26,7 @@ pub record StopsAt {R : Type 0} (begun : R → Bool) (old new : List R) : Type 0
 abbrev pub HaveBegun : {R : Type 0} → (R → Bool) → List R → List R → Type 0 → Type 0
 HaveBegun begun old new still = All (λ remote. begun remote ≡ true) new ⊎ (StopsAt begun old new × still)
 
--- a processor elsewhere failed, or memory was refused
+-- an external processor failed, or memory was refused
 abbrev pub FailsEarly : Result ℕ RunFault → Type 0
 FailsEarly (Ok status) = ⊥
 FailsEarly (Err fault) = (fault ≡ Peer) ⊎ (fault ≡ Memory)

@@ -9,7 +9,7 @@ use Rattle.saw_station.specs.declared.offer.Offer.{Offer}
 use Rattle.saw_top.specs.Answers.{Prepared}
 use Rattle.saw_top.specs.Telling.{IsTold}
 
--- where nothing is offered elsewhere, or the processors elsewhere tell their actions, all is told, whatever is asked for
+-- where nothing is offered by an external processor, or the external processors tell their actions, all is told, whatever is asked for
 abbrev pub AllIsTold : Type 0
 AllIsTold =
     (next : TxShape → List Turn → Action) (tells : Bool) (offers : List Offer) (ready : Result Prepared RunFault) (bytes : List ℕ)

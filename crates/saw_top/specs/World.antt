@@ -24,8 +24,8 @@ abbrev pub world_with : Accepts → Signing → Processors → Files → World
 world_with accepts signing processors files =
     record { accepts = accepts; signing = signing; processors = processors; files = files }
 
--- How batches are run: those of the block at each place of a stream, and those of a candidate behind it. Where a processor
--- elsewhere does not tell its actions, each time they are run is a way of its own.
+-- How batches are run: those of the block at each place of a stream, and those of a candidate behind it. Where an external
+-- processor does not tell its actions, each time they are run is a way of its own.
 pub record Ways : Type 0 where
   pub blocks : ℕ → Runs
   pub candidate : Runs

@@ -20,6 +20,7 @@ use saw_journal::{Journal, JournalFault};
 use saw_node::Sha512Half;
 use saw_receipts::{BlockRecord, Verdict};
 use saw_report::{RunFault, verdict_line};
+use saw_rules::NoPolicy;
 use saw_station::{Desk, Station};
 use saw_verify::Verifier;
 use std::alloc::Global;
@@ -53,7 +54,7 @@ pub(crate) fn judge<T: Threads + Wait + Sync, R: Station, V: Verifier>(
     ensures desks { KeepsDesks R.faults R.offered desks.old desks.new }
     ensures cause { IsErrOf result RunFault.Peer → Failed R.faults desks.old desks.new }
 {
-    match journal.accept(rt, content, verifier, desks) {
+    match journal.accept::<NoPolicy, T, V, R>(rt, content, verifier, desks) {
         Ok(verdict) => Ok(verdict),
         Err(JournalFault::Full) => Err(RunFault::Blocks),
         Err(JournalFault::Collision { kept, given }) => Err(RunFault::Collision { kept, given }),

@@ -1,4 +1,4 @@
-//! Where processors elsewhere connect.
+//! Where external processors connect.
 
 /// A port, and how many processors connect to it.
 #[derive(Clone, Copy, Debug, PartialEq, Eq)]

@@ -63,8 +63,8 @@ fn connected_by(options: &[String]) -> Wish
     }
 }
 
-/// What the words ask to open before a run: a port for processors elsewhere, for a command on blocks with `--listen PORT` and
-/// `--remotes N`; or a connection, for `tp --connect PORT`. Nothing where they are of no form.
+/// What the words ask to open before a run: a port for external processors, for a command on blocks with `--listen PORT` and
+/// `--remotes N`; or a connection, for `tp --connect PORT`. Nothing where they are invalid.
 pub fn listen_wish(words: &[String]) -> Wish
     ensures { result ≡ opened_of (map string_bytes words.now) }
 {

@@ -69,7 +69,7 @@ fn conflicts_in(text: Option<&str>) -> Option<u64>
     }
 }
 
-// Where processors elsewhere connect, and how many do: both are given, or neither.
+// Where external processors connect, and how many do: both are given, or neither.
 fn listening_in(listen: Option<&str>, remotes: Option<&str>) -> Option<Option<Listening>>
     ensures value { result ≡ listening_in (option_map (λ text. text.now) listen.entry) (option_map (λ text. text.now) remotes.entry) }
     ensures port { IfSome result (λ at. IfSome at (λ at. at.port ≤ 65535)) }
@@ -110,7 +110,7 @@ fn common_of(words: &[String]) -> Option<u64>
     )
 }
 
-/// Where words have processors elsewhere connect.
+/// Where external processors connect, by the words.
 pub(crate) fn listening_of(words: &[String]) -> Option<Option<Listening>>
     ensures value { IfSome (options_in words.now) (λ given. result ≡ listening_in (value_of listen given) (value_of remotes given)) }
     ensures port { IfSome result (λ at. IfSome at (λ at. at.port ≤ 65535)) }
@@ -334,7 +334,7 @@ fn generate_by(values: &Values<'_>) -> Option<GenerateWish>
 
 // ---- what options ask for
 
-/// What the options of `apply` ask for. `None`: they are of no form; before that is known no memory is asked for.
+/// What the options of `apply` ask for. `None`: they are invalid; before that is known no memory is asked for.
 pub(crate) fn apply_with<'a>(
     alloc: Global,
     words: &'a [String],

@@ -1,4 +1,4 @@
-//! Processors elsewhere: they begin, and are moved into desks and back.
+//! External processors: they begin, and are moved into desks and back.
 
 ghost use Rattle.std.specs.Prelude.{◌≡◌, ◌⊎◌, ◌≤◌, ◌<◌, ◌+◌, ◌++◌, ◌∷◌, ℕ, List, [], true, false, length, reverse, slice_index_or, vec_len, vec_capacity, All, IfOk, IfErr, OnOk, OnErr, IsErrOf};
 ghost use Rattle.std.specs.Arc.{arc_value};

@@ -10,7 +10,7 @@ ghost use Rattle.saw_node.specs.Hashes.{first_half};
 ghost use Rattle.saw_station.specs.Serving.{processors_at};
 ghost use Rattle.saw_publish.specs.Candidates.{Signing};
 ghost use Rattle.saw_top.specs.Answers.{ready_with};
-ghost use Rattle.saw_top.specs.Headline.{Does};
+ghost use Rattle.saw_top.specs.Headline.{DoesTask};
 ghost use Rattle.saw_top.specs.StreamJudging.{JudgesFor};
 ghost use Rattle.saw_top.specs.Limits.{max_blocks};
 ghost use Rattle.saw_top.specs.Outside.{End, counts_of, outside_with};
@@ -105,7 +105,7 @@ pub(crate) fn do_task<
     ensures does { let processors = processors_at R.next R.tells (offers_at desks.old) in
         let world = outside_with S.Source O.Sink N.Sink in
         let signing : Signing = record { key = G.key_text signer.now; signature = G.signature signer.now } in
-        (held new_held : End Files) → Does processors task.now (Ok (ready_with (V.accepts verifier.now) signing batches.now))
+        (held new_held : End Files) → DoesTask processors task.now (Ok (ready_with (V.accepts verifier.now) signing batches.now))
         (world input.old output.old notes.old held (counts_of R.faults desks.old))
         (world input.new output.new notes.new new_held (counts_of R.faults desks.new)) result }
     ensures desks { KeepsDesks R.faults R.offered desks.old desks.new }

@@ -6,7 +6,7 @@ ghost use Rattle.saw_publish.specs.Candidates.{Signing};
 ghost use Rattle.saw_station.specs.CommonOffers.{common};
 ghost use Rattle.saw_station.specs.Serving.{processors_at};
 ghost use Rattle.saw_top.specs.Command.{asked_of};
-ghost use Rattle.saw_top.specs.Headline.{Carries, CarriesOut, HasEnded, IsAnswered, WritesBy, asks_elsewhere};
+ghost use Rattle.saw_top.specs.Headline.{DoesAsked, DoesJob, HasEnded, IsAnswered, WritesBy, asks_external};
 ghost use Rattle.saw_top.specs.Outside.{outside, sink_end};
 ghost use Rattle.saw_top.specs.Seats.{FailsEarly, HaveBegun};
 ghost use Rattle.saw_top.specs.Wishes.{wish_in};
@@ -27,7 +27,7 @@ use std::alloc::Global;
 use std::sync::Wait;
 use std::thread::Threads;
 
-// Does a job with the blocks of the input, with processors elsewhere that have begun and have these offers in common.
+// Does a job with the blocks of the input, with external processors that have begun and have these offers in common.
 fn judge_begun<
     T: Threads + Wait + Sync,
     S: Source,
@@ -55,7 +55,7 @@ fn judge_begun<
     ensures carries { let signing : Signing = record { key = G.key_text signer.now; signature = G.signature signer.now } in
         let world = outside S.Source O.Sink N.Sink F.Shelf R.faults in
         let processors = processors_at R.next R.tells (common (map R.offered remotes.new.items)) in
-        CarriesOut (world_with (V.accepts verifier.now) signing processors) (Some (wish_in job.entry))
+        DoesJob (world_with (V.accepts verifier.now) signing processors) (Some (wish_in job.entry))
         (world input.old output.old notes.old shelf.old remotes.old.items)
         (world input.new output.new notes.new shelf.new remotes.new.items) result }
     ensures begun { All (λ remote. R.begun remote ≡ true) remotes.new.items }
@@ -110,7 +110,7 @@ fn judge<
     ensures carries { let signing : Signing = record { key = G.key_text signer.now; signature = G.signature signer.now } in
         let world = outside S.Source O.Sink N.Sink F.Shelf R.faults in
         let processors = processors_at R.next R.tells (common (map R.offered remotes.new.items)) in
-        CarriesOut (world_with (V.accepts verifier.now) signing processors) (Some (wish_in job.entry))
+        DoesJob (world_with (V.accepts verifier.now) signing processors) (Some (wish_in job.entry))
         (world input.old output.old notes.old shelf.old remotes.old.items)
         (world input.new output.new notes.new shelf.new remotes.new.items) result }
     ensures begun { HaveBegun R.begun remotes.old.items remotes.new.items ((input.new ≡ input.old)
@@ -169,12 +169,12 @@ fn carry_out<
     ensures carries { let signing : Signing = record { key = G.key_text signer.now; signature = G.signature signer.now } in
         let world = outside S.Source O.Sink N.Sink F.Shelf R.faults in
         let processors = processors_at R.next R.tells (common (map R.offered remotes.new.items)) in
-        Carries (world_with (V.accepts verifier.now) signing processors) (asked_of (map string_bytes words.now))
+        DoesAsked (world_with (V.accepts verifier.now) signing processors) (asked_of (map string_bytes words.now))
         (world input.old output.old notes.old shelf.old remotes.old.items)
         (world input.new output.new notes.new shelf.new remotes.new.items) result }
-    ensures unasked { asks_elsewhere (asked_of (map string_bytes words.now)) ≡ false
+    ensures unasked { asks_external (asked_of (map string_bytes words.now)) ≡ false
         → remotes.new.items ≡ remotes.old.items }
-    ensures begun { asks_elsewhere (asked_of (map string_bytes words.now)) ≡ true
+    ensures begun { asks_external (asked_of (map string_bytes words.now)) ≡ true
         → HaveBegun R.begun remotes.old.items remotes.new.items ((input.new ≡ input.old)
         × (output.new ≡ output.old) × (shelf.new ≡ shelf.old) × FailsEarly result) }
 {
@@ -201,11 +201,11 @@ fn carry_out<
 /// whose batches apply.
 ///
 /// The status is 0 where all was done, and of `apply` and `publish` 1 where a block was refused, of `publish` also where no
-/// batch is applied; 2 for words of no form; 3 for a stream that is none; 4 where reading failed, 5 where writing failed, 7
+/// batch is applied; 2 for invalid arguments; 3 for a stream that is none; 4 where reading failed, 5 where writing failed, 7
 /// where memory was refused; 8 where there is nothing to list, or no block that holds the batch; 9 where two different nodes
 /// of one hash were met; 10 where no more blocks can be accepted; 11 for a list that is missing, too long, not read or bad.
 ///
-/// Each processor elsewhere in `remotes` begins before any file is fetched, but for `generate` and for words of no form. As
+/// Each external processor in `remotes` begins before any file is fetched, but for `generate` and for invalid arguments. As
 /// many of them as there are workers are used, or all, each at a desk of its own, and behind the run all are in their places
 /// again. What they all offer is theirs, but for the built-in families. The status is 6 where one of them failed.
 pub fn run<
@@ -249,12 +249,12 @@ pub fn run<
         HasEnded (world_with (V.accepts verifier.now) signing processors) (map string_bytes words.now)
         (world input.old output.old notes.old shelf.old remotes.old.items)
         (world input.new output.new notes.new shelf.new remotes.new.items) result }
-    // Words of no form and a new stream ask nothing of processors elsewhere.
-    ensures unasked { asks_elsewhere (asked_of (map string_bytes words.now)) ≡ false
+    // Invalid arguments and a new stream ask nothing of external processors.
+    ensures unasked { asks_external (asked_of (map string_bytes words.now)) ≡ false
         → remotes.new.items ≡ remotes.old.items }
     // Else all of them have begun, in order and before a file is fetched or a byte is read or written, unless the status is 6
     // or 7: then those behind the one that did not begin were not asked.
-    ensures begun { asks_elsewhere (asked_of (map string_bytes words.now)) ≡ true
+    ensures begun { asks_external (asked_of (map string_bytes words.now)) ≡ true
         → HaveBegun R.begun remotes.old.items remotes.new.items ((input.new ≡ input.old)
         × (output.new ≡ output.old) × (shelf.new ≡ shelf.old) × ((result ≡ 6) ⊎ (result ≡ 7))) }
 {

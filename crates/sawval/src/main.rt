@@ -20,7 +20,7 @@ use std::thread::{self, Threads};
 use std::time::{Clock, Duration};
 use std::{env, io};
 
-/// The status of a processor elsewhere that failed, and of a port that could not be opened.
+/// The status of an external processor that failed, and of a port that could not be opened.
 const PEER: u8 = 6;
 
 /// How often a processor of this program tries to connect.
@@ -45,7 +45,7 @@ fn signer(alloc: Global) -> Option<DevSigner> {
     DevSigner::new(key)
 }
 
-// Answers the words, with these processors elsewhere.
+// Answers the words, with these external processors.
 fn answer<T: Threads + Wait + Sync, R: Station>(
     rt: &T,
     host: &HostRuntime,
@@ -127,7 +127,7 @@ fn main(rt: HostRuntime) -> ExitCode {
     let words = match words(&rt, alloc) {
         Ok(words) => words,
         Err(e) if e.kind() == ErrorKind::OutOfMemory => return ExitCode::from(MEMORY),
-        // Words that are no text are of no form, as no words are.
+        // Words that are no text are invalid arguments, as no words are.
         Err(_) => Vec::new(alloc),
     };
     if help::asks_about(&words) {

@@ -1,13 +1,14 @@
-use Rattle.std.proofs.Common.{List, refl, ap, subst, ◌∙◌}
-use Rattle.std.proofs.lemmas.Result.{err_from_is_err_and}
+use Rattle.std.proofs.Common.{List, ap, ap₂, subst, ◌∙◌}
+use Rattle.std.proofs.lemmas.Result.{IfOk-weaker, err_from_is_err_and}
 use Rattle.saw_context.specs.Outcome.{map_after}
 use Rattle.saw_merkle.specs.Clashes.{IsClashFor, IsPreparedFor}
 use Rattle.saw_merkle.specs.States.{map_at}
 use Rattle.saw_messages.specs.declared.outcome.Change.{Change}
 use Rattle.saw_receipts.specs.Branches.{batch_ids}
-use Rattle.saw_receipts.specs.declared.block.BlockRecord.{BlockRecord}
+use Rattle.saw_journal.specs.Judgement.{batch_records}
+use Rattle.saw_journal.specs.declared.judge.New.{New}
 use Rattle.saw_journal.proofs.Recorded.{recorded}
-use Rattle.saw_journal.proofs.Runs.{failed_first, few_results, is_new, not_prepared, other_root}
+use Rattle.saw_journal.proofs.Runs.{by_root, failed_first, few_results, not_prepared}
 use Rattle.saw_journal.proofs.run.conclude.Goals as goal
 
 pub test_results-requires : goal.test_results-requires
@@ -23,6 +24,10 @@ pub returns-in_err-changes-clause-ran : goal.returns-in_err-changes-clause-ran
 returns-in_err-changes-clause-ran g c = λ processors may.
     let p = err_from_is_err_and c.from_residual-in_err-changes.result c.from_residual-in_err-changes.ensures.1 in rw (p.1, p.2) tt
 
+pub returns-in_err-records-clause-ran : goal.returns-in_err-records-clause-ran
+returns-in_err-records-clause-ran g c = λ processors may.
+    let p = err_from_is_err_and c.from_residual-in_err-records.result c.from_residual-in_err-records.ensures.1 in rw (p.1, p.2) tt
+
 pub returns-in_err-prepared-clause-ran : goal.returns-in_err-prepared-clause-ran
 returns-in_err-prepared-clause-ran g c = λ processors may.
     let p = err_from_is_err_and c.from_residual-in_err-prepared.result c.from_residual-in_err-prepared.ensures.1 in
@@ -31,41 +36,32 @@ returns-in_err-prepared-clause-ran g c = λ processors may.
     let before = map_at c.args.state.now c.args.before in
     let changes = c.in_ok-changes.changes in
     let clash = subst (λ (changes : List Change). IsClashFor hash c.args.state.now (map_after before changes) c.in_err-prepared.field-0.0)
-    c.as_slice.ensures c.in_err-prepared.ensures.clash in
+    c.as_slice-2.ensures c.in_err-prepared.ensures.clash in
     rw (p.1, p.2) (not_prepared processors hash c.args.state.now c.args.before c.args.checked results may c.in_ok-test_results.ensures
     changes (c.in_ok-changes.ensures.left before) c.in_err-prepared.field-0.0 clash)
-
-pub returns-in_err-test_root-clause-ran : goal.returns-in_err-test_root-clause-ran
-returns-in_err-test_root-clause-ran g c = λ processors may.
-    let p = err_from_is_err_and c.from_residual-in_err-test_root.result c.from_residual-in_err-test_root.ensures.1 in
-    let hash = g.H.NodeHasher.hash_of in
-    let results = c.args.ran.results.batches in
-    let before = map_at c.args.state.now c.args.before in
-    let changes = c.in_ok-changes.changes in
-    let ready = subst (λ (changes : List Change). IsPreparedFor hash c.args.state.now (map_after before changes) c.in_ok-prepared.prepared)
-    c.as_slice.ensures c.in_ok-prepared.ensures.ok in
-    rw (p.1, p.2) (other_root processors hash c.args.state.now c.args.before c.args.checked results may c.in_ok-test_results.ensures
-    changes (c.in_ok-changes.ensures.left before) c.root-root.result (c.root-root.ensures ∙ ready.root) c.in_err-test_root.field-0.0 c.in_err-test_root.ensures)
-
-pub returns-in_err-block-clause-ran : goal.returns-in_err-block-clause-ran
-returns-in_err-block-clause-ran g c = λ processors may.
-    let p = err_from_is_err_and c.from_residual-in_err-block.result c.from_residual-in_err-block.ensures.1 in rw (p.1, p.2) tt
 
 pub returns-clause-ran : goal.returns-clause-ran
 returns-clause-ran g c = λ processors may.
     let hash = g.H.NodeHasher.hash_of in
+    let checked = c.args.checked in
     let results = c.args.ran.results.batches in
     let before = map_at c.args.state.now c.args.before in
     let changes = c.in_ok-changes.changes in
     let ready = subst (λ (changes : List Change). IsPreparedFor hash c.args.state.now (map_after before changes) c.in_ok-prepared.prepared)
-    c.as_slice.ensures c.in_ok-prepared.ensures.ok in
-    is_new processors hash c.args.state.now c.args.before c.args.checked results may c.in_ok-test_results.ensures
-    changes (c.in_ok-changes.ensures.left before) c.root-root.result (c.root-root.ensures ∙ ready.root) c.in_ok-block.block c.args.ran.ids c.in_ok-prepared.prepared
-    c.in_ok-test_root.ensures c.requires.known c.in_ok-changes.ensures.rising ready c.in_ok-block.ensures
+    c.as_slice-2.ensures c.in_ok-prepared.ensures.ok in
+    let records = c.from_vec-batches.ensures ∙ c.in_ok-records.ensures ∙ ap₂ batch_records c.as_slice-batches.ensures c.as_slice.ensures in
+    by_root processors hash c.args.state.now c.args.before checked results may c.in_ok-test_results.ensures
+    changes (c.in_ok-changes.ensures.left before) c.in_ok-prepared.prepared.root ready.root c.args.ran.ids c.from_vec-batches.result
+    c.in_ok-prepared.prepared records c.requires.known c.in_ok-changes.ensures.rising ready c.rooted.result
+    (rw c.into_parts-id.ensures at c.rooted.ensures.tested) (rw c.into_parts-id.ensures at c.rooted.ensures.made)
 
 pub returns-clause-ids : goal.returns-clause-ids
-returns-clause-ids g c = (
-  refl,
-  ap (λ (block : BlockRecord). batch_ids block.batches) c.in_ok-block.ensures
-      ∙ recorded c.args.checked.batches c.args.ran.results.batches c.requires.fit c.in_ok-test_results.ensures,
-)
+returns-clause-ids g c =
+    let records = c.from_vec-batches.ensures ∙ c.in_ok-records.ensures ∙ ap₂ batch_records c.as_slice-batches.ensures c.as_slice.ensures in
+    IfOk-weaker c.rooted.result _ _
+    (λ new made. (
+      ap (λ (new : New). new.ids) made,
+      ap (λ (new : New). batch_ids new.block.batches) made ∙ ap batch_ids records
+          ∙ recorded c.args.checked.batches c.args.ran.results.batches c.requires.fit c.in_ok-test_results.ensures,
+    ))
+    c.rooted.ensures.made

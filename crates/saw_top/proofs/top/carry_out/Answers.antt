@@ -3,7 +3,7 @@ use Rattle.std.proofs.lemmas.Result.{err_from_is_err_and}
 use Rattle.saw_station.specs.CommonOffers.{common}
 use Rattle.saw_station.proofs.Finished.{processors_own}
 use Rattle.saw_station.specs.Serving.{processors_at}
-use Rattle.saw_top.specs.Headline.{asks_elsewhere}
+use Rattle.saw_top.specs.Headline.{asks_external}
 use Rattle.saw_top.specs.Outside.{outside}
 use Rattle.saw_top.specs.World.{world_with}
 use Rattle.saw_top.proofs.Beginning.{none_asked}
@@ -37,7 +37,7 @@ returns-in-None g c =
           (outside g.S.Source g.O.Sink g.N.Sink g.F.Shelf g.R.Station.faults c.args.input.now c.args.output.now c.args.notes.now c.args.shelf.now
           c.args.remotes.now.items) (sym none);
       unasked = λ is. refl;
-      begun = λ asks. absurd (let never : false ≡ true = ap asks_elsewhere none ∙ asks in cc never);
+      begun = λ asks. absurd (let never : false ≡ true = ap asks_external none ∙ asks in cc never);
     }
 
 pub returns-in-Some-Judge : goal.returns-in-Some-Judge
@@ -45,7 +45,7 @@ returns-in-Some-Judge g c =
     let asked = rw (c.in-Some-Judge.is, c.in-Some-Judge.field-0-is) at c.in_ok-command.ensures.ok in
     record {
       carries = judged _ _ _ _ _ _ asked c.judge.ensures.carries;
-      unasked = λ is. absurd (let never : true ≡ false = ap asks_elsewhere asked ∙ is in cc never);
+      unasked = λ is. absurd (let never : true ≡ false = ap asks_external asked ∙ is in cc never);
       begun = λ asks. c.judge.ensures.begun;
     }
 
@@ -61,5 +61,5 @@ returns-in-Some-Generate g c =
           c.args.remotes.now.items) _ asked refl
           (λ files. c.write_stream.ensures.writes);
       unasked = λ is. refl;
-      begun = λ asks. absurd (let never : false ≡ true = ap asks_elsewhere asked ∙ asks in cc never);
+      begun = λ asks. absurd (let never : false ≡ true = ap asks_external asked ∙ asks in cc never);
     }

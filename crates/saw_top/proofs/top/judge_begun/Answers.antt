@@ -7,7 +7,7 @@ use Rattle.saw_station.specs.DeskPlaces.{Place}
 use Rattle.saw_station.proofs.Finished.{processors_own}
 use Rattle.saw_station.specs.Serving.{processors_at}
 use Rattle.saw_station.specs.declared.offer.Offer.{Offer}
-use Rattle.saw_top.specs.Headline.{CarriesOut}
+use Rattle.saw_top.specs.Headline.{DoesJob}
 use Rattle.saw_top.specs.Outside.{AreLater, SomeRose, counts_of, outside, outside_with, shelf_end}
 use Rattle.saw_top.specs.Seats.{HaveOffers, remotes_at}
 use Rattle.saw_top.specs.Wishes.{wish_in}
@@ -99,7 +99,7 @@ returns g c =
     (all_rose faults offered left olds news keeps rose)) in
     record {
       carries =
-          subst (λ (offers : List Offer). CarriesOut (world_with (g.V.Verifier.accepts c.args.verifier.now) signing
+          subst (λ (offers : List Offer). DoesJob (world_with (g.V.Verifier.accepts c.args.verifier.now) signing
           (processors_at g.R.Station.next g.R.Station.tells offers)) (Some (wish_in job))
           (outside g.S.Source g.O.Sink g.N.Sink g.F.Shelf faults c.args.input.now c.args.output.now c.args.notes.now c.args.shelf.now first)
           (outside g.S.Source g.O.Sink g.N.Sink g.F.Shelf faults c.do_task-came.new.input c.do_task-came.new.output c.do_task-came.new.notes

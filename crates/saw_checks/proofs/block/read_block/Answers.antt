@@ -1,7 +1,7 @@
 use Rattle.std.proofs.Common.{Some, None, inr}
 use Rattle.std.proofs.lemmas.Result.{err_from_is_err_and}
 use Rattle.saw_checks.proofs.BlockRuns.{no_block, no_header, at_tests, at_ids, at_batches, at_signature}
-use Rattle.saw_checks.proofs.block.check_block.Goals as goal
+use Rattle.saw_checks.proofs.block.read_block.Goals as goal
 
 pub returns-in_err-block : goal.returns-in_err-block
 returns-in_err-block g c =
@@ -50,7 +50,7 @@ returns g c =
       record {
         read = c.in_ok-block.block;
         decoded = c.in_ok-block.ensures;
-        id = c.into_id.ensures;
+        id = c.in_ok-id.ensures;
         header = read;
         batches = checked.1;
       },
