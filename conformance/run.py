@@ -75,7 +75,7 @@ class Case:
     def __init__(self, name):
         self.name, self.folder = name, os.path.join(DATA, "cases", name)
         self.words = content(self.folder, "words").decode().splitlines()
-        self.stream = content(self.folder, "stdin")
+        self.stream = with_zeros(content(self.folder, "stdin"), numbers(self.folder, "stream_zeros"))
         self.peer = content(self.folder, "peer") if is_there(self.folder, "peer") else None
 
     def left_out(self):

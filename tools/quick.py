@@ -74,7 +74,8 @@ def asked(words):
 def is_large(case):
     files = [content(path) for path in files_below(f"{case}/files")]
     again = max([1, *numbers(f"{case}/repeats")[2::3]])
-    size = sum(map(len, files)) * again + sum(numbers(f"{case}/zeros")[1::2]) + os.path.getsize(f"{case}/stdin")
+    size = sum(map(len, files)) * again + sum(numbers(f"{case}/zeros")[1::2])
+    size += os.path.getsize(f"{case}/stdin") + sum(numbers(f"{case}/stream_zeros")[1::2])
     words = content(f"{case}/words").decode().split("\n")
     count = counted(frames_in(content(f"{case}/stdin")), lambda block: values(block, 3))
     count += again * counted(files, lambda batches: values(batches, 1))

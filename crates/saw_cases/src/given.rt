@@ -183,9 +183,11 @@ pub(crate) fn sent_of(rt: &HostRuntime, case: &str) -> io::Result<Option<Vec<u8>
     bytes_of(rt, format!(in rt.alloc(); "cases/{case}/sent")?.as_str())
 }
 
-/// The stream of a case.
+/// The stream of a case, with the zeros that were cut out of it.
 pub(crate) fn stream_of(rt: &HostRuntime, case: &str) -> io::Result<Vec<u8>> {
-    fs::read(rt, format!(in rt.alloc(); "cases/{case}/stdin")?.as_str())
+    let bytes = fs::read(rt, format!(in rt.alloc(); "cases/{case}/stdin")?.as_str())?;
+    let zeros = numbers_of(rt, case, "stream_zeros")?;
+    Ok(with_zeros(rt.alloc(), &bytes, &zeros)?)
 }
 
 /// The output of a case: its bytes, or the digest of a large one.

@@ -16,7 +16,7 @@ use Rattle.saw_journal.specs.LowerFaults.{fault_of_crew}
 use Rattle.saw_journal.specs.Passing.{RanAs, rule_fault}
 use Rattle.saw_journal.specs.Stops.{IsStop}
 use Rattle.saw_journal.specs.declared.fault.JournalFault.TheVariants as faults
-use Rattle.saw_journal.specs.declared.ran.Ran.{Ran}
+use Rattle.saw_journal.specs.declared.ran.Executed.{Executed}
 use Rattle.saw_journal.specs.declared.stop.Stop.{Stop}
 use Rattle.saw_journal.specs.declared.stop.Stop.TheVariants.{Refused, Failed}
 
@@ -74,7 +74,7 @@ module _ (processors : Processors) (peer : Type 0) (policy : Policy) (m : StateM
   peer_tells (Failed faults.OutOfMemory) is failed = absurd cc
 
   -- where no processor can fail
-  pub without_peer : (result : Result Ran Stop) → RanAs processors ⊥ policy m signer there batches result
+  pub without_peer : (result : Result Executed Stop) → RanAs processors ⊥ policy m signer there batches result
       → RanAs processors peer policy m signer there batches result
   without_peer (Ok ran) is = is
   without_peer (Err (Refused fault)) is = is

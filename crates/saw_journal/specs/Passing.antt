@@ -16,7 +16,7 @@ use Rattle.saw_journal.specs.KnownBranches.{KnowsIds, own_ids}
 use Rattle.saw_journal.specs.Stops.{IsStop}
 use Rattle.saw_journal.specs.declared.branch_ids.BranchIds.{BranchIds}
 use Rattle.saw_journal.specs.declared.fault.JournalFault.TheVariants as faults
-use Rattle.saw_journal.specs.declared.ran.Ran.{Ran}
+use Rattle.saw_journal.specs.declared.ran.Executed.{Executed}
 use Rattle.saw_journal.specs.declared.stop.Stop.{Stop}
 use Rattle.saw_journal.specs.declared.stop.Stop.TheVariants.{Refused, Failed}
 
@@ -37,7 +37,7 @@ pub record AreOf (processors : Processors) (m : StateMap) (batches : List BatchS
 
 module _ (processors : Processors) (peer : Type 0) (policy : Policy) (m : StateMap) (signer : List ℕ) (there : Ids) (batches : List BatchShape) where
   -- both, where nothing is against the batches; only memory fails, and a processor, where `peer` tells of it
-  abbrev pub RanAs : Result Ran Stop → Type 0
+  abbrev pub RanAs : Result Executed Stop → Type 0
   RanAs (Ok ran) = PassesAs policy m signer there batches (Ok ran.ids) × AreOf processors m batches ran.results
   RanAs (Err (Refused fault)) = rule_fault policy m signer there batches ≡ Some fault
   RanAs (Err (Failed (faults.Collision kept given))) = ⊥

@@ -33,7 +33,7 @@ use std::thread::Threads;
 
 /// The results of a block's batches, and the ids of its branch with theirs.
 #[derive(Drop)]
-pub(crate) struct Ran {
+pub(crate) struct Executed {
     pub(crate) results: Results,
     pub(crate) ids: BranchIds,
 }
@@ -51,7 +51,7 @@ pub(crate) fn run_all<P: BlockPolicy, H: NodeHasher, T: Threads + Wait + Sync, R
     batches: &[TxBatch],
     spent: Block,
     desks: &mut [Desk<R>],
-) -> Result<Ran, Stop>
+) -> Result<Executed, Stop>
     requires known { IsSome (state_at state.now before) }
     requires ids { (there : Ids) × KnowsIds known there }
     requires few { length batches.now < 2 ^ 32 }
@@ -90,7 +90,7 @@ fn run_over<P: BlockPolicy, B: Base, T: Threads + Wait + Sync, R: Station>(
     batches: &[TxBatch],
     spent: Block,
     desks: &mut [Desk<R>],
-) -> Result<Ran, Stop>
+) -> Result<Executed, Stop>
     requires ids { (there : Ids) × KnowsIds known there }
     requires few { length batches.now < 2 ^ 32 }
     requires counted { transactions_in batches.now < 2 ^ 32 }
@@ -122,7 +122,7 @@ fn run_shared<P: BlockPolicy, B: Base, T: Threads + Wait + Sync, R: Station>(
     batches: &[TxBatch],
     lanes: u32,
     spent: Block,
-) -> Result<Ran, Stop>
+) -> Result<Executed, Stop>
     requires few { length batches.now < 2 ^ 32 }
     requires counted { transactions_in batches.now < 2 ^ 32 }
     ensures { (there : Ids) → KnowsIds known there → RanAs (processors_at R.next R.tells [])
@@ -131,7 +131,7 @@ fn run_shared<P: BlockPolicy, B: Base, T: Threads + Wait + Sync, R: Station>(
     let (_, ran) = thread::join(
         rt,
         move || -> () { give_up(spent) },
-        move || -> Result<Ran, Stop>
+        move || -> Result<Executed, Stop>
             requires { (length batches.now < 2 ^ 32) × (transactions_in batches.now < 2 ^ 32) }
             ensures { (there : Ids) → KnowsIds known there → RanAs (processors_at R.next R.tells [])
                 ⊥ (policy_by P.fault P.end_fault) (B.entry base.entry.now) signer.entry.now there batches.entry.now result }
@@ -149,7 +149,7 @@ fn run_beside<P: BlockPolicy, B: Base, T: Threads + Wait + Sync, R: Station>(
     known: BranchIds,
     batches: &[TxBatch],
     lanes: u32,
-) -> Result<Ran, Stop>
+) -> Result<Executed, Stop>
     requires few { length batches.now < 2 ^ 32 }
     requires counted { transactions_in batches.now < 2 ^ 32 }
     ensures { (there : Ids) → KnowsIds known there → RanAs (processors_at R.next R.tells [])
@@ -169,7 +169,7 @@ fn run_beside<P: BlockPolicy, B: Base, T: Threads + Wait + Sync, R: Station>(
     );
     let ids = ids?;
     let results = results?;
-    Ok(Ran { results, ids })
+    Ok(Executed { results, ids })
 }
 
 // The ids there and those of the batches. It stops at the first fault of the tests before the run.
@@ -215,7 +215,7 @@ fn run_behind<P: BlockPolicy, B: Base, T: Threads + Wait + Sync, R: Station>(
     known: BranchIds,
     batches: &[TxBatch],
     desks: &mut [Desk<R>],
-) -> Result<Ran, Stop>
+) -> Result<Executed, Stop>
     requires ids { (there : Ids) × KnowsIds known there }
     requires few { length batches.now < 2 ^ 32 }
     requires counted { transactions_in batches.now < 2 ^ 32 }
@@ -230,5 +230,5 @@ fn run_behind<P: BlockPolicy, B: Base, T: Threads + Wait + Sync, R: Station>(
     let plan = Arc::new(alloc, plan_all(alloc, &mut ids, batches)?)?;
     test_policy::<P, B>(alloc, base, signer, batches)?;
     let results = execute(rt, alloc, plan, base, desks)?;
-    Ok(Ran { results, ids })
+    Ok(Executed { results, ids })
 }

@@ -2,11 +2,15 @@
 
 ghost use Rattle.std.specs.Prelude.{◌≡◌, ◌<◌, ◌^◌, length, IfOk};
 ghost use Rattle.std.specs.Thread.{IsSync};
+ghost use Rattle.saw_address.specs.Maps.{StateMap};
 ghost use Rattle.saw_checks.specs.BatchParts.{Tells};
+ghost use Rattle.saw_context.specs.Changed.{AreRising};
+ghost use Rattle.saw_context.specs.Outcome.{map_after};
+ghost use Rattle.saw_context.specs.Serial.{left_after};
 ghost use Rattle.saw_journal.specs.BlockFaults.{failure_fault};
 ghost use Rattle.saw_journal.specs.Judgement.{batch_record, batch_records, outcomes_in};
 
-use saw_messages::{Outcome, TxBatch};
+use saw_messages::{Change, Outcome, TxBatch};
 use saw_receipts::{BatchRecord, BlockFault, batch_receipts};
 use saw_schedule::{BatchResult, Results};
 use saw_wire::Items;
@@ -57,9 +61,9 @@ fn batch_record(
 /// Of so few batches no part goes to another thread: its start takes as long as the records of some ten.
 pub(crate) const WORTH: usize = 32;
 
-/// What is kept of batches with these results, made by at most so many threads.
+// What is kept of batches with these results, made by at most so many threads.
 #[cycle(halves)]
-pub(crate) fn batch_records<T: Threads + Sync>(
+fn batch_records<T: Threads + Sync>(
     rt: &T,
     alloc: Global,
     batches: &[TxBatch],
@@ -106,4 +110,56 @@ fn records_here(
         made.push(batch_record(alloc, batch, done)?)?;
     }
     Ok(made)
+}
+
+/// What results say: what is kept of their batches, and the changes that lead to the map that they leave.
+#[derive(Drop)]
+pub(crate) struct Effects {
+    pub(crate) records: Vec<BatchRecord>,
+    pub(crate) changes: Items<Change>,
+}
+
+/// Makes both at the same time, by at most so many threads and this one.
+pub(crate) fn effects_of<T: Threads + Sync>(
+    rt: &T,
+    alloc: Global,
+    batches: &[TxBatch],
+    results: &Results,
+    workers: u32,
+) -> Result<Effects, AllocError>
+    ensures records { IfOk result (λ told. told.records.items ≡ batch_records batches.now results.now.batches) }
+    ensures left { IfOk result (λ told. (m : StateMap) → map_after m told.changes ≡ left_after m results.now.batches) }
+    ensures rising { IfOk result (λ told. AreRising told.changes) }
+{
+    if workers <= 1 || batches.len() < WORTH {
+        return effects_here(alloc, batches, results);
+    }
+    let (records, changes) = thread::join(
+        rt,
+        || -> Result<Vec<BatchRecord>, AllocError>
+            requires { IsSync T.row }
+            ensures { IfOk result (λ made. made.items ≡ batch_records batches.entry.now results.entry.now.batches) }
+        { batch_records(rt, alloc, batches, results.batches.as_slice(), workers) },
+        || -> Result<Items<Change>, AllocError>
+            ensures { IfOk result (λ changes. ((m : StateMap) → map_after m changes ≡ left_after m results.entry.now.batches) × AreRising changes) }
+        { results.changes(alloc) },
+    );
+    let records = records?;
+    let changes = changes?;
+    Ok(Effects { records, changes })
+}
+
+// The same in this thread.
+fn effects_here(
+    alloc: Global,
+    batches: &[TxBatch],
+    results: &Results,
+) -> Result<Effects, AllocError>
+    ensures records { IfOk result (λ told. told.records.items ≡ batch_records batches.now results.now.batches) }
+    ensures left { IfOk result (λ told. (m : StateMap) → map_after m told.changes ≡ left_after m results.now.batches) }
+    ensures rising { IfOk result (λ told. AreRising told.changes) }
+{
+    let records = records_here(alloc, batches, results.batches.as_slice())?;
+    let changes = results.changes(alloc)?;
+    Ok(Effects { records, changes })
 }

@@ -19,8 +19,8 @@ ghost use Rattle.saw_schedule.specs.BatchResults.{AreResultsFor};
 use crate::branch_ids::BranchIds;
 use crate::fault::JournalFault;
 use crate::judge::New;
-use crate::ran::Ran;
-use crate::results::{WORTH, batch_records, test_results};
+use crate::ran::Executed;
+use crate::results::{WORTH, effects_of, test_results};
 use crate::stop::Stop;
 use saw_checks::CheckedBlock;
 use saw_merkle::{Prepared, State};
@@ -135,7 +135,7 @@ pub(crate) fn conclude<H: NodeHasher, T: Threads + Sync>(
     state: &State<H>,
     before: NodeHash,
     checked: CheckedBlock,
-    ran: Ran,
+    ran: Executed,
     workers: u32,
 ) -> Result<New, Stop>
     requires known { IsSome (state_at state.now before) }
@@ -149,13 +149,10 @@ pub(crate) fn conclude<H: NodeHasher, T: Threads + Sync>(
     ensures room { IsErrOf result (Stop.Failed JournalFault.Full) → ⊥ }
     ensures peer { IsErrOf result (Stop.Failed JournalFault.PeerFailed) → ⊥ }
 {
-    let Ran { results, ids } = ran;
+    let Executed { results, ids } = ran;
     test_results(&results)?;
-    let changes = results.changes(alloc)?;
-    let records = {
-        let batches = checked.batches.as_slice();
-        batch_records(rt, alloc, batches, results.batches.as_slice(), workers)?
-    };
+    let told = effects_of(rt, alloc, checked.batches.as_slice(), &results, workers)?;
+    let changes = told.changes;
     let (id, header, spent) = checked.into_parts();
     let prepared = prepare_beside(
         rt,
@@ -166,6 +163,6 @@ pub(crate) fn conclude<H: NodeHasher, T: Threads + Sync>(
         spent,
         results,
     )?;
-    let batches = Items::from_vec(records);
+    let batches = Items::from_vec(told.records);
     rooted(alloc, id, header, batches, ids, before, changes, prepared)
 }

@@ -1,9 +1,10 @@
-use Rattle.std.proofs.Common.{List, ap, ap₂, subst, ◌∙◌}
+use Rattle.std.proofs.Common.{List, ap, subst, ◌∙◌}
 use Rattle.std.proofs.lemmas.Result.{IfOk-weaker, err_from_is_err_and}
 use Rattle.saw_context.specs.Outcome.{map_after}
 use Rattle.saw_merkle.specs.Clashes.{IsClashFor, IsPreparedFor}
 use Rattle.saw_merkle.specs.States.{map_at}
 use Rattle.saw_messages.specs.declared.outcome.Change.{Change}
+use Rattle.saw_messages.specs.TxShapes.{BatchShape}
 use Rattle.saw_receipts.specs.Branches.{batch_ids}
 use Rattle.saw_journal.specs.Judgement.{batch_records}
 use Rattle.saw_journal.specs.declared.judge.New.{New}
@@ -20,13 +21,9 @@ returns-in_err-test_results-clause-ran g c = λ processors may.
     rw (p.1, p.2) (failed_first processors g.H.NodeHasher.hash_of c.args.state.now c.args.before c.args.checked c.args.ran.results.batches may
     c.in_err-test_results.field-0.0 c.in_err-test_results.ensures)
 
-pub returns-in_err-changes-clause-ran : goal.returns-in_err-changes-clause-ran
-returns-in_err-changes-clause-ran g c = λ processors may.
-    let p = err_from_is_err_and c.from_residual-in_err-changes.result c.from_residual-in_err-changes.ensures.1 in rw (p.1, p.2) tt
-
-pub returns-in_err-records-clause-ran : goal.returns-in_err-records-clause-ran
-returns-in_err-records-clause-ran g c = λ processors may.
-    let p = err_from_is_err_and c.from_residual-in_err-records.result c.from_residual-in_err-records.ensures.1 in rw (p.1, p.2) tt
+pub returns-in_err-told-clause-ran : goal.returns-in_err-told-clause-ran
+returns-in_err-told-clause-ran g c = λ processors may.
+    let p = err_from_is_err_and c.from_residual-in_err-told.result c.from_residual-in_err-told.ensures.1 in rw (p.1, p.2) tt
 
 pub returns-in_err-prepared-clause-ran : goal.returns-in_err-prepared-clause-ran
 returns-in_err-prepared-clause-ran g c = λ processors may.
@@ -34,11 +31,11 @@ returns-in_err-prepared-clause-ran g c = λ processors may.
     let hash = g.H.NodeHasher.hash_of in
     let results = c.args.ran.results.batches in
     let before = map_at c.args.state.now c.args.before in
-    let changes = c.in_ok-changes.changes in
+    let changes = c.in_ok-told.told.changes in
     let clash = subst (λ (changes : List Change). IsClashFor hash c.args.state.now (map_after before changes) c.in_err-prepared.field-0.0)
     c.as_slice-2.ensures c.in_err-prepared.ensures.clash in
     rw (p.1, p.2) (not_prepared processors hash c.args.state.now c.args.before c.args.checked results may c.in_ok-test_results.ensures
-    changes (c.in_ok-changes.ensures.left before) c.in_err-prepared.field-0.0 clash)
+    changes (c.in_ok-told.ensures.left before) c.in_err-prepared.field-0.0 clash)
 
 pub returns-clause-ran : goal.returns-clause-ran
 returns-clause-ran g c = λ processors may.
@@ -46,18 +43,20 @@ returns-clause-ran g c = λ processors may.
     let checked = c.args.checked in
     let results = c.args.ran.results.batches in
     let before = map_at c.args.state.now c.args.before in
-    let changes = c.in_ok-changes.changes in
+    let changes = c.in_ok-told.told.changes in
     let ready = subst (λ (changes : List Change). IsPreparedFor hash c.args.state.now (map_after before changes) c.in_ok-prepared.prepared)
     c.as_slice-2.ensures c.in_ok-prepared.ensures.ok in
-    let records = c.from_vec-batches.ensures ∙ c.in_ok-records.ensures ∙ ap₂ batch_records c.as_slice-batches.ensures c.as_slice.ensures in
+    let records = c.from_vec-batches.ensures ∙ c.in_ok-told.ensures.records
+    ∙ ap (λ (batches : List BatchShape). batch_records batches c.args.ran.results.batches) c.as_slice.ensures in
     by_root processors hash c.args.state.now c.args.before checked results may c.in_ok-test_results.ensures
-    changes (c.in_ok-changes.ensures.left before) c.in_ok-prepared.prepared.root ready.root c.args.ran.ids c.from_vec-batches.result
-    c.in_ok-prepared.prepared records c.requires.known c.in_ok-changes.ensures.rising ready c.rooted.result
+    changes (c.in_ok-told.ensures.left before) c.in_ok-prepared.prepared.root ready.root c.args.ran.ids c.from_vec-batches.result
+    c.in_ok-prepared.prepared records c.requires.known c.in_ok-told.ensures.rising ready c.rooted.result
     (rw c.into_parts-id.ensures at c.rooted.ensures.tested) (rw c.into_parts-id.ensures at c.rooted.ensures.made)
 
 pub returns-clause-ids : goal.returns-clause-ids
 returns-clause-ids g c =
-    let records = c.from_vec-batches.ensures ∙ c.in_ok-records.ensures ∙ ap₂ batch_records c.as_slice-batches.ensures c.as_slice.ensures in
+    let records = c.from_vec-batches.ensures ∙ c.in_ok-told.ensures.records
+    ∙ ap (λ (batches : List BatchShape). batch_records batches c.args.ran.results.batches) c.as_slice.ensures in
     IfOk-weaker c.rooted.result _ _
     (λ new made. (
       ap (λ (new : New). new.ids) made,
