@@ -2,8 +2,8 @@
 
 Usage: python3 -B tools/batches.py [--key HEX | --sign KEYFILE] [--nonce TEXT] FILE BATCH [BATCH ..]
 
-Each BATCH is one argument: its transactions with `;` between them, each of words with spaces between them. So no word
-has a space or a `;`. The words are:
+Each BATCH is one argument: its transactions with `;` between them, each of words with spaces between them. What stands
+between two `'` or two `"` is part of one word, spaces and `;` too. The words are:
 
     intkey set NAME VALUE         sets a new name to a number; with `inc` or `dec` for `set` changes one that is there
     xo create GAME                makes a game; with `delete` for `create` takes it away
@@ -29,6 +29,10 @@ For example, a list of two batches, a first block that is made of it, and what i
     python3 -B tools/batches.py list "intkey set a 5; intkey inc a 2" "xo create g; xo take g 5"
     sawval publish --batches list < /dev/null > block
     sawval apply < block
+
+A value with spaces or `;` in it, within the quotes of the shell:
+
+    python3 -B tools/batches.py list "settings propose some.setting 'one; two'"
 
 Lists of several keys or nonces are joined with `cat`. Words that a family refuses whatever the state end the tool with
 status 2 and one line, which counts batches and transactions from 0 as `sawval` does; then nothing is written. Status 1
@@ -72,7 +76,7 @@ def is_utf8(word):
 
 
 def counter(signer, verb, name, value):
-    demand(len(name) <= LONGEST_NAME, f"name {name!r} has {len(name)} characters, of at most {LONGEST_NAME}")
+    demand(1 <= len(name) <= LONGEST_NAME, f"name {name!r} has {len(name)} characters, of 1 to {LONGEST_NAME}")
     fits = re.fullmatch("[0-9]{1,10}", value) and int(value) <= counters.LIMIT
     demand(fits, f"value {value!r} is no number of up to ten digits from 0 to {counters.LIMIT}")
     own = [counters.address(name)]
@@ -80,7 +84,8 @@ def counter(signer, verb, name, value):
 
 
 def game(signer, action, name, space=""):
-    demand("," not in name and "|" not in name, f"name {name!r} of a game has a comma or a bar")
+    plain = name and "," not in name and "|" not in name
+    demand(plain, f"name {name!r} of a game is empty or has a comma or a bar")
     demand(action != "take" or space in list("123456789"), f"space {space!r} is no digit from 1 to 9")
     return move(signer, f"{name},{action},{space}")
 
@@ -101,6 +106,7 @@ def vote(signer, _, proposal, key, choice):
 
 
 def name_of(signer, verb, name, key=""):
+    demand(len(name.split()) == 1, f"name {name!r} is no word")
     demand(verb != "give" or re.fullmatch("[0-9a-f]{66}", key), f"key {key!r} is not 66 hex digits")
     own = [sha512(b"names")[:6] + sha512(name.encode())[:64]]
     return Transaction("names", signer, " ".join([verb, name, key]).rstrip().encode(), own, own)
@@ -136,12 +142,35 @@ def transaction(signer, words):
 # Lists.
 
 
+def parts_of(text):
+    """The words of each transaction of a batch."""
+    parts, word, quote = [[]], None, ""
+    for char in text:
+        if quote:
+            quote, word = ("", word) if char == quote else (quote, word + char)
+        elif char in "'\"":
+            quote, word = char, word or ""
+        elif char == ";" or char.isspace():
+            parts[-1] += [] if word is None else [word]
+            parts += [[]] if char == ";" else []
+            word = None
+        else:
+            word = (word or "") + char
+    parts[-1] += [] if word is None else [word]
+    demand(not quote, f"a {quote} has no second one")
+    return parts
+
+
 def batch(signer, nonce, place, text):
     """The transactions of a batch. The nonce of each is the text of the option, if any, and its place."""
     front, made = f"{nonce}/" if nonce else "", []
-    for at, part in enumerate(text.split(";")):
+    try:
+        parts = parts_of(text)
+    except Wrong as wrong:
+        raise Wrong(f"batch {place}: {wrong}") from None
+    for at, words in enumerate(parts):
         try:
-            tx = transaction(signer, part.split())
+            tx = transaction(signer, words)
         except Wrong as wrong:
             raise Wrong(f"batch {place} transaction {at}: {wrong}") from None
         tx.nonce = f"{front}{place}/{at}"
