@@ -1,6 +1,6 @@
 //! What a candidate leaves out.
 
-use saw_checks::BatchFault;
+use saw_checks::{BatchFault, PolicyFault};
 use saw_messages::Reason;
 use saw_plan::DropCause;
 
@@ -11,6 +11,8 @@ pub enum LossCause {
     Check(BatchFault),
     /// With it the batches before it that found room would have too many transactions, or too many bytes.
     Room,
+    /// The policy finds this wrong with it, behind the batches before it that passed.
+    Policy(PolicyFault),
     /// The static rules drop it.
     Static(DropCause),
     /// Its transaction at `t` is the first invalid one.

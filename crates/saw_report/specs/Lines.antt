@@ -131,8 +131,13 @@ listed_line listed = encode_lower listed.address ++ codes " " ++ encode_lower li
 abbrev pub loss_text : LossCause → List ℕ
 loss_text (losses.Check fault) = codes " check " ++ batch_fault_text fault
 loss_text losses.Room = codes " room"
+loss_text (losses.Policy fault) = codes " policy" ++ policy_text fault
 loss_text (losses.Static cause) = codes " static " ++ cause_text cause
 loss_text (losses.Invalid t reason) = codes " invalid" ++ spaced t ++ spaced (reason_number reason)
+
+-- a candidate that the policy refuses as a block: the batch at k has this fault, or, behind the last, all together
+abbrev pub candidate_line : ℕ → PolicyFault → List ℕ
+candidate_line k fault = codes "candidate refused " ++ fault_text (faults.Policy k fault) ++ 10 ∷ []
 
 -- a batch that a candidate leaves out, by its place in the list
 abbrev pub loss_line : Loss → List ℕ

@@ -67,6 +67,10 @@ pub(crate) fn put_loss(
             put_batch_fault(alloc, out, fault)
         }
         LossCause::Room => out.extend_from_slice(b" room"),
+        LossCause::Policy(fault) => {
+            out.extend_from_slice(b" policy")?;
+            put_policy_fault(alloc, out, fault)
+        }
         LossCause::Static(cause) => {
             out.extend_from_slice(b" static ")?;
             put_cause(alloc, out, cause)

@@ -7,6 +7,8 @@ mod notes;
 mod run_fault;
 mod word;
 
-pub use line::{head_line, listed_line, loss_line, receipt_line, status_line, verdict_line};
+pub use line::{
+    candidate_line, head_line, listed_line, loss_line, receipt_line, status_line, verdict_line,
+};
 pub use notes::{ShortLine, fault_line, short_fault_line};
 pub use run_fault::RunFault;

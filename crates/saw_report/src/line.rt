@@ -3,13 +3,14 @@
 ghost use Rattle.std.specs.Prelude.{◌≡◌, ◌++◌, length, sum_by, option_copied, is_some, IfOk, OnOk};
 ghost use Rattle.saw_receipts.specs.Verdicts.{is_accepted};
 ghost use Rattle.saw_report.specs.Lines.{record_text, accepted_text, verdict_text, verdict_line, head_line, listed_line};
-ghost use Rattle.saw_report.specs.Lines.{loss_line, receipt_line, status_line, status_text};
+ghost use Rattle.saw_report.specs.Lines.{candidate_line, loss_line, receipt_line, status_line, status_text};
 
 use crate::fault::{put_fault, put_loss};
 use crate::word::{put_counted, put_number, put_spaced};
+use saw_checks::PolicyFault;
 use saw_merkle::Listed;
 use saw_messages::{Receipt, encode_receipt};
-use saw_receipts::{BatchRecord, BlockRecord, Loss, Verdict};
+use saw_receipts::{BatchRecord, BlockFault, BlockRecord, Loss, Verdict};
 use std::alloc::{AllocError, Global};
 
 /// The line of the block at this place of the stream, counted from 0. The block is given where it is accepted.
@@ -64,6 +65,19 @@ pub fn loss_line(alloc: Global, loss: &Loss) -> Result<Vec<u8>, AllocError>
     put_counted(alloc, &mut out, b"batch", loss.place as u64)?;
     out.extend_from_slice(b" dropped")?;
     put_loss(alloc, &mut out, &loss.cause)?;
+    out.push(b'\n')?;
+    Ok(out)
+}
+
+/// The line of a candidate that the policy refuses: the batch at `k` has this fault, or, where `k` is the number of its
+/// batches, all of them together.
+pub fn candidate_line(alloc: Global, k: u32, fault: &PolicyFault) -> Result<Vec<u8>, AllocError>
+    ensures { IfOk result (λ line. line.items ≡ candidate_line k fault.now) }
+{
+    let mut out = Vec::new(alloc);
+    out.extend_from_slice(b"candidate refused ")?;
+    let fault = *fault;
+    put_fault(alloc, &mut out, &BlockFault::Policy { k, fault })?;
     out.push(b'\n')?;
     Ok(out)
 }

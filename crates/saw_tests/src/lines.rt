@@ -1,7 +1,9 @@
-//! The line of each fault of a run.
+//! The lines of each fault of a run, and of what a policy refuses.
 
+use saw_checks::PolicyFault;
 use saw_node::Node;
-use saw_report::{RunFault, fault_line, short_fault_line};
+use saw_receipts::{Loss, LossCause};
+use saw_report::{RunFault, candidate_line, fault_line, loss_line, short_fault_line};
 use std::alloc::Global;
 use std::test::Fail;
 
@@ -52,5 +54,36 @@ fn two_nodes_of_one_hash_have_their_line(rt: HostRuntime) -> Result<(), Fail> {
     let line = "fault 9 collision a26163a06176f6 a26163a061764161\n";
     assert_eq!(rt; fault_line(alloc, &fault)?.as_slice(), line.as_bytes());
     assert!(rt; short_fault_line(&fault).is_none());
+    Ok(())
+}
+
+#[test]
+fn what_a_policy_refuses_has_its_line(rt: HostRuntime) -> Result<(), Fail> {
+    let alloc = rt.alloc();
+    let family = PolicyFault::Family { t: 2 };
+    let rule = PolicyFault::Rule { index: 1 };
+    let cases = [
+        (
+            family,
+            "candidate refused 16 Policy 4 1 2\n",
+            "batch 3 dropped policy 1 2\n",
+        ),
+        (
+            rule,
+            "candidate refused 16 Policy 4 2 1\n",
+            "batch 3 dropped policy 2 1\n",
+        ),
+    ];
+    for (fault, refused, dropped) in &cases {
+        let loss = Loss {
+            place: 3,
+            cause: LossCause::Policy(*fault),
+        };
+        assert_eq!(rt;
+            candidate_line(alloc, 4, fault)?.as_slice(),
+            refused.as_bytes()
+        );
+        assert_eq!(rt; loss_line(alloc, &loss)?.as_slice(), dropped.as_bytes());
+    }
     Ok(())
 }
