@@ -81,6 +81,8 @@ def endings():
     loss = kept("publish-dependency-failed", "stderr").decode().split("\n")[0]
     like("failed-publish-frame-behind-losses", "publish-dependency-failed", "", kept("publish-dependency-failed", "stderr").decode() + "fault 5 write\n", fail_writes=[0])
     like("failed-publish-second-loss", "publish-dependency-failed", "", loss + "\nfault 5 write\n", fail_notes=[1])
+    # So does the line of a refused candidate, which stands behind them.
+    like("failed-publish-refusal", "policy-publish-judged-again", "", "batch 0 dropped invalid 0 108\nfault 5 write\n", fail_notes=[1])
     # The list of batches comes before the stream.
     put("publish-list-missing", ["publish", "--batches", "list"], EMPTY, "", "fault 11 missing\n", 11, fail_reads=[0])
     like("failed-publish-fetch", "operator-publish", stderr="fault 11 failed\n", status=11, fail_fetches=[0], fail_reads=[0])

@@ -6,7 +6,9 @@ Usage: python3 -B tools/steps.py crates
 """
 
 import hashlib
+import json
 import os
+import re
 import sys
 
 FOLDER = sys.argv[1]
@@ -247,6 +249,68 @@ def messages():
         (f"value b {at}={twice.hex()}", "none"),
     ])
     put("requests", "requests", [("1000", "ok 1000"), ("1001", "invalid 4")])
+
+
+# Rules.
+
+
+def families_listed(text):
+    """The families of a text by Python's reader of JSON, in hex digits."""
+    try:
+        listed = json.loads(text)
+    except ValueError:
+        return " none"
+    if not isinstance(listed, list) or not all(isinstance(one, dict) for one in listed):
+        return " none"
+    words = [one.get(key) for one in listed for key in ("family", "version")]
+    fine = words and all(isinstance(word, str) for word in words)
+    return "".join(" " + word.encode().hex() for word in words) if fine else " none"
+
+
+NUMBER, NAME = r" *([0-9]{1,9}) *", r" *((?! )[^,]*[^, ]) *"
+FORMS = {
+    "NofX": (rf"NofX *:{NUMBER},{NAME}", lambda n, name: f" {int(n)} {name.encode().hex()}"),
+    "XatY": (rf"XatY *:{NAME}, *(-?[0-9]{{1,9}}) *", lambda name, at: f" {name.encode().hex()} {int(at)}"),
+    "local": (rf"local *:({NUMBER}(?:,{NUMBER})*)", lambda all_, *_: "".join(f" {int(n)}" for n in all_.split(","))),
+}
+
+
+def rule(part):
+    """A rule, or None."""
+    for name, (form, told) in FORMS.items():
+        found = re.fullmatch(form, part, re.DOTALL)
+        if found:
+            return f" {name}" + told(*found.groups())
+    return None
+
+
+def rules_listed(text):
+    told = [rule(part.strip(" ")) for part in text.split(";") if part.strip(" ")]
+    return " none" if None in told else f" {len(told)}" + "".join(told)
+
+
+def rule_texts():
+    one, other = '{"family":"intkey","version":"1.0"}', '{"version":"2.0","family":"xo"}'
+    families = [
+        "", " ", "null", "[]", "{}", "[{}]", one, f"[{one}]", f" [ {one} ,\n{other}\t] ", f"[{one},1]", f"[{one}", f"[{one}]]",
+        f"[[{one}]]", f"[{one},[{other}]]", '[{"family":"sawtooth_settings","version":1}]', '[{"family":"intkey"}]',
+        '[{"family":"\\u0069ntkey","version":"1.0"}]', '[{"family":"\\ud83d\\ude00 \\n","version":""}]',
+        '[{"family":"xo","version":"1.0","family":"intkey"}]', '[{"family":"intkey","family":1,"version":"1.0"}]',
+        '[{"family":"intkey","encoding":[[null,{"a":-0.5e3}],true],"version":"1.0"}]', '[{"family":"intkey","version":"1.0",}]',
+    ]
+    put("settings", "listed-families", [(f"families 0 {hexed(text.encode())}", families_listed(text)) for text in families] + [
+        (f"families 1000000 {text.encode().hex()}", families_listed(" " * 1000000 + text)) for text in (f"[{one}]", "[", f"[{one}]x")
+    ])
+    blocks = [
+        "", ";", " ; ;", "NofX:1,intkey", "NofX : 01 , a", ";NofX:123456789,a b;", "NofX:1234567890,a", "NofX:1,a,b", "NofX:1;intkey",
+        "NofX:1", "NofX:,a", "NofX:1,", "NofX:-1,a", "NofX", "nofx:1,a", "\tNofX:1,a", "NofX:1,a\t", "NofX:0,intkey;bad",
+        "NofX:0,intkey;XatY:xo,-1; ;local:0", "XatY:xo,-0", "XatY:a:b,-17", "XatY:a:b,- 1", "XatY:,0", "XatY:intkey,--1", "XatY:intkey,-",
+        "XatY:intkey,+1", "XatY:intkey,999999999", "XatY:intkey,-999999999", "XatY:intkey,1000000000", "local:007", " local :0, 2 ,1",
+        "local:", "local:0,", "local:-1", "local:0;local:0", "local:0 1", "local:999999999", "local:1234567890",
+    ]
+    put("settings", "listed-rules", [(f"rules 0 {hexed(text.encode())}", rules_listed(text)) for text in blocks] + [
+        (f"rules 1000000 {text.encode().hex()}", rules_listed(text)) for text in ("local:1", "x")
+    ])
 
 
 # Plans.
@@ -663,6 +727,7 @@ def main():
     games()
     settings()
     messages()
+    rule_texts()
     planned()
     executed()
     for script in [*schedules(), *trees()]:

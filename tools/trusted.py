@@ -483,7 +483,7 @@ OTHERS = {
     "generate": ["saw_generate/Streams:stream", "saw_top/Headline:Generates", "saw_top/Headline:WritesBy",
                  "saw_top/Command:generate_with"],
     "publish": ["saw_top/Publishing:candidate_text", "saw_top/Publishing:candidate_status",
-                "saw_top/Publishing:losses_text", "saw_top/Publishing:parent_at", "saw_top/Publishing:draft_at",
+                "saw_top/Publishing:losses_text", "saw_top/Publishing:parent_at", "saw_top/Publishing:publication_at",
                 "saw_top/Answers:batches_with", "saw_top/Command:publish_with", "saw_top/Headline:MeetsClashBehind"],
     "state": ["saw_top/Listing:listing", "saw_top/Listing:listing_status", "saw_top/Command:state_with"],
     "receipts": ["saw_top/Listing:receipts_text", "saw_top/Listing:receipts_status", "saw_top/Command:receipts_with"],

@@ -4,6 +4,7 @@
 mod access;
 mod families;
 mod requests;
+mod rules;
 mod settings;
 
 use saw_scripts::{Count, ScriptFault, scripts_of};

@@ -1,5 +1,6 @@
-//! Messages of the Settings family, and where its settings are kept.
+//! Messages of the Settings family, where its settings are kept, and what two of them list.
 
+use crate::rules::put_listed;
 use saw_scripts::{ScriptFault, base_of, bytes_of, put_hex, put_word, words_of};
 use saw_settings::*;
 use std::alloc::Global;
@@ -17,6 +18,7 @@ fn call(alloc: Global, words: &[&str], out: &mut Vec<u8>) -> anyhow::Result<()> 
     match words {
         ["address", key] => Ok(put_word(out, address_of(key).to_hex().as_slice())?),
         ["value", key, entries @ ..] => put_value(alloc, key, entries, out),
+        [kind, spaces, word] => put_listed(alloc, kind, spaces, word, out),
         [kind, word] => put_again(alloc, kind, bytes_of(alloc, word)?.as_slice(), out),
         _ => Err(ScriptFault::NoForm.into()),
     }

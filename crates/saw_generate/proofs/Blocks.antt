@@ -1,8 +1,8 @@
 -- The blocks of a generated stream: each of their batches applies.
-use Rattle.std.proofs.Common.{◌≡◌, ℕ, zero, suc, ◌+◌, ◌*◌, ◌<◌, ◌≤◌, false, List, [], ◌∷◌, map, refl, sym, subst, arith}
+use Rattle.std.proofs.Common.{◌≡◌, ℕ, zero, suc, ◌+◌, ◌*◌, ◌<◌, ◌≤◌, false, List, [], ◌∷◌, map, None, refl, sym, subst, arith}
 use Rattle.std.specs.List.{AllByRecursion, range_with_len}
 use Rattle.std.proofs.lemmas.Bool.{le-ltb}
-use Rattle.saw_address.specs.Maps.{StateMap, no_entries}
+use Rattle.saw_address.specs.Maps.{StateMap, no_entries, value_at}
 use Rattle.saw_messages.specs.TxShapes.{TxShape}
 use Rattle.saw_context.specs.Serial.{failed_with, left_after, left_by, map_after_all, serial, serial_from}
 use Rattle.saw_context.specs.declared.batch_result.BatchResult.{BatchResult}
@@ -84,3 +84,7 @@ module _ (wish : GenerateWish) (txs : ℕ → ℕ → List TxShape) (blocks : wi
   -- every batch of every block applies
   pub every_batch : (b : ℕ) → b < wish.blocks → AllByRecursion IsApplied (serial (alone []) (map_behind txs wish b) (batches_by txs wish b))
   every_batch b low = (block_applies b (map_behind txs wish b) low (at_block b low)).all
+
+  -- and nothing is kept where settings are
+  pub none_set : (b : ℕ) → b < wish.blocks → (tail : List ℕ) → value_at (map_behind txs wish b) (0 ∷ tail) ≡ None
+  none_set b low tail = (at_block b low).holds.keeps.unset tail

@@ -1,5 +1,5 @@
 -- What a map keeps at each address as names with their values, and which names are there.
-use Rattle.std.proofs.Common.{◌≡◌, ℕ, ◌<◌, ◌≤◌, ◌||◌, Bool, true, false, cond, List, [], Option, Some, refl, sym, ap, ◌∙◌, arith}
+use Rattle.std.proofs.Common.{◌≡◌, ℕ, ◌<◌, ◌≤◌, ◌||◌, Bool, true, false, cond, List, [], ◌∷◌, Option, Some, None, refl, sym, ap, ◌∙◌, arith}
 use Rattle.std.specs.Ordering.{nat_cmp}
 use Rattle.std.specs.Cmp.Lexicographic.{slice_cmp}
 use Rattle.std.specs.FinMap as finite
@@ -21,10 +21,12 @@ Book = List ℕ → Names
 abbrev pub named : Book → List ℕ → Names
 named book name = book (address_of name)
 
--- what the map keeps at each address is read as these names, and they are fine
+-- What the map keeps at each address is read as these names, and they are fine. Nothing is kept where settings are, at
+-- addresses that begin with 0.
 pub record Keeps (m : StateMap) (c : ℕ) (book : Book) : Type 0 where
   pub reads : (at : List ℕ) → names_of (body_of (value_at m at)) ≡ Some (book at)
   pub fine : (at : List ℕ) → IsFine c (book at)
+  pub unset : (tail : List ℕ) → value_at m (0 ∷ tail) ≡ None
 
 -- a map that keeps names after at most so many changes, and whether each name is there
 pub record Holds (here : List ℕ → Bool) (c : ℕ) (m : StateMap) : Type 0 where
@@ -40,7 +42,11 @@ holds_alike here other c m alike holds = record { book = holds.book; keeps = hol
 pub holds_later : (here : List ℕ → Bool) (c d : ℕ) (m : StateMap) → c ≤ d → Holds here c m → Holds here d m
 holds_later here c d m later holds = record {
   book = holds.book;
-  keeps = record { reads = holds.keeps.reads; fine = λ at. fine_later c d (holds.book at) later (holds.keeps.fine at) };
+  keeps = record {
+    reads = holds.keeps.reads;
+    fine = λ at. fine_later c d (holds.book at) later (holds.keeps.fine at);
+    unset = holds.keeps.unset;
+  };
   there = holds.there;
 }
 
@@ -53,7 +59,11 @@ nothing_read = refl
 pub none_held : Holds (λ name. false) 0 no_entries
 none_held = record {
   book = λ at. [];
-  keeps = record { reads = λ at. ap (λ found. names_of (body_of found)) (finite.get-empty (slice_cmp nat_cmp) at) ∙ nothing_read; fine = λ at. none_fine 0 };
+  keeps = record {
+    reads = λ at. ap (λ found. names_of (body_of found)) (finite.get-empty (slice_cmp nat_cmp) at) ∙ nothing_read;
+    fine = λ at. none_fine 0;
+    unset = λ tail. finite.get-empty (slice_cmp nat_cmp) (0 ∷ tail);
+  };
   there = λ name. refl;
 }
 
@@ -71,15 +81,23 @@ fine_put : (b : Bool) (d : ℕ) (names old : Names) → IsFine d names → IsFin
 fine_put true d names old new kept = new
 fine_put false d names old new kept = kept
 
+-- the address of a name does not begin with 0
+elsewhere : (name tail : List ℕ) → bytes_eq (address_of name) (0 ∷ tail) ≡ false
+unfolding address_of
+elsewhere name tail = refl
+
 keeps_put : (m : StateMap) (c d : ℕ) (book : Book) (address : List ℕ) (names : Names) → Keeps m c book → IsFine d names → c ≤ d → d ≤ most_changes
-    → Keeps (changed_at m address (Some (kept_bytes names))) d (put book address names)
-keeps_put m c d book address names keeps fine later few =
+    → ((tail : List ℕ) → bytes_eq address (0 ∷ tail) ≡ false) → Keeps (changed_at m address (Some (kept_bytes names))) d (put book address names)
+keeps_put m c d book address names keeps fine later few other =
     let back : names_of (kept_bytes names) ≡ Some names = kept_is_read names (counters_of d names few fine.all) fine.distinct (omega (arith, fine.few)) in
     record {
       reads = λ at.
           ap (λ found. names_of (body_of found)) (value_at-changed_at m address (Some (kept_bytes names)) at)
           ∙ read_put (bytes_eq address at) names (book at) (value_at m at) back (keeps.reads at);
       fine = λ at. fine_put (bytes_eq address at) d names (book at) fine (fine_later c d (book at) later (keeps.fine at));
+      unset = λ tail.
+          value_at-changed_at m address (Some (kept_bytes names)) (0 ∷ tail)
+          ∙ ap (λ same. cond same (Some (kept_bytes names)) (value_at m (0 ∷ tail))) (other tail) ∙ keeps.unset tail;
     }
 
 same_address : (name other : List ℕ) → bytes_eq name other ≡ true → bytes_eq (address_of name) (address_of other) ≡ true
@@ -104,7 +122,7 @@ holds_with here c d m name value holds is less few fine =
     let new = with_value_at name value (named holds.book name) in
     record {
       book = put holds.book (address_of name) new;
-      keeps = keeps_put m c d holds.book (address_of name) new holds.keeps fine (omega arith) few;
+      keeps = keeps_put m c d holds.book (address_of name) new holds.keeps fine (omega arith) few (elsewhere name);
       there = λ other.
           there_put holds.book name value other (bytes_eq (address_of name) (address_of other)) refl
           ∙ ap (λ b. bytes_eq name other || b) (holds.there other);

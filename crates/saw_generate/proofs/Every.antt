@@ -1,7 +1,7 @@
 -- Every batch of a generated stream applies.
-use Rattle.std.proofs.Common.{◌≡◌, ℕ, zero, suc, ◌<◌, ◌≤◌, true, List, [], ◌∷◌, map, refl, sym, ap, ap₂, subst, arith}
+use Rattle.std.proofs.Common.{◌≡◌, ℕ, zero, suc, ◌<◌, ◌≤◌, true, List, [], ◌∷◌, map, None, refl, sym, ap, ap₂, subst, ◌∙◌, arith}
 use Rattle.std.specs.List.{AllByRecursion, range_with_len}
-use Rattle.saw_address.specs.Maps.{StateMap}
+use Rattle.saw_address.specs.Maps.{StateMap, value_at}
 use Rattle.saw_address.specs.Texts.{is_hex_text}
 use Rattle.saw_context.specs.Serial.{left_after, serial}
 use Rattle.saw_messages.specs.TxShapes.{TxShape, shape_in}
@@ -14,7 +14,7 @@ use Rattle.saw_generate.specs.Operations.{first_of, second_of}
 use Rattle.saw_generate.specs.Signed.{batch_at, nonce_at, transaction}
 use Rattle.saw_generate.specs.Streams.{batches_at, map_after_blocks}
 use Rattle.saw_generate.specs.declared.wish.GenerateWish.{GenerateWish}
-use Rattle.saw_generate.proofs.Blocks.{every_batch}
+use Rattle.saw_generate.proofs.Blocks.{every_batch, none_set}
 use Rattle.saw_generate.proofs.Reading.{is_for, is_nonce}
 use Rattle.saw_generate.proofs.Shapes.{IsBatch, batches_by, map_behind}
 
@@ -54,3 +54,10 @@ module _ (signing : Signing) (wish : GenerateWish) where
 
 pub every_batch_applies : EveryBatchApplies
 every_batch_applies signing wish key blocks batches b low = all_apply signing wish key blocks batches b low
+
+-- and no setting is set behind any block
+pub no_setting : (signing : Signing) (wish : GenerateWish) → is_hex_text 66 signing.key ≡ true → wish.blocks ≤ 1000 → wish.batches ≤ 5000
+    → (b : ℕ) → b < wish.blocks → (tail : List ℕ) → value_at (map_after_blocks signing wish b) (0 ∷ tail) ≡ None
+no_setting signing wish key blocks batches b low tail =
+    ap (λ m. value_at m (0 ∷ tail)) (same_map signing wish b)
+    ∙ none_set wish (txs_at signing wish) blocks batches (are signing wish key blocks batches) b low tail

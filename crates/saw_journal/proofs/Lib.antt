@@ -20,3 +20,4 @@ pub mod Leaving
 pub mod Recorded
 pub mod Passing
 pub mod Numbered
+pub mod Told

@@ -1,5 +1,5 @@
 -- What comes of a block's batches by the rules on them and by their run.
-use Rattle.std.proofs.Common.{◌≡◌, ℕ, List, [], ◌∷◌, ◌++◌, Option, Some, None, Result, Ok, Err, refl, sym, ap, subst, ◌∙◌}
+use Rattle.std.proofs.Common.{◌≡◌, ℕ, List, Option, Some, None, Result, Ok, Err, refl, sym, ap, subst, ◌∙◌}
 use Rattle.std.specs.Prelude.{IsErrOf}
 use Rattle.saw_address.specs.Maps.{StateMap}
 use Rattle.saw_checks.specs.Tests.{◌<|>◌}
@@ -9,7 +9,7 @@ use Rattle.saw_crew.specs.declared.fault.CrewFault.TheVariants as crew
 use Rattle.saw_messages.specs.TxShapes.{BatchShape}
 use Rattle.saw_plan.specs.StaticRules.{Ids}
 use Rattle.saw_receipts.specs.declared.verdict.BlockFault.{BlockFault}
-use Rattle.saw_rules.specs.Policies.{Policy, first_behind, no_policy}
+use Rattle.saw_rules.specs.Policies.{Policy}
 use Rattle.saw_journal.proofs.Judging.{or_none}
 use Rattle.saw_journal.specs.BlockFaults.{policy_fault, static_fault}
 use Rattle.saw_journal.specs.LowerFaults.{fault_of_crew}
@@ -19,15 +19,6 @@ use Rattle.saw_journal.specs.declared.fault.JournalFault.TheVariants as faults
 use Rattle.saw_journal.specs.declared.ran.Executed.{Executed}
 use Rattle.saw_journal.specs.declared.stop.Stop.{Stop}
 use Rattle.saw_journal.specs.declared.stop.Stop.TheVariants.{Refused, Failed}
-
-none_behind : (m : StateMap) (signer : List ℕ) (before batches : List BatchShape)
-    → first_behind no_policy.fault no_policy.end_fault m signer before batches ≡ None
-none_behind m signer before [] = refl
-none_behind m signer before (batch ∷ batches) = none_behind m signer (before ++ batch ∷ []) batches
-
--- without a policy nothing is wrong
-pub no_policy_passes : (m : StateMap) (signer : List ℕ) (batches : List BatchShape) → policy_fault no_policy m signer batches ≡ None
-no_policy_passes m signer batches = rw (none_behind m signer [] batches) refl
 
 -- the static rules, and then the policy
 module _ (policy : Policy) (m : StateMap) (signer : List ℕ) (there : Ids) (batches : List BatchShape) where

@@ -21,7 +21,7 @@ use Rattle.saw_receipts.specs.declared.block.BatchRecord.{BatchRecord}
 use Rattle.saw_receipts.specs.declared.block.BlockRecord.{BlockRecord}
 use Rattle.saw_receipts.specs.declared.verdict.BlockFault.{BlockFault}
 use Rattle.saw_receipts.specs.declared.verdict.BlockFault.TheVariants.{Structure}
-use Rattle.saw_rules.specs.Policies.{Policy, no_policy}
+use Rattle.saw_rules.specs.Policies.{Policy}
 use Rattle.saw_wire.specs.declared.fault.MessageFault.{MessageFault}
 use Rattle.saw_journal.specs.BlockFaults.{fault_but_root, fault_by, parent_of}
 use Rattle.saw_journal.specs.BlockShapes.{Parts, parts_of}
@@ -56,10 +56,6 @@ pub record Rules : Type 0 where
 
 abbrev pub rules_by : (List ℕ → List ℕ) → (List ℕ → List ℕ → List ℕ → Bool) → Policy → Runs → Rules
 rules_by hash accepts policy runs = record { hash = hash; accepts = accepts; runs = runs; policy = policy }
-
--- by these without a policy
-abbrev pub rules_with : (List ℕ → List ℕ) → (List ℕ → List ℕ → List ℕ → Bool) → Runs → Rules
-rules_with hash accepts runs = rules_by hash accepts no_policy runs
 
 module _ (hash : List ℕ → List ℕ) where
   abbrev pub kept_of : Parts → StateMap → List BatchResult → Kept

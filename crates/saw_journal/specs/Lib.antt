@@ -7,6 +7,7 @@ pub mod Judgement
 pub mod Linked
 pub mod Left
 pub mod Ledger
+pub mod Laws
 pub mod Clashing
 pub mod KnownBranches
 pub mod Passing

@@ -1,8 +1,7 @@
 -- What the parts of a judgement answer.
-use Rattle.std.specs.Prelude.{◌≡◌, ◌<◌, ℕ, Bool, true, false, List, [], ◌∷◌, ◌++◌, length, Option, Some, None, option_copied, IsSome}
+use Rattle.std.specs.Prelude.{◌≡◌, ◌<◌, ℕ, Bool, true, false, List, [], ◌∷◌, ◌++◌, length, Option, Some, None, option_copied, option_map, IsSome}
 use Rattle.std.specs.Prelude.{Result, Ok, Err}
 use denote.Ref.{Bor}
-use Rattle.saw_address.specs.Maps.{no_entries}
 use Rattle.saw_context.specs.Changed.{AreRising}
 use Rattle.saw_context.specs.Outcome.{Processors, map_after}
 use Rattle.saw_context.specs.Possible.{MayComeOfAll}
@@ -26,7 +25,7 @@ use Rattle.saw_store.specs.declared.fault.StoreFault.TheVariants.{Collision}
 use Rattle.saw_journal.specs.BlockFaults.{failure_fault, first_in, parent_of, place_tests, run_tests, static_fault}
 use Rattle.saw_journal.specs.BlockShapes.{Parts}
 use Rattle.saw_journal.specs.Clashing.{Clashes}
-use Rattle.saw_receipts.specs.Heads.{head_of, is_new_head}
+use Rattle.saw_receipts.specs.Heads.{head_of, is_new_head, root_behind}
 use Rattle.saw_journal.specs.Judgement.{Kept, judged, kept_of, rules_by}
 use Rattle.saw_receipts.specs.Running.{Runs}
 use Rattle.saw_journal.specs.Ledger.{Ledger, map_under}
@@ -51,8 +50,7 @@ PlansAs there batches (Err stop) = IsStop (static_fault there batches) stop
 
 -- the root under which the map before a block stands
 abbrev pub root_before : (List ℕ → List ℕ) → Option BlockRecord → List ℕ
-root_before hash None = root_of_map hash no_entries
-root_before hash (Some parent) = parent.root
+root_before hash parent = root_behind hash (option_map (λ block. block.root) parent)
 
 -- a record and changes that say what is kept of a block: the changes lead from a known map to the one that it leaves,
 -- which has what it needs to become known

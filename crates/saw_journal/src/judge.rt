@@ -1,12 +1,12 @@
 //! The judgement of a block.
 
-ghost use Rattle.std.specs.Prelude.{◌≡◌, ◌<◌, ◌^◌, ℕ, Bool, List, None, map, length, string_bytes, option_copied, IfOk, IsErrOf};
+ghost use Rattle.std.specs.Prelude.{◌≡◌, ◌<◌, ◌^◌, ℕ, Bool, List, None, map, length, string_bytes, option_copied, option_map, IfOk, IsErrOf};
 ghost use Rattle.indexmap.specs.IndexMap.{keys, values};
 ghost use Rattle.saw_checks.specs.Readings.{IsBlockOf};
 ghost use Rattle.saw_checks.specs.StructureFaults.{structure_fault};
 ghost use Rattle.saw_crew.specs.Desks.{Failed, HaveSameOffers, KeepsDesks, offers_at};
 ghost use Rattle.saw_journal.specs.KnownBranches.{HaveIds};
-ghost use Rattle.saw_journal.specs.Parted.{BringsIds, JudgedAs, root_before};
+ghost use Rattle.saw_journal.specs.Parted.{BringsIds, JudgedAs};
 ghost use Rattle.saw_journal.specs.Standing.{IsFounded};
 ghost use Rattle.saw_plan.specs.BatchShapes.{transactions_in};
 ghost use Rattle.saw_rules.specs.Policies.{policy_by};
@@ -22,14 +22,13 @@ use saw_checks::{ReadBlock, read_block};
 use saw_crew::workers_at;
 use saw_merkle::{Prepared, State};
 use saw_messages::Change;
-use saw_node::{NodeHash, NodeHasher, root_by};
-use saw_receipts::{BlockMap, BlockRecord};
+use saw_node::{NodeHash, NodeHasher};
+use saw_receipts::{BlockMap, BlockRecord, root_behind};
 use saw_rules::BlockPolicy;
 use saw_station::{Desk, Station};
 use saw_verify::Verifier;
 use saw_wire::Items;
-use std::alloc::{AllocError, Global};
-use std::collections::BTreeMap;
+use std::alloc::Global;
 use std::sync::Wait;
 use std::thread::Threads;
 
@@ -44,19 +43,10 @@ pub(crate) struct New {
     pub(crate) prepared: Prepared,
 }
 
-fn root_before<H: NodeHasher>(
-    alloc: Global,
-    parent: Option<&BlockRecord>,
-) -> Result<NodeHash, AllocError>
-    ensures { IfOk result (λ root. root ≡ root_before H.hash_of (option_copied parent.entry)) }
+fn root_of(parent: Option<&BlockRecord>) -> Option<NodeHash>
+    ensures { result ≡ option_map (λ block. block.root) (option_copied parent.entry) }
 {
-    match parent {
-        Some(parent) => Ok(parent.root),
-        None => {
-            let root = root_by::<H>(alloc, &BTreeMap::new(alloc))?;
-            Ok(root)
-        }
-    }
+    parent.map(|block| block.root)
 }
 
 /// Judges the bytes of a block. It stops at the first fault.
@@ -125,7 +115,7 @@ fn judge_read<P: BlockPolicy, H: NodeHasher, T: Threads + Wait + Sync, R: Statio
     let checked = read.checked;
     let parent = parent_of(blocks, &checked.id, &checked.header)?;
     let known = ids_behind(alloc, blocks, ids, &checked.header.previous_block_id)?;
-    let before = root_before::<H>(alloc, parent)?;
+    let before = root_behind::<H>(alloc, root_of(parent))?;
     let batches = checked.batches.as_slice();
     let signer = &checked.header.signer_public_key;
     let ran = run_all::<P, H, T, R>(

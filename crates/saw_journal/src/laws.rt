@@ -1,5 +1,6 @@
-//! Laws of branches, of what a block leaves, and of its tests.
+//! Laws of branches, of what a block leaves, of its tests and of what is said of it.
 
+ghost use Rattle.saw_journal.specs.Laws.{ToldIsSaidSerially};
 ghost use Rattle.saw_journal.specs.Left.{KeptIsLeft};
 ghost use Rattle.saw_journal.specs.Numbered.{FaultsHaveNumbers};
 ghost use Rattle.saw_journal.specs.Linked.{BranchIsChain, KeptBranchIs};
@@ -22,4 +23,10 @@ pub fn kept_is_left()
 /// A fault that a test of a block finds has the number of the test.
 pub fn faults_have_numbers()
     ensures { FaultsHaveNumbers }
+{}
+
+/// Of a block that goes to processors which tell their actions, what is said is what is said of it where its batches are run
+/// one after another.
+pub fn told_is_said_serially()
+    ensures { ToldIsSaidSerially }
 {}

@@ -18,4 +18,6 @@ mod stop;
 pub use fault::JournalFault;
 pub use head::choose;
 pub use journal::Journal;
-pub use laws::{branch_is_chain, faults_have_numbers, kept_branch_is, kept_is_left};
+pub use laws::{
+    branch_is_chain, faults_have_numbers, kept_branch_is, kept_is_left, told_is_said_serially,
+};

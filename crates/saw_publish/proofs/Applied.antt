@@ -15,6 +15,7 @@ use Rattle.saw_messages.specs.declared.batch.Batch.{Batch}
 use Rattle.saw_plan.specs.StaticRules.{Ids}
 use Rattle.saw_receipts.specs.Running.{Runs}
 use Rattle.saw_receipts.specs.declared.loss.LossCause.TheVariants.{Check, Room}
+use Rattle.saw_rules.specs.Policies.{Policy}
 use Rattle.saw_publish.specs.Drafts.{check_fates, draft_of}
 use Rattle.saw_publish.specs.Fates.{Fates, still_in}
 use Rattle.saw_publish.specs.Room.{bytes_in, encoded, finds_room, room_fates, transactions_in}
@@ -28,7 +29,7 @@ module _ {A : Type 0} where
   all_stay P (None ∷ fates) (x ∷ xs) all = (all.0, all_stay P fates xs all.1)
   all_stay P (Some cause ∷ fates) (x ∷ xs) all = all_stay P fates xs all.1
 
-  stay-le : (f : A → ℕ) (fates : Fates) (xs : List A) → sum_by f (still_in fates xs) ≤ sum_by f xs
+  pub stay-le : (f : A → ℕ) (fates : Fates) (xs : List A) → sum_by f (still_in fates xs) ≤ sum_by f xs
   stay-le f [] xs = omega arith
   stay-le f (fate ∷ fates) [] = omega arith
   stay-le f (None ∷ fates) (x ∷ xs) =
@@ -120,9 +121,9 @@ module _ (accepts : List ℕ → List ℕ → List ℕ → Bool) where
         small = within.small;
       }
 
-  pub applied_fit : (runs : Runs) (before : StateMap) (there : Ids) (batches : List Batch) → AllByRecursion IsBatch batches
-      → AreFit accepts (draft_of accepts runs before there batches).applied
+  pub applied_fit : (policy : Policy) (signer : List ℕ) (runs : Runs) (before : StateMap) (there : Ids) (batches : List Batch) → AllByRecursion IsBatch batches
+      → AreFit accepts (draft_of accepts policy signer runs before there batches).applied
   unfolding draft_of
-  applied_fit runs before there batches are =
-      stay_fit accepts _ _ (stay_fit accepts _ _ (roomy_fit (still_in (check_fates accepts batches) batches)
-      (all_stay IsBatch (check_fates accepts batches) batches are) (checked_good batches)))
+  applied_fit policy signer runs before there batches are =
+      stay_fit accepts _ _ (stay_fit accepts _ _ (stay_fit accepts _ _ (roomy_fit (still_in (check_fates accepts batches) batches)
+      (all_stay IsBatch (check_fates accepts batches) batches are) (checked_good batches))))

@@ -1,5 +1,5 @@
 -- What a draft takes, taken again by itself.
-use Rattle.std.proofs.Common.{◌≡◌, List, [], map, None, subst}
+use Rattle.std.proofs.Common.{◌≡◌, ℕ, List, [], map, None, subst}
 use Rattle.saw_address.specs.Maps.{StateMap}
 use Rattle.saw_context.specs.Outcome.{Processors}
 use Rattle.saw_context.specs.Serial.{left_after, serial}
@@ -9,8 +9,9 @@ use Rattle.saw_plan.specs.BatchShapes.{txs_of}
 use Rattle.saw_plan.specs.Sorting.{dropped_by}
 use Rattle.saw_plan.specs.StaticRules.{Ids, causes}
 use Rattle.saw_receipts.specs.Shapes.{batch_in}
+use Rattle.saw_rules.specs.Policies.{Policy}
 use Rattle.saw_schedule.specs.BatchResults.{first_failure}
-use Rattle.saw_publish.specs.Drafts.{check_fates, draft_of, draft_of_good, draft_of_results, draft_of_roomy, run_fate, static_fates}
+use Rattle.saw_publish.specs.Drafts.{check_fates, draft_of, draft_of_good, draft_of_passed, draft_of_results, draft_of_roomy, judged_fates, run_fate, static_fates}
 use Rattle.saw_publish.specs.Fates.{still_in}
 use Rattle.saw_publish.specs.Laws.{AppliedApplyAgain}
 use Rattle.saw_publish.specs.Room.{room_fates}
@@ -42,14 +43,22 @@ module _ (processors : Processors) (before : StateMap) (there : Ids) where
       subst (λ shapes. Again shapes (left_after before results)) (still_in_map batch_in (map run_fate results) batches)
       (planned_again (map batch_in batches) planned)
 
-  roomy_again : (batches : List Batch)
-      → let draft = draft_of_roomy (λ m others. serial processors m others) before there batches in Again (map batch_in draft.applied) draft.left
-  roomy_again batches = run_batches_again (still_in (static_fates there batches) batches) (planned_are batches there)
+  passed_again : (batches : List Batch)
+      → let draft = draft_of_passed (λ m others. serial processors m others) before there batches in Again (map batch_in draft.applied) draft.left
+  passed_again batches = run_batches_again (still_in (static_fates there batches) batches) (planned_are batches there)
 
-  good_again : (batches : List Batch)
-      → let draft = draft_of_good (λ m others. serial processors m others) before there batches in Again (map batch_in draft.applied) draft.left
-  good_again batches = roomy_again (still_in (room_fates [] batches) batches)
+  module _ (policy : Policy) (signer : List ℕ) where
+    roomy_again : (batches : List Batch)
+        → let draft = draft_of_roomy policy signer (λ m others. serial processors m others) before there batches in
+        Again (map batch_in draft.applied) draft.left
+    roomy_again batches = passed_again (still_in (judged_fates policy before signer batches) batches)
+
+    good_again : (batches : List Batch)
+        → let draft = draft_of_good policy signer (λ m others. serial processors m others) before there batches in
+        Again (map batch_in draft.applied) draft.left
+    good_again batches = roomy_again (still_in (room_fates [] batches) batches)
 
 pub applied_apply_again : AppliedApplyAgain
 unfolding draft_of
-applied_apply_again accepts processors before there batches = good_again processors before there (still_in (check_fates accepts batches) batches)
+applied_apply_again accepts policy signer processors before there batches =
+    good_again processors before there policy signer (still_in (check_fates accepts batches) batches)

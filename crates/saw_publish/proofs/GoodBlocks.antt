@@ -144,5 +144,6 @@ module _ (hash : List ℕ → List ℕ) (accepts : List ℕ → List ℕ → Lis
       )
 
 pub candidate_good : CandidateIsGood
-candidate_good hash accepts signing parent runs before there batches are named is =
-    good_block hash accepts signing parent (draft_of accepts runs before there batches) (applied_fit accepts runs before there batches are) named is
+candidate_good hash accepts policy signing parent runs before there batches are named is =
+    good_block hash accepts signing parent (draft_of accepts policy signing.key runs before there batches)
+    (applied_fit accepts policy signing.key runs before there batches are) named is

@@ -6,6 +6,7 @@ mod Executed
 pub mod Fitting
 pub mod GoodBlocks
 pub mod HexTexts
+mod Judged
 mod Making
 mod Planned
 mod Putting
@@ -15,4 +16,5 @@ mod SerialAgain
 pub mod Sizes
 mod Staying
 mod Taking
+pub mod Told
 mod Written

@@ -3,7 +3,6 @@ use Rattle.std.proofs.Common.{◌≡◌, ◌⊎◌, ℕ, List, [], ◌∷◌, �
 use Rattle.std.proofs.lemmas.List.{append-nil}
 use Rattle.saw_messages.specs.Batches.{batch_pieces}
 use Rattle.saw_messages.specs.Blocks.{block_pieces}
-use Rattle.saw_messages.specs.TxShapes.{BatchShape}
 use Rattle.saw_messages.specs.declared.batch.Batch.{Batch}
 use Rattle.saw_wire.specs.Pieces.{Chunk, Piece}
 use Rattle.saw_wire.specs.Writing.{bytes_pieces, spelled}
@@ -20,13 +19,6 @@ none_left [] xs none = refl
 none_left (fate ∷ fates) [] none = refl
 none_left (fate ∷ fates) (x ∷ xs) (inl e) = absurd cc
 none_left (fate ∷ fates) (x ∷ xs) (inr e) = absurd cc
-
-pub ids_ended : (ids whole : List (List ℕ)) (fates : Fates) (batches : List BatchShape) → (fates ≡ []) ⊎ (batches ≡ [])
-    → ids ++ still_in fates (map (λ batch. batch.id) batches) ≡ whole → ids ≡ whole
-ids_ended ids whole fates batches none is =
-    let rest : still_in fates (map (λ (batch : BatchShape). batch.id) batches) ≡ [] =
-    still_in_map (λ (batch : BatchShape). batch.id) fates batches ∙ ap (map (λ (batch : BatchShape). batch.id)) (none_left fates batches none) in
-    sym (append-nil ids) ∙ ap (λ rest. ids ++ rest) (sym rest) ∙ is
 
 pub bytes_ended : (out whole : List ℕ) (fates : Fates) (encodings : List (List ℕ)) → (fates ≡ []) ⊎ (encodings ≡ [])
     → out ++ spelled (texts_pieces 3 (still_in fates encodings)) ≡ whole → out ≡ whole

@@ -12,7 +12,9 @@ use Rattle.saw_receipts.specs.Running.{Runs}
 use Rattle.saw_receipts.specs.Shapes.{batch_in}
 use Rattle.saw_receipts.specs.declared.loss.LossCause.{LossCause}
 use Rattle.saw_receipts.specs.declared.loss.LossCause.TheVariants as losses
+use Rattle.saw_rules.specs.Policies.{Policy}
 use Rattle.saw_publish.specs.Fates.{Fates, further, still_in}
+use Rattle.saw_publish.specs.Judging.{policy_fates}
 use Rattle.saw_publish.specs.Room.{room_fates}
 
 -- the fate of each batch, the batches that are applied, in order, and the map that they leave
@@ -38,6 +40,10 @@ check_fates accepts batches = map (λ batch. option_map losses.Check (batch_faul
 abbrev pub static_fates : Ids → List Batch → Fates
 static_fates there batches = map (option_map losses.Static) (causes there (map batch_in batches))
 
+-- the fates of batches by a policy, for a block by this signer
+abbrev pub judged_fates : Policy → StateMap → List ℕ → List Batch → Fates
+judged_fates policy before signer batches = policy_fates policy.fault before signer [] (map batch_in batches)
+
 -- of batches that are run, with these results
 abbrev pub draft_of_results : StateMap → List Batch → List BatchResult → Draft
 draft_of_results before batches results =
@@ -48,15 +54,23 @@ module _ (runs : Runs) (before : StateMap) where
   abbrev pub draft_of_run : List Batch → Draft
   draft_of_run batches = draft_of_results before batches (runs before (txs_of (map batch_in batches)))
 
-  -- of batches that found room, against the ids that are there: those that the static rules keep are run
+  -- of batches that passed, against the ids that are there: those that the static rules keep are run
+  abbrev pub draft_of_passed : Ids → List Batch → Draft
+  draft_of_passed there batches = of_all (static_fates there batches) (draft_of_run (still_in (static_fates there batches) batches))
+
+module _ (policy : Policy) (signer : List ℕ) (runs : Runs) (before : StateMap) where
+  -- of batches that found room: those that the policy lets pass go on
   abbrev pub draft_of_roomy : Ids → List Batch → Draft
-  draft_of_roomy there batches = of_all (static_fates there batches) (draft_of_run (still_in (static_fates there batches) batches))
+  draft_of_roomy there batches =
+      of_all (judged_fates policy before signer batches)
+      (draft_of_passed runs before there (still_in (judged_fates policy before signer batches) batches))
 
   -- of batches without fault: those that find room go on
   abbrev pub draft_of_good : Ids → List Batch → Draft
   draft_of_good there batches = of_all (room_fates [] batches) (draft_of_roomy there (still_in (room_fates [] batches) batches))
 
--- of all batches of a list: those without fault go on
-unfoldable pub draft_of : (List ℕ → List ℕ → List ℕ → Bool) → Runs → StateMap → Ids → List Batch → Draft
-draft_of accepts runs before there batches =
-    of_all (check_fates accepts batches) (draft_of_good runs before there (still_in (check_fates accepts batches) batches))
+-- of all batches of a list, in a block by this signer: those without fault go on
+unfoldable pub draft_of : (List ℕ → List ℕ → List ℕ → Bool) → Policy → List ℕ → Runs → StateMap → Ids → List Batch → Draft
+draft_of accepts policy signer runs before there batches =
+    of_all (check_fates accepts batches)
+    (draft_of_good policy signer runs before there (still_in (check_fates accepts batches) batches))

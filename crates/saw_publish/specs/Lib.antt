@@ -1,6 +1,7 @@
 pub mod LowerFaults
 pub mod Fates
 pub mod Room
+pub mod Judging
 pub mod Drafts
 pub mod Candidates
 pub mod Building

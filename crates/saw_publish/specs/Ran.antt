@@ -15,8 +15,8 @@ use Rattle.saw_receipts.specs.declared.loss.LossCause.TheVariants as losses
 use Rattle.saw_publish.specs.Drafts.{Draft, run_fate}
 use Rattle.saw_publish.specs.Fates.{further, still_in}
 use Rattle.saw_publish.specs.Room.{encoded}
+use Rattle.saw_publish.specs.declared.judge.Passed.{Passed}
 use Rattle.saw_publish.specs.declared.run.Ran.{Ran}
-use Rattle.saw_publish.specs.declared.sift.Sifted.{Sifted}
 
 -- the batches that the static rules keep
 abbrev pub kept_of : Ids → List BatchShape → List BatchShape
@@ -30,11 +30,11 @@ pub record IsRan (runs : Runs) (before : StateMap) (there : Ids) (batches : List
   pub changes : map_after before ran.changes ≡ left_after before (runs before (txs_of (kept_of there batches)))
   pub rising : AreRising ran.changes
 
--- a draft of batches that were sifted and run
-pub record IsDraft (before : StateMap) (sifted : Sifted) (ran : Ran) (draft : Draft) : Type 0 where
-  pub fates : further sifted.fates ran.fates ≡ draft.fates
-  pub roomy : List Batch
-  pub batches : sifted.batches ≡ map batch_in roomy
-  pub encodings : sifted.encodings ≡ map encoded roomy
-  pub applied : still_in ran.fates roomy ≡ draft.applied
+-- a draft of batches that passed and were run
+pub record IsDraft (before : StateMap) (passed : Passed) (ran : Ran) (draft : Draft) : Type 0 where
+  pub fates : further passed.fates ran.fates ≡ draft.fates
+  pub staying : List Batch
+  pub batches : passed.batches ≡ map batch_in staying
+  pub encodings : passed.encodings ≡ map encoded staying
+  pub applied : still_in ran.fates staying ≡ draft.applied
   pub left : map_after before ran.changes ≡ draft.left

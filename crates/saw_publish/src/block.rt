@@ -66,19 +66,13 @@ pub fn header_of<G: Signer>(
     Ok(header)
 }
 
-/// The ids of the batches that stay in.
-pub(crate) fn ids_of(
-    alloc: Global,
-    fates: &[Fate],
-    batches: &[TxBatch],
-) -> Result<Items<Text>, AllocError>
-    ensures { IfOk result (λ ids. ids ≡ still_in fates.now (map (λ batch. batch.id) batches.now)) }
+/// The ids of batches.
+pub(crate) fn ids_of(alloc: Global, batches: &[TxBatch]) -> Result<Items<Text>, AllocError>
+    ensures { IfOk result (λ ids. ids ≡ map (λ batch. batch.id) batches.now) }
 {
     let mut ids = Items::new(alloc);
-    for (fate, batch) in fates.iter().zip(batches) {
-        if fate.is_none() {
-            ids.push(batch.id.try_clone(alloc)?)?;
-        }
+    for batch in batches {
+        ids.push(batch.id.try_clone(alloc)?)?;
     }
     Ok(ids)
 }

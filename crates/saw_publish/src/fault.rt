@@ -3,6 +3,7 @@
 ghost use Rattle.std.specs.Prelude.{◌≡◌};
 ghost use Rattle.saw_publish.specs.declared.fault.PublishFault.TheVariants.{OutOfMemory};
 
+use saw_checks::PolicyFault;
 use saw_crew::CrewFault;
 use saw_node::Node;
 use saw_receipts::Loss;
@@ -16,14 +17,27 @@ use thiserror::Error;
 pub enum PublishFault {
     /// No batch of the list is applied: all are left out, in the order of the list.
     #[error("no batch is valid")]
-    NothingValid { dropped: Items<Loss> },
+    NothingValid {
+        dropped: Items<Loss>,
+    },
+    /// The policy refuses the applied batches as a block: the batch at `k` of them has this fault, or, where `k` is their
+    /// number, all together. The losses are in the order of the list.
+    #[error("the policy refuses the block")]
+    Policy {
+        k: u32,
+        fault: PolicyFault,
+        dropped: Items<Loss>,
+    },
     /// A processor failed. Its station has counted it.
     #[error("a processor failed")]
     PeerFailed,
     /// Two different nodes of one hash were met: one of the map that the block would leave, and one of that map or of a
     /// known root's.
     #[error("two different nodes have one hash")]
-    Collision { kept: Node, given: Node },
+    Collision {
+        kept: Node,
+        given: Node,
+    },
     #[error("out of memory")]
     OutOfMemory,
 }

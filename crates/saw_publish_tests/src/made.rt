@@ -11,6 +11,7 @@ use saw_node::Sha512Half;
 use saw_plan::Known;
 use saw_publish::{Candidate, PublishFault, build};
 use saw_receipts::{Loss, LossCause};
+use saw_rules::NoPolicy;
 use saw_station::{Desk, NoStation};
 use saw_verify::{DevSigner, DevVerifier, Signer};
 use saw_wire::Text;
@@ -44,7 +45,7 @@ fn first<T: Threads + Wait + Sync>(
 {
     let known = Known::new(alloc);
     let state: State<Sha512Half> = State::new(alloc)?;
-    build(
+    build::<NoPolicy, Sha512Half, T, DevVerifier, DevSigner, NoStation>(
         rt,
         alloc,
         None,
@@ -110,4 +111,5 @@ fn a_signer_has_a_key_of_66_digits(rt: HostRuntime) -> Result<(), Fail> {
 fn laws_of_candidates(_rt: HostRuntime) {
     saw_publish::candidate_is_good();
     saw_publish::applied_apply_again();
+    saw_publish::told_is_built_serially();
 }

@@ -1,8 +1,7 @@
 -- What is read of a batch without fault is the batch by itself.
-use Rattle.std.proofs.Common.{◌≡◌, ℕ, Bool, List, [], ◌∷◌, map, Option, Some, None, Result, Ok, Err, refl, sym, ap, arith}
+use Rattle.std.proofs.Common.{◌≡◌, ℕ, Bool, List, [], ◌∷◌, map, Some, None, Result, Ok, Err, refl, sym, ap, arith}
 use Rattle.saw_checks.specs.BatchFaults.{batch_fault}
 use Rattle.saw_checks.specs.Readings.{IsTxOf, AreTxsOf, IsBatchOf}
-use Rattle.saw_checks.specs.Tests.{◌<|>◌}
 use Rattle.saw_checks.specs.declared.fault.BatchFault.TheVariants.{Header}
 use Rattle.saw_messages.specs.Batches.{batch_header}
 use Rattle.saw_messages.specs.TxShapes.{BatchShape, TxShape, shape_in, header_by}

@@ -3,6 +3,8 @@ use Rattle.std.specs.Prelude.{ℕ, Bool, true, ◌&&◌, ◌||◌, List, [], ◌
 use Rattle.std.specs.Ordering.{nat_cmp, is_lt}
 use Rattle.std.specs.Cmp.Lexicographic.{slice_cmp}
 use Rattle.sha2.specs.Sha256.{sha256}
+use Rattle.saw_address.specs.Maps.{no_entries}
+use Rattle.saw_node.specs.Trees.{root_of_map}
 use Rattle.saw_receipts.specs.declared.block.BlockRecord.{BlockRecord}
 use Rattle.saw_receipts.specs.declared.block.Parent.{Parent}
 use Rattle.saw_receipts.specs.Branches.{branch_of}
@@ -40,3 +42,8 @@ head_branch blocks = branch_to blocks (head_of blocks)
 -- what a new block behind this one takes of it
 abbrev pub as_parent : BlockRecord → Parent
 as_parent block = record { number = block.number; id = block.id; root = block.root }
+
+-- the root of the map that a new block is run over: that which the block before it leaves, or that of the empty map
+abbrev pub root_behind : (List ℕ → List ℕ) → Option (List ℕ) → List ℕ
+root_behind hash None = root_of_map hash no_entries
+root_behind hash (Some root) = root

@@ -1,9 +1,14 @@
 //! What is kept of accepted blocks.
 
+ghost use Rattle.std.specs.Prelude.{◌≡◌, IfOk};
+ghost use Rattle.saw_receipts.specs.Heads.{root_behind};
+
 use indexmap::IndexMap;
 use saw_messages::Receipt;
-use saw_node::NodeHash;
+use saw_node::{NodeHash, NodeHasher, root_by};
 use saw_wire::{Items, Text};
+use std::alloc::{AllocError, Global};
+use std::collections::BTreeMap;
 
 /// What a first block states as the id of the block before it.
 pub const NO_BLOCK: &str = "0000000000000000";
@@ -56,4 +61,20 @@ pub struct Parent {
     pub number: u64,
     pub id: Text,
     pub root: NodeHash,
+}
+
+/// The root of the state that a new block is run over: that which the block before it leaves, or the empty state's.
+pub fn root_behind<H: NodeHasher>(
+    alloc: Global,
+    left: Option<NodeHash>,
+) -> Result<NodeHash, AllocError>
+    ensures { IfOk result (λ root. root ≡ root_behind H.hash_of left) }
+{
+    match left {
+        Some(root) => Ok(root),
+        None => {
+            let root = root_by::<H>(alloc, &BTreeMap::new(alloc))?;
+            Ok(root)
+        }
+    }
 }

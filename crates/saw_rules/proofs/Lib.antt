@@ -5,3 +5,4 @@ pub mod FamilyLists
 pub mod Search
 pub mod Counted
 pub mod Standing
+pub mod Unread

@@ -9,6 +9,7 @@ use Rattle.saw_settings.specs.Settings.{setting_of}
 use Rattle.saw_checks.specs.declared.policy.PolicyFault.{PolicyFault}
 use Rattle.saw_checks.specs.declared.policy.PolicyFault.TheVariants as faults
 use Rattle.saw_rules.specs.Families.{families_of}
+use Rattle.saw_rules.specs.Policies.{Policy, policy_by}
 use Rattle.saw_rules.specs.RuleTexts.{rules_of}
 use Rattle.saw_rules.specs.declared.families.Family.{Family}
 use Rattle.saw_rules.specs.declared.rule.Rule.{Rule}
@@ -110,3 +111,7 @@ missed_fault rules txs = option_map faults.Rule (position (is_missed txs) rules)
 -- what is wrong with a block as a whole
 abbrev pub end_fault : StateMap → List BatchShape → Option PolicyFault
 end_fault m batches = missed_fault (rules_in m) (txs_in batches)
+
+-- the policy of both settings
+unfoldable pub on_chain : Policy
+on_chain = policy_by fault end_fault

@@ -1,11 +1,7 @@
-//! Tests of the settings on families and on blocks, and of blocks judged by them.
+//! Tests of blocks judged by the settings on families and on blocks.
 #![tactic(auto)]
 
 #[cfg(test)]
 mod blocks;
 #[cfg(test)]
-mod families;
-#[cfg(test)]
 mod made;
-#[cfg(test)]
-mod rules;

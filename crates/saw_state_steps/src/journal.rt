@@ -7,7 +7,7 @@ use saw_messages::encode_receipt;
 use saw_node::{Node, NodeHasher, encode};
 use saw_receipts::{BatchRecord, Parent, Verdict};
 use saw_report::{head_line, verdict_line};
-use saw_rules::{BlockPolicy, NoPolicy, OnChainRules};
+use saw_rules::NoPolicy;
 use saw_scripts::{ScriptFault, put_hex, put_number, put_word, words_of};
 use saw_station::{Desk, NoStation};
 use saw_verify::DevVerifier;
@@ -47,16 +47,7 @@ fn call<T: Threads + Wait + Sync, H: NodeHasher>(
 ) -> anyhow::Result<()> {
     let alloc = host.alloc();
     match words {
-        ["accept", name] => accept::<NoPolicy, T, H>(
-            rt,
-            alloc,
-            journal,
-            &block_in(host, name)?,
-            out,
-        ),
-        ["accept-by-rules", name] => {
-            accept::<OnChainRules, T, H>(rt, alloc, journal, &block_in(host, name)?, out)
-        }
+        ["accept", name] => accept(rt, alloc, journal, &block_in(host, name)?, out),
         ["blocks"] => put_count(alloc, journal.blocks().len(), out),
         ["head"] => Ok(out.extend_from_slice(&head_line(alloc, journal.head())?)?),
         ["parent"] => put_parent(alloc, journal.parent()?, out),
@@ -72,8 +63,8 @@ fn block_in(host: &HostRuntime, name: &str) -> anyhow::Result<Vec<u8>> {
     Ok(fs::read(host, path.as_str())?)
 }
 
-/// What the journal answers to the bytes of a block, by a policy.
-fn answer<P: BlockPolicy, T: Threads + Wait + Sync, H: NodeHasher>(
+/// What the journal answers to the bytes of a block, without a policy.
+fn answer<T: Threads + Wait + Sync, H: NodeHasher>(
     rt: &T,
     alloc: Global,
     journal: &mut Journal<H>,
@@ -85,17 +76,17 @@ fn answer<P: BlockPolicy, T: Threads + Wait + Sync, H: NodeHasher>(
     let offers = Arc::new(alloc, Vec::new(alloc))?;
     let desk: Desk<NoStation> = Desk::new(None, offers);
     let mut desks = [desk];
-    Ok(journal.accept::<P, _, _, _>(rt, bytes, &DevVerifier, &mut desks))
+    Ok(journal.accept::<NoPolicy, _, _, _>(rt, bytes, &DevVerifier, &mut desks))
 }
 
-fn accept<P: BlockPolicy, T: Threads + Wait + Sync, H: NodeHasher>(
+fn accept<T: Threads + Wait + Sync, H: NodeHasher>(
     rt: &T,
     alloc: Global,
     journal: &mut Journal<H>,
     bytes: &[u8],
     out: &mut Vec<u8>,
 ) -> anyhow::Result<()> {
-    match answer::<P, T, H>(rt, alloc, journal, bytes)? {
+    match answer(rt, alloc, journal, bytes)? {
         Ok(verdict) => Ok(put_verdict(alloc, out, verdict)?),
         Err(fault) => put_fault::<H>(alloc, out, fault),
     }

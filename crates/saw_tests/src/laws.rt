@@ -96,6 +96,7 @@ fn laws_of_blocks_and_streams(_rt: HostRuntime) {
     saw_journal::kept_branch_is();
     saw_journal::kept_is_left();
     saw_journal::faults_have_numbers();
+    saw_journal::told_is_said_serially();
     saw_generate::every_batch_applies();
     saw_generate::draws_of_seven();
     saw_top::frames_are_read();

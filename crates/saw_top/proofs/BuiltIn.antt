@@ -22,7 +22,8 @@ use Rattle.saw_station.specs.declared.offer.Offer.{Offer}
 use Rattle.saw_top.specs.Answers.{Prepared}
 use Rattle.saw_top.specs.BuiltInLaws.{BuiltInTell}
 use Rattle.saw_top.specs.Stream.{stream_of}
-use Rattle.saw_top.specs.Telling.{IsTold, tell_batches, tell_block, tell_read}
+use Rattle.saw_receipts.specs.Telling.{tell_batches, tell_block, tell_read}
+use Rattle.saw_top.specs.Telling.{IsTold}
 use Rattle.saw_top.specs.TellingLaws.{AllIsTold}
 use Rattle.saw_top.specs.World.{TellsAll}
 use Rattle.saw_top.proofs.Desks.{tells_all}

@@ -11,7 +11,7 @@ use Rattle.saw_context.specs.Outcome.{Processors}
 use Rattle.saw_faults.specs.Counts.{Rose}
 use Rattle.saw_io.specs.Shelf.{Files}
 use Rattle.saw_receipts.specs.Heads.{head_branch, head_of}
-use Rattle.saw_journal.specs.Judgement.{Kept, Rules, rules_with}
+use Rattle.saw_journal.specs.Judgement.{Kept, Rules}
 use Rattle.saw_journal.specs.Ledger.{Ledger, map_under}
 use Rattle.saw_merkle.specs.States.{States}
 use Rattle.saw_node.specs.Hashes.{first_half}
@@ -23,11 +23,10 @@ use Rattle.saw_report.specs.declared.run_fault.RunFault.TheVariants as runs
 use Rattle.saw_report.specs.declared.run_fault.RunFault.{RunFault}
 use Rattle.saw_top.specs.Answers.{Prepared, answer_for, ready_with}
 use Rattle.saw_top.specs.Clashing.{ClashIn, TellsAlike}
-use Rattle.saw_top.specs.Ends.{ClashesAt, Finishes, IsOfEnd, WritesBy, WritesEnd, draft_in, end_at, plain_end}
-use Rattle.saw_top.specs.Publishing.{Waiting, candidate_status, candidate_text, draft_at, losses_text, map_left, parent_at}
+use Rattle.saw_top.specs.Ends.{ClashesAt, Finishes, IsOfEnd, WritesBy, WritesEnd, end_at, plain_end, publication_in}
+use Rattle.saw_top.specs.Publishing.{Publication, Waiting, candidate_status, candidate_text, losses_text, map_left, parent_at, publication_at, publication_of}
 use Rattle.saw_publish.specs.Building.{map_before}
 use Rattle.saw_publish.specs.Candidates.{Signing}
-use Rattle.saw_publish.specs.Drafts.{Draft, draft_of}
 use Rattle.saw_receipts.specs.Branches.{ids_in}
 use Rattle.saw_messages.specs.declared.batch.Batch.{Batch as BatchMessage}
 use Rattle.saw_address.specs.Maps.{StateMap}
@@ -41,7 +40,7 @@ use Rattle.saw_top.specs.Outside.{End, Outside, Sides, SomeRose, WritesFront, li
 use Rattle.saw_top.specs.Reports.{report}
 use Rattle.saw_top.specs.Run.{Answer, AtEnd, end_by, ending_of, fault_of, history_of, noted_by, run_of, run_to, status_by, task_answer, written_by}
 use Rattle.saw_top.specs.KeptBlocks.{IsAfter, IsKeptBlock}
-use Rattle.saw_top.specs.World.{Accepts, AreWays, Judging, Ways, judging_by, serially}
+use Rattle.saw_top.specs.World.{Accepts, AreWays, Judging, Ways, judging_by, rules_with, serially}
 use Rattle.saw_top.specs.declared.task.Ending.{Ending}
 use Rattle.saw_top.specs.declared.task.Ending.TheVariants.{Batch, Candidate, Head, Entries, Receipts}
 use Rattle.saw_top.specs.declared.task.Lines.{Lines}
@@ -307,15 +306,16 @@ right_head accepted states kept None is = refl
 right_head accepted states kept (Some block) is = of_head (IsRight accepted states) (records_of accepted) block (sym is)
     (all_right accepted states accepted kept)
 
--- the draft behind the accepted blocks is that behind the head of the journal
-same_draft : (rules : Rules) (accepted : List Kept) (ledger : Ledger) → IsAfter accepted ledger → (batches : List BatchMessage)
-    → draft_at rules accepted batches ≡ draft_in rules ledger batches
-same_draft rules accepted ledger after batches =
+-- what comes of batches behind the accepted blocks is what comes of them behind the head of the journal
+same_publication : (rules : Rules) (waiting : Waiting) (accepted : List Kept) (ledger : Ledger) → IsAfter accepted ledger
+    → publication_at rules waiting accepted ≡ publication_in rules waiting ledger
+same_publication rules waiting accepted ledger after =
+    let key = waiting.signing.key in
     let head = head_of (records_of accepted) in
     let same : map_behind accepted head ≡ map_before ledger.states (parent_at (records_of accepted)) =
     sym (right_head accepted ledger.states after.kept head refl) ∙ map_is ledger.states head in
-    ap (λ (m : StateMap). draft_of rules.accepts rules.runs m (ids_in (head_branch (records_of accepted))) batches) same
-    ∙ ap (λ (blocks : List BlockRecord). draft_of rules.accepts rules.runs (map_before ledger.states (parent_at blocks)) (ids_in (head_branch blocks)) batches)
+    ap (λ (m : StateMap). publication_of rules key m (ids_in (head_branch (records_of accepted))) waiting.batches) same
+    ∙ ap (λ (blocks : List BlockRecord). publication_of rules key (map_before ledger.states (parent_at blocks)) (ids_in (head_branch blocks)) waiting.batches)
     (sym after.blocks)
 
 end_same : (judging : Judging) (rules : Rules) (waiting : Waiting) (lines : Lines) (ending : Ending) (bytes : List ℕ) (left old mid : Option (List ℕ)) (refused : Bool)
@@ -336,15 +336,15 @@ end_same judging rules waiting lines (Batch id) bytes left first others refused 
     ap (λ (blocks : List BlockRecord). plain_end (batch_text id blocks) (batch_status id blocks)) (sym judged.after.blocks)
 end_same judging rules waiting lines Candidate bytes left first others refused ledger judged =
     let accepted = (run_of judging bytes).accepted in
-    let end : List BlockRecord → Bool → Draft → AtEnd = λ blocks some draft. record {
-      output = candidate_text rules.hash waiting.signing (parent_at blocks) draft;
-      noted = losses_text draft;
-      status = candidate_status some draft;
-      made = map_left draft;
+    let end : List BlockRecord → Bool → Publication → AtEnd = λ blocks some publication. record {
+      output = candidate_text rules.hash waiting.signing (parent_at blocks) publication;
+      noted = losses_text publication;
+      status = candidate_status some publication;
+      made = map_left publication;
     } in
-    ap (end (records_of accepted) (some_refused (run_of judging bytes).said)) (same_draft rules accepted ledger judged.after waiting.batches)
-    ∙ ap (λ (blocks : List BlockRecord). end blocks (some_refused (run_of judging bytes).said) (draft_in rules ledger waiting.batches)) (sym judged.after.blocks)
-    ∙ ap (λ (some : Bool). end ledger.blocks some (draft_in rules ledger waiting.batches)) (sym judged.some)
+    ap (end (records_of accepted) (some_refused (run_of judging bytes).said)) (same_publication rules waiting accepted ledger judged.after)
+    ∙ ap (λ (blocks : List BlockRecord). end blocks (some_refused (run_of judging bytes).said) (publication_in rules waiting ledger)) (sym judged.after.blocks)
+    ∙ ap (λ (some : Bool). end ledger.blocks some (publication_in rules waiting ledger)) (sym judged.some)
 
 -- ---- what was done
 

@@ -1,11 +1,12 @@
 -- The blocks of a vouched stream, judged one behind another.
 use Rattle.std.proofs.Common.{◌≡◌, ◌<◌, ◌≤◌, ◌||◌, ℕ, zero, suc, true, false, List, [], ◌∷◌, ◌++◌, length, map, Option, Some, None, Ok}
 use Rattle.std.proofs.Common.{refl, sym, ap, ap₂, subst, ◌∙◌, arith}
-use Rattle.std.specs.Prelude.{option_map}
+use Rattle.std.specs.Prelude.{option_and_then, option_map}
 use Rattle.std.specs.List.{flat_map, list_any, range_with_len}
 use Rattle.std.specs.Str.{bytes_eq}
 use Rattle.std.proofs.lemmas.List.{length_push, map_push}
-use Rattle.saw_generate.proofs.Every.{every_batch_applies}
+use Rattle.saw_address.specs.Maps.{StateMap, value_at}
+use Rattle.saw_generate.proofs.Every.{every_batch_applies, no_setting}
 use Rattle.saw_generate.proofs.Places.{ids_more, parts_more}
 use Rattle.saw_generate.proofs.WholeBlocks.{batches_free, block_good, none_failed, number_is}
 use Rattle.saw_generate.proofs.FreshIds.{none_dropped}
@@ -31,7 +32,13 @@ use Rattle.saw_receipts.specs.Heads.{as_parent, head_of, is_new_head}
 use Rattle.saw_receipts.specs.Running.{Runs}
 use Rattle.saw_receipts.specs.declared.block.BlockRecord.{BlockRecord}
 use Rattle.saw_receipts.specs.declared.block.Parent.{Parent}
+use Rattle.saw_rules.proofs.Unread.{unread_passes}
+use Rattle.saw_rules.specs.OnChainRules.{families_key, on_chain, rules_key}
+use Rattle.saw_rules.specs.Families.{families_of}
+use Rattle.saw_rules.specs.RuleTexts.{rules_of}
 use Rattle.saw_schedule.specs.BatchResults.{first_failure}
+use Rattle.saw_settings.specs.Keys.{address_of}
+use Rattle.saw_settings.specs.Settings.{setting_of, value_by}
 use Rattle.saw_station.specs.Serving.{alone}
 use Rattle.saw_top.specs.GeneratedLaws.{IsVouchedFor, batch_ids_at, transaction_ids_at, alone_by}
 use Rattle.saw_top.specs.History.{judged_behind, map_behind, record_of, records_of}
@@ -47,6 +54,13 @@ use Rattle.saw_top.proofs.NextBlocks.{IsFaultless, judged_over, judged_read}
 has_mapped : (blocks : List BlockRecord) (id : List ℕ) → list_any (λ other. bytes_eq other id) (map (λ block. block.id) blocks) ≡ has_block blocks id
 has_mapped [] id = refl
 has_mapped (block ∷ blocks) id = ap (λ b. bytes_eq block.id id || b) (has_mapped blocks id)
+
+-- ---- settings
+
+-- where nothing is kept at addresses that begin with 0 no setting is set
+none_set : (m : StateMap) (key : List ℕ) → ((tail : List ℕ) → value_at m (0 ∷ tail) ≡ None) → setting_of m key ≡ None
+unfolding setting_of address_of
+none_set m key none = ap (value_by key) (none _)
 
 -- ---- what is kept of a stream
 
@@ -138,13 +152,22 @@ module _ (accepts : Accepts) (signing : Signing) (wish : GenerateWish) where
     none_fails : first_failure 0 (results_at signing wish b) ≡ None
     none_fails = none_failed 0 (results_at signing wish b) (every_batch_applies signing wish vouched.key few narrow b low)
 
-    faultless : IsFaultless first_half runs (records_after b) (map_after_blocks signing wish b) (ids_after b) (parts_at b)
+    abbrev before : StateMap
+    before = map_after_blocks signing wish b
+
+    -- no setting is set
+    unset : (tail : List ℕ) → value_at before (0 ∷ tail) ≡ None
+    unset tail = no_setting signing wish vouched.key few narrow b low tail
+
+    faultless : IsFaultless first_half on_chain runs (records_after b) (map_after_blocks signing wish b) (ids_after b) (parts_at b)
         (map_after_blocks signing wish (suc b))
     unfolding map_after_blocks
     faultless = record {
       placed = well_placed;
       whole = none_dropped 0 (ids_after b) (batches_at signing wish b) (batches_free signing wish vouched.key few narrow b low)
           (batches_differ accepts signing wish vouched b low) (transactions_differ accepts signing wish vouched b low);
+      allowed = unread_passes before signing.key (parts_at b).batches (ap (option_and_then families_of) (none_set before families_key unset))
+          (ap (option_and_then rules_of) (none_set before rules_key unset));
       valid = none_fails;
       left_is = refl;
       states = refl;
@@ -154,9 +177,9 @@ module _ (accepts : Accepts) (signing : Signing) (wish : GenerateWish) where
     pub judged_at : judged_behind (alone_by accepts) b (accepted_after b) (content_at signing wish b) ≡ Ok (kept_at b)
     judged_at =
         let good = block_good signing wish vouched.key few narrow accepts (block_signed accepts signing wish vouched) b low in
-        judged_read first_half accepts runs (map_behind (accepted_after b)) blocks (content_at signing wish b) (block_at signing wish b)
+        judged_read first_half accepts on_chain runs (map_behind (accepted_after b)) blocks (content_at signing wish b) (block_at signing wish b)
         (header_at b) good.2 good.0 good.1
-        ∙ judged_over first_half runs (map_behind (accepted_after b)) blocks (parts_at b) (map_after_blocks signing wish (suc b))
+        ∙ judged_over first_half on_chain runs (map_behind (accepted_after b)) blocks (parts_at b) (map_after_blocks signing wish (suc b))
         (map_after_blocks signing wish b) (ids_after b)
         (ap (map_behind (accepted_after b)) parent_found ∙ is.left) ids_found faultless
 

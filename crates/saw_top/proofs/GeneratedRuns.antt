@@ -12,7 +12,7 @@ use Rattle.saw_generate.proofs.WholeBlocks.{content_small}
 use Rattle.saw_generate.specs.Streams.{content_at, stream}
 use Rattle.saw_generate.specs.declared.wish.GenerateWish.{GenerateWish}
 use Rattle.saw_io.specs.Frame.{frame}
-use Rattle.saw_journal.specs.Judgement.{Kept, Rules, rules_with}
+use Rattle.saw_journal.specs.Judgement.{Kept, Rules}
 use Rattle.saw_node.specs.Hashes.{first_half}
 use Rattle.saw_publish.specs.Candidates.{Signing}
 use Rattle.saw_receipts.specs.Heads.{as_parent, head_of}
@@ -24,7 +24,7 @@ use Rattle.saw_top.specs.History.{History, Said, accepted_as, before, ended, goe
 use Rattle.saw_top.specs.Limits.{max_blocks, max_length}
 use Rattle.saw_top.specs.Run.{end_by, fault_in, head_map, history_of, status_by}
 use Rattle.saw_top.specs.Stream.{Stream, stream_of}
-use Rattle.saw_top.specs.World.{Accepts, Judging, serially}
+use Rattle.saw_top.specs.World.{Accepts, Judging, rules_with, serially}
 use Rattle.saw_top.specs.declared.task.Ending.TheVariants.{Head}
 use Rattle.saw_top.proofs.Frames.{frames_are_read}
 use Rattle.saw_top.proofs.GeneratedBlocks.{IsBehind, accepted_after, all_behind, judged_at, kept_at, new_head}

@@ -4,7 +4,7 @@ pub mod Judgements
 mod Beginning
 pub mod BehindHead
 pub mod Steps
-pub mod Told
+pub mod Elements
 pub mod OwnReasons
 pub mod OneAnswer
 pub mod SerialBranches

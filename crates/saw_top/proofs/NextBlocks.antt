@@ -6,12 +6,11 @@ use Rattle.saw_address.specs.Maps.{StateMap}
 use Rattle.saw_checks.specs.StructureFaults.{structure_fault}
 use Rattle.saw_context.specs.Serial.{left_after}
 use Rattle.saw_context.specs.declared.batch_result.BatchResult.{BatchResult}
-use Rattle.saw_journal.specs.BlockFaults.{failure_fault, first_in, ids_before, parent_of, place_tests, root_fault, static_fault}
+use Rattle.saw_journal.specs.BlockFaults.{failure_fault, first_in, ids_before, parent_of, place_tests, policy_fault, root_fault, static_fault}
 use Rattle.saw_journal.specs.BlockShapes.{Parts, parts_of}
-use Rattle.saw_rules.specs.Policies.{no_policy}
+use Rattle.saw_rules.specs.Policies.{Policy, first_fault}
 use Rattle.saw_journal.proofs.Judging.{fault_in}
-use Rattle.saw_journal.proofs.Passing.{no_policy_passes}
-use Rattle.saw_journal.specs.Judgement.{Kept, Rules, judged, judged_parts, kept_of, rules_with, unless}
+use Rattle.saw_journal.specs.Judgement.{Kept, Rules, judged, judged_parts, kept_of, rules_by, unless}
 use Rattle.saw_journal.specs.Ledger.{Ledger, Says, judged_in}
 use Rattle.saw_messages.specs.Blocks.{block, block_header}
 use Rattle.saw_messages.specs.TxShapes.{BatchShape}
@@ -39,26 +38,31 @@ none_dropped there batches none = rw none refl
 none_failed : (results : List BatchResult) → first_failure 0 results ≡ None → failure_fault results ≡ None
 none_failed results none = rw none refl
 
+none_refused : (policy : Policy) (before : StateMap) (signer : List ℕ) (batches : List BatchShape)
+    → first_fault policy.fault policy.end_fault before signer batches ≡ None → policy_fault policy before signer batches ≡ None
+none_refused policy before signer batches none = rw none refl
+
 states_root : (header : BlockHeader) (root : List ℕ) → header.state_root_hash ≡ encode_lower root → root_fault header root ≡ None
 states_root header root states = rw (states, nat_list_eq_equiv.refl (encode_lower root)) refl
 
 -- What is true of a block behind others that has no fault: these ids are there, and its batches are run over this map.
-pub record IsFaultless (hash : List ℕ → List ℕ) (runs : Runs) (blocks : List BlockRecord) (before : StateMap) (there : Ids) (parts : Parts)
-    (left : StateMap) : Type 0 where
+pub record IsFaultless (hash : List ℕ → List ℕ) (policy : Policy) (runs : Runs) (blocks : List BlockRecord) (before : StateMap) (there : Ids)
+    (parts : Parts) (left : StateMap) : Type 0 where
   pub placed : first_in (place_tests blocks parts.id parts.header) ≡ None
   pub whole : dropped_by 0 (causes there parts.batches) ≡ []
+  pub allowed : first_fault policy.fault policy.end_fault before parts.header.signer_public_key parts.batches ≡ None
   pub valid : first_failure 0 (runs before (txs_of parts.batches)) ≡ None
   pub left_is : left_after before (runs before (txs_of parts.batches)) ≡ left
   pub states : parts.header.state_root_hash ≡ encode_lower (root_of_map hash left)
 
-module _ (hash : List ℕ → List ℕ) (runs : Runs) (map_behind : Option BlockRecord → StateMap) (blocks : List BlockRecord) (parts : Parts)
-    (left : StateMap) where
+module _ (hash : List ℕ → List ℕ) (policy : Policy) (runs : Runs) (map_behind : Option BlockRecord → StateMap) (blocks : List BlockRecord)
+    (parts : Parts) (left : StateMap) where
   -- the same of these parts, which leave this map
   abbrev IsSound : StateMap → Ids → Type 0
-  IsSound before there = IsFaultless hash runs blocks before there parts left
+  IsSound before there = IsFaultless hash policy runs blocks before there parts left
 
   judged_sound : IsSound (map_behind (parent_of blocks parts.header)) (ids_before blocks parts.header)
-      → judged_parts hash no_policy runs map_behind blocks parts
+      → judged_parts hash policy runs map_behind blocks parts
       ≡ (let before = map_behind (parent_of blocks parts.header) in Ok (kept_of hash parts before (runs before (txs_of parts.batches))))
   judged_sound is =
       let before = map_behind (parent_of blocks parts.header) in
@@ -68,13 +72,13 @@ module _ (hash : List ℕ → List ℕ) (runs : Runs) (map_behind : Option Block
       let valid = none_failed results is.valid in
       let rooted = states_root parts.header (root_of_map hash (left_after before results))
       (is.states ∙ ap (λ m. encode_lower (root_of_map hash m)) (sym is.left_is)) in
-      let allowed = no_policy_passes before parts.header.signer_public_key parts.batches in
-      ap (λ found. unless found (kept_of hash parts before results)) (fault_in hash no_policy blocks before results parts)
+      let allowed = none_refused policy before parts.header.signer_public_key parts.batches is.allowed in
+      ap (λ found. unless found (kept_of hash parts before results)) (fault_in hash policy blocks before results parts)
       ∙ rw (placed, whole, allowed, valid, rooted) refl
 
   -- over the map behind it and with the ids before it, the block is kept
   pub judged_over : (before : StateMap) (there : Ids) → map_behind (parent_of blocks parts.header) ≡ before → ids_before blocks parts.header ≡ there
-      → IsSound before there → judged_parts hash no_policy runs map_behind blocks parts ≡ Ok (kept_of hash parts before (runs before (txs_of parts.batches)))
+      → IsSound before there → judged_parts hash policy runs map_behind blocks parts ≡ Ok (kept_of hash parts before (runs before (txs_of parts.batches)))
   judged_over before there same ids sound =
       judged_sound (subst (λ (m : StateMap). IsSound m (ids_before blocks parts.header)) (sym same) (subst (IsSound before) (sym ids) sound))
       ∙ ap (λ (m : StateMap). Ok (kept_of hash parts m (runs m (txs_of parts.batches)))) same
@@ -87,7 +91,7 @@ module _ (hash : List ℕ → List ℕ) (runs : Runs) (map_behind : Option Block
     pub left_is : kept.left ≡ left
 
   pub kept_sound : (before : StateMap) (there : Ids) → map_behind (parent_of blocks parts.header) ≡ before → ids_before blocks parts.header ≡ there
-      → IsSound before there → IsKeptOf (judged_parts hash no_policy runs map_behind blocks parts)
+      → IsSound before there → IsKeptOf (judged_parts hash policy runs map_behind blocks parts)
   kept_sound before there same ids sound = record {
     kept = kept_of hash parts before (runs before (txs_of parts.batches));
     fine = judged_over before there same ids sound;
@@ -96,12 +100,12 @@ module _ (hash : List ℕ → List ℕ) (runs : Runs) (map_behind : Option Block
   }
 
 -- what comes of bytes without a structure fault is what comes of the block that is read from them
-pub judged_read : (hash : List ℕ → List ℕ) (accepts : List ℕ → List ℕ → List ℕ → Bool) (runs : Runs) (map_behind : Option BlockRecord → StateMap)
+pub judged_read : (hash : List ℕ → List ℕ) (accepts : List ℕ → List ℕ → List ℕ → Bool) (policy : Policy) (runs : Runs) (map_behind : Option BlockRecord → StateMap)
     (blocks : List BlockRecord) (content : List ℕ) (b : Block) (header : BlockHeader) → structure_fault accepts content ≡ None → block content ≡ Ok b
     → block_header b.header ≡ Ok header
-    → judged (rules_with hash accepts runs) map_behind blocks content ≡ judged_parts hash no_policy runs map_behind blocks (parts_of b header)
+    → judged (rules_by hash accepts policy runs) map_behind blocks content ≡ judged_parts hash policy runs map_behind blocks (parts_of b header)
 unfolding judged
-judged_read hash accepts runs map_behind blocks content b header fine read header_read = rw (fine, read, header_read) refl
+judged_read hash accepts policy runs map_behind blocks content b header fine read header_read = rw (fine, read, header_read) refl
 
 -- ---- what is said of it
 

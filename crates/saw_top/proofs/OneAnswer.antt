@@ -5,26 +5,29 @@ use Rattle.std.proofs.Math.Path.{fun_ext}
 use Rattle.std.specs.List.{list_all}
 use Rattle.saw_address.specs.Maps.{StateMap}
 use Rattle.saw_context.specs.Outcome.{Processors}
-use Rattle.saw_journal.specs.Judgement.{Rules, rules_with}
+use Rattle.saw_journal.specs.Judgement.{Rules}
+use Rattle.saw_journal.proofs.Told.{judged_told, left_told}
 use Rattle.saw_node.specs.Hashes.{first_half}
-use Rattle.saw_publish.specs.Drafts.{Draft}
+use Rattle.saw_publish.proofs.Told.{draft_told}
 use Rattle.saw_receipts.specs.Branches.{ids_in}
 use Rattle.saw_receipts.specs.Heads.{head_branch, head_of}
 use Rattle.saw_report.specs.declared.run_fault.RunFault.{RunFault}
+use Rattle.saw_rules.specs.OnChainRules.{on_chain}
 use Rattle.saw_top.specs.Answers.{Prepared, answer_for}
 use Rattle.saw_top.specs.Headline.{WritesAnswer, WritesAnswerOf, TellsFirst}
 use Rattle.saw_top.specs.History.{History, history, map_behind, maps_of, records_of, some_refused, tried}
 use Rattle.saw_top.specs.Outside.{Outside, sides_of}
-use Rattle.saw_top.specs.Publishing.{Waiting, candidate_status, candidate_text, losses_text, map_left, parent_at}
+use Rattle.saw_top.specs.Publishing.{Publication, Waiting, candidate_status, candidate_text, losses_text, map_left, parent_at, publication_by}
 use Rattle.saw_top.specs.Run.{Answer, AtEnd, end_by, fault_in, noted_by, run_to, task_answer, written_by}
 use Rattle.saw_top.specs.Stream.{stream_of}
-use Rattle.saw_top.specs.Telling.{IsTold, tell_batches, tell_block, tell_stream}
-use Rattle.saw_top.specs.World.{Accepts, AreWays, Judging, Ways, judging_by, serially}
+use Rattle.saw_receipts.specs.Telling.{tell_batches, tell_block}
+use Rattle.saw_top.specs.Telling.{IsTold, tell_stream}
+use Rattle.saw_top.specs.World.{Accepts, AreWays, Judging, Ways, judging_by, rules_with, serially}
 use Rattle.saw_top.specs.declared.task.Ending.{Ending}
 use Rattle.saw_top.specs.declared.task.Ending.TheVariants.{Batch, Candidate, Head, Entries, Receipts}
 use Rattle.saw_top.specs.declared.task.Task.{Task}
 use Rattle.saw_top.proofs.Histories.{history_same, tried_same}
-use Rattle.saw_top.proofs.Told.{all_at, all_first, draft_told, judged_told, left_told}
+use Rattle.saw_top.proofs.Elements.{all_at, all_first}
 
 -- an answer by what its blocks come to, its end, the maps that they would leave, and what the first of them come to
 abbrev answer_from : Task → Option RunFault → History → AtEnd → List (Option StateMap) → (ℕ → History) → Answer
@@ -58,16 +61,16 @@ module _ (processors : Processors) (ways : Ways) (may : AreWays processors ways)
       → history judging 0 frames [] ≡ history one_by_one 0 frames []
   history_told frames told =
       history_same accepts ways.blocks (serially processors).blocks frames 0
-      (λ n content is below kepts. judged_told processors (ways.blocks (0 + n)) (may.blocks (0 + n)) accepts (map_behind kepts) (records_of kepts) content
+      (λ n content is below kepts. judged_told processors (ways.blocks (0 + n)) (may.blocks (0 + n)) first_half accepts on_chain (map_behind kepts) (records_of kepts) content
       (all_at (tell_block processors) frames n content told is)) []
 
   tried_told : (frames : List (List ℕ)) → list_all (tell_block processors) frames ≡ true
       → tried judging 0 frames [] ≡ tried one_by_one 0 frames []
   tried_told frames told =
       tried_same accepts ways.blocks (serially processors).blocks frames 0
-      (λ n content is below kepts. judged_told processors (ways.blocks (0 + n)) (may.blocks (0 + n)) accepts (map_behind kepts) (records_of kepts) content
+      (λ n content is below kepts. judged_told processors (ways.blocks (0 + n)) (may.blocks (0 + n)) first_half accepts on_chain (map_behind kepts) (records_of kepts) content
       (all_at (tell_block processors) frames n content told is))
-      (λ n content is kepts. left_told processors (ways.blocks (0 + n)) (may.blocks (0 + n)) accepts (map_behind kepts) (records_of kepts) content
+      (λ n content is kepts. left_told processors (ways.blocks (0 + n)) (may.blocks (0 + n)) first_half accepts on_chain (map_behind kepts) (records_of kepts) content
       (all_at (tell_block processors) frames n content told is)) []
 
   module _ (waiting : Waiting) (told : tell_batches processors waiting.batches ≡ true) where
@@ -79,13 +82,14 @@ module _ (processors : Processors) (ways : Ways) (may : AreWays processors ways)
     end_told (Batch id) run None = refl
     end_told Candidate run None =
         let blocks = records_of run.accepted in
-        ap (λ (draft : Draft). record {
-          output = candidate_text first_half waiting.signing (parent_at blocks) draft;
-          noted = losses_text draft;
-          status = candidate_status (some_refused run.said) draft;
-          made = map_left draft;
-        }) (draft_told processors ways.candidate may.candidate accepts (map_behind run.accepted (head_of blocks)) (ids_in (head_branch blocks))
-        waiting.batches told)
+        let before = map_behind run.accepted (head_of blocks) in
+        ap (λ (made : Publication). record {
+          output = candidate_text first_half waiting.signing (parent_at blocks) made;
+          noted = losses_text made;
+          status = candidate_status (some_refused run.said) made;
+          made = map_left made;
+        }) (ap (publication_by last waiting.signing.key before)
+        (draft_told processors ways.candidate may.candidate accepts on_chain waiting.signing.key before (ids_in (head_branch blocks)) waiting.batches told))
 
     answer_told : (task : Task) (bytes : List ℕ) → tell_stream processors bytes ≡ true
         → task_answer judging last waiting task bytes ≡ task_answer one_by_one last_serial waiting task bytes

@@ -1,12 +1,13 @@
 -- Lines that are written one after another.
-use Rattle.std.proofs.Common.{◌≡◌, ◌≤◌, ◌<◌, ℕ, ◌+◌, List, [], ◌∷◌, ◌++◌, length, take, drop, get_or, Option, sym, ap, subst, ◌∙◌}
+use Rattle.std.proofs.Common.{◌≡◌, ◌≤◌, ◌<◌, ℕ, ◌+◌, List, [], ◌∷◌, ◌++◌, length, take, drop, get_or, Option, inl, inr, sym, ap, subst, ◌∙◌}
 use Rattle.std.proofs.Common.{append_assoc, arith}
 use Rattle.std.specs.Io.KnownBytes.{Appends}
 use Rattle.std.specs.List.{flat_map}
 use Rattle.std.proofs.KnownBytes.{Appends-nil, Appends-trans}
 use Rattle.std.proofs.Math.Seq.{take-append-add}
+use Rattle.std.proofs.lemmas.Bool.{cases_lt}
 use Rattle.std.proofs.lemmas.Grind.{flat_map-append}
-use Rattle.std.proofs.lemmas.List.{append-nil, take-append-drop, take-append-le, take_more}
+use Rattle.std.proofs.lemmas.List.{append-nil, take-append-drop, take-append-le, take_all, take_more}
 use Rattle.std.proofs.lemmas.List.Concat.{flat_map-cons}
 
 module _ {X : Type 0} (line : X → List ℕ) (all : List X) (i : ℕ) (x : X) (more : i < length all) (is : x ≡ get_or all i x) where
@@ -47,3 +48,23 @@ module _ {X : Type 0} (line : X → List ℕ) (all : List X) (i : ℕ) (x : X) (
 pub lines_before : {X : Type 0} (line : X → List ℕ) (all : List X) (i : ℕ) (x : X) → i < length all → x ≡ get_or all i x → (old new : Option (List ℕ))
     → Appends old new (flat_map line (take i all)) → (k : ℕ) × Appends old new (take k (flat_map line all))
 lines_before line all i x more is old new first = lines_cut line all i x more is old new new 0 (omega arith) first (Appends-nil new)
+
+-- ---- two texts, one behind the other
+
+-- a part of the first
+pub first_cut : (first second : List ℕ) (old new : Option (List ℕ)) → (n : ℕ) × Appends old new (take n first)
+    → (k : ℕ) × Appends old new (take k (first ++ second))
+first_cut first second old new cut =
+    elim (cases_lt cut.0 (length first)) [
+      | inl short ↦ (cut.0, subst (Appends old new) (sym (take-append-le cut.0 first second (omega (arith, short)))) cut.1)
+      | inr long ↦
+          let whole : take (length first) (first ++ second) ≡ take cut.0 first =
+          take-append-le (length first) first second (omega arith) ∙ take_all (length first) first (omega arith) ∙ sym (take_all cut.0 first (omega (arith, long))) in
+          (length first, subst (Appends old new) (sym whole) cut.1)
+    ]
+
+-- all of the first, and a part of the second
+pub second_cut : (first second : List ℕ) (old mid new : Option (List ℕ)) → Appends old mid first → (n : ℕ) × Appends mid new (take n second)
+    → (k : ℕ) × Appends old new (take k (first ++ second))
+second_cut first second old mid new before cut =
+    (length first + cut.0, subst (Appends old new) (sym (take-append-add first second cut.0)) (Appends-trans old mid new first (take cut.0 second) before cut.1))

@@ -13,7 +13,7 @@ use Rattle.saw_io.specs.Frame.{FrameGives, IsPart, Takes, frame_at}
 use Rattle.saw_io.specs.declared.fault.FrameFault.{FrameFault}
 use Rattle.saw_io.specs.declared.fault.FrameFault.TheVariants as frames
 use Rattle.saw_journal.specs.Clashing.{Clashes}
-use Rattle.saw_journal.specs.Judgement.{Kept, Rules, rules_with, would_leave}
+use Rattle.saw_journal.specs.Judgement.{Kept, Rules, would_leave}
 use Rattle.saw_journal.specs.Ledger.{IsFull, Ledger, Says, map_under}
 use Rattle.saw_merkle.specs.Clashes.{IsClashFor, IsNodeOfBoth}
 use Rattle.saw_merkle.specs.States.{Stays}
@@ -39,7 +39,7 @@ use Rattle.saw_top.specs.Stream.{Reads, Stream, before, no_frames, stream_from, 
 use Rattle.saw_report.specs.declared.run_fault.RunFault.{RunFault}
 use Rattle.saw_report.specs.declared.run_fault.RunFault.TheVariants.{Truncated, TooLong, Frames, Blocks, Read, Write, Peer, Collision, Memory}
 use Rattle.saw_top.specs.declared.task.Lines.{Lines}
-use Rattle.saw_top.specs.World.{Accepts, Judging, rules_at}
+use Rattle.saw_top.specs.World.{Accepts, Judging, rules_at, rules_with}
 use Rattle.saw_top.proofs.Histories.{after, before_put, behind_first, by_ways, length-said, put, put_may, put_there, report-behind, tried_first}
 use Rattle.saw_top.proofs.Judgements.{left_same}
 use Rattle.saw_top.proofs.Steps.{Steps, no_room, steps}

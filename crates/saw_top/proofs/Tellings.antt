@@ -1,6 +1,6 @@
 -- What was told at the end, as what the end says.
 use Rattle.std.proofs.Common.{◌≡◌, ◌⊎◌, ◌≤◌, inl, inr, ℕ, Bool, true, false, List, [], length, take, drop, Option, Some, None, Result, Ok, Err, refl}
-use Rattle.std.proofs.Common.{sym, ap, subst, ◌∙◌, arith}
+use Rattle.std.proofs.Common.{sym, ap, ap₂, subst, ◌++◌, ◌∙◌, arith}
 use Rattle.std.specs.Prelude.{◌||◌, IfErr, IfOk, IsErrOf, OnErr, if◌then◌else◌, ◌==◌}
 use Rattle.std.specs.Io.KnownBytes.{Appends}
 use Rattle.std.specs.List.{flat_map}
@@ -9,27 +9,28 @@ use Rattle.std.proofs.lemmas.List.{append-nil, take-append-drop}
 use Rattle.saw_context.specs.Outcome.{Processors}
 use Rattle.saw_faults.specs.Counts.{Rose}
 use Rattle.saw_io.specs.Frame.{frame}
-use Rattle.saw_journal.specs.Judgement.{Rules, rules_with}
+use Rattle.saw_journal.specs.Judgement.{Rules}
 use Rattle.saw_journal.specs.Ledger.{Ledger, map_under}
 use Rattle.saw_messages.specs.declared.batch.Batch.{Batch as BatchMessage}
 use Rattle.saw_node.specs.Hashes.{first_half}
 use Rattle.saw_publish.specs.Candidates.{Signing, content_of}
-use Rattle.saw_publish.specs.Drafts.{Draft}
 use Rattle.saw_queries.specs.Queries.{block_with, branch_receipts}
 use Rattle.saw_receipts.specs.Heads.{head_branch, head_of}
 use Rattle.saw_receipts.specs.Running.{Runs, RunsBy}
 use Rattle.saw_receipts.specs.declared.block.BlockRecord.{BlockRecord}
+use Rattle.saw_receipts.specs.declared.loss.Loss.{Loss}
 use Rattle.saw_report.specs.Lines.{loss_line}
 use Rattle.saw_report.specs.declared.run_fault.RunFault.TheVariants as runs
 use Rattle.saw_report.specs.declared.run_fault.RunFault.{RunFault}
-use Rattle.saw_top.specs.Ends.{Finishes, IsOfEnd, Tells, WritesBy, WritesEnd, draft_in, end_at, plain_end}
+use Rattle.saw_rules.specs.declared.policy.Placed.{Placed}
+use Rattle.saw_top.specs.Ends.{Finishes, IsOfEnd, Tells, WritesBy, WritesEnd, end_at, plain_end, publication_in}
 use Rattle.saw_top.specs.Headline.{IsDone}
 use Rattle.saw_top.specs.Listing.{entries_under, found_status}
 use Rattle.saw_top.specs.Making.{Makes, block_in, code_with, text_with}
 use Rattle.saw_top.specs.Outside.{End, SomeRose, WritesFront}
-use Rattle.saw_top.specs.Publishing.{Waiting, is_nothing, parent_at}
+use Rattle.saw_top.specs.Publishing.{Publication, Waiting, has_no_block, parent_at, refusal_text}
 use Rattle.saw_top.specs.Run.{AtEnd, status_by}
-use Rattle.saw_top.specs.World.{Accepts, serially}
+use Rattle.saw_top.specs.World.{Accepts, rules_with, serially}
 use Rattle.saw_top.specs.declared.publishing.Made.{Made}
 use Rattle.saw_top.specs.declared.task.Ending.{Ending}
 use Rattle.saw_top.specs.declared.task.Ending.TheVariants.{Batch, Candidate, Head, Entries, Receipts}
@@ -233,8 +234,8 @@ module _ (processors : Processors) (accepts : Accepts) (signing : Signing) (batc
   waiting = record { signing = signing; batches = batches }
 
   -- what was made was told, or a front of it
-  pub finishes_made : (made : Made) → Makes processors accepts signing ledger batches (Ok made) → (result : Result ℕ RunFault)
-      → Tells (text_with (block_in made)) (flat_map loss_line made.dropped) (code_with refused (block_in made)) old new told told_new result
+  pub finishes_made : (made : Made) → Makes processors accepts (record { signing = signing; batches = batches }) ledger (Ok made) → (result : Result ℕ RunFault)
+      → Tells (text_with (block_in made)) (flat_map loss_line made.dropped ++ refusal_text made.refusal) (code_with refused (block_in made)) old new told told_new result
       → Finishes processors accepts waiting Candidate ledger refused old new told told_new counts news result
   finishes_made made makes result tells = record {
     way = makes.0;
@@ -253,8 +254,8 @@ module _ (processors : Processors) (accepts : Accepts) (signing : Signing) (batc
       rules : Rules
       rules = rules_with first_half accepts makes.0
 
-      draft : Draft
-      draft = draft_in (rules_with first_half accepts makes.0) ledger batches
+      here : Publication
+      here = publication_in (rules_with first_half accepts makes.0) waiting ledger
 
       end : AtEnd
       end = end_at (rules_with first_half accepts makes.0) waiting Candidate ledger refused
@@ -262,18 +263,19 @@ module _ (processors : Processors) (accepts : Accepts) (signing : Signing) (batc
       as_end : Tells end.output end.noted end.status old new told told_new result
       as_end =
           let at = makes.2 in
-          let content = content_of first_half signing (parent_at ledger.blocks) draft in
-          let text : text_with (block_in made) ≡ end.output = ap text_with at.0 ∙ text_same (is_nothing draft) content in
-          let lines : flat_map loss_line made.dropped ≡ end.noted = ap (flat_map loss_line) at.1 in
-          let code : code_with refused (block_in made) ≡ end.status = ap (code_with refused) at.0 ∙ code_same refused (is_nothing draft) content in
+          let content = content_of first_half signing (parent_at ledger.blocks) here.draft in
+          let text : text_with (block_in made) ≡ end.output = ap text_with at.0 ∙ text_same (has_no_block here) content in
+          let lines : flat_map loss_line made.dropped ++ refusal_text made.refusal ≡ end.noted =
+          ap₂ (λ (losses : List Loss) (refusal : Option Placed). flat_map loss_line losses ++ refusal_text refusal) at.2 at.1 in
+          let code : code_with refused (block_in made) ≡ end.status = ap (code_with refused) at.0 ∙ code_same refused (has_no_block here) content in
           subst (λ (l : List ℕ). Tells l end.noted end.status old new told told_new result) text
           (subst (λ (l : List ℕ). Tells (text_with (block_in made)) l end.status old new told told_new result) lines
-          (subst (λ (n : ℕ). Tells (text_with (block_in made)) (flat_map loss_line made.dropped) n old new told told_new result) code tells))
+          (subst (λ (n : ℕ). Tells (text_with (block_in made)) (flat_map loss_line made.dropped ++ refusal_text made.refusal) n old new told told_new result) code tells))
 
 module _ (processors : Processors) (own : HasOwnReasons processors) (accepts : Accepts) (signing : Signing) (batches : List BatchMessage) (ledger : Ledger)
     (refused : Bool) (old told : End (List ℕ)) (counts news : List ℕ) where
   abbrev Unmade : RunFault → Type 0
-  Unmade e = Makes processors accepts signing ledger batches (Err e)
+  Unmade e = Makes processors accepts (record { signing = signing; batches = batches }) ledger (Err e)
 
   never_write : (e : RunFault) → Unmade e → as_status e ≡ Err runs.Write → ⊥
   never_write (runs.Collision kept given) makes is = cc is
@@ -295,12 +297,12 @@ module _ (processors : Processors) (own : HasOwnReasons processors) (accepts : A
 
   by_unmade : (e : RunFault) → Unmade e → Finished e
   by_unmade (runs.Collision kept given) makes =
-      let draft = draft_in (rules_with first_half accepts makes.0) ledger batches in (
+      let here = publication_in (rules_with first_half accepts makes.0) (record { signing = signing; batches = batches }) ledger in (
         makes.0,
         makes.1,
         record {
-          m = draft.left;
-          made = ap (λ (none : Bool). if none then None else Some draft.left) makes.2.0;
+          m = here.draft.left;
+          made = ap (λ (none : Bool). if none then None else Some here.draft.left) makes.2.0;
           clash = makes.2.1;
           still = refl;
           quiet = refl;

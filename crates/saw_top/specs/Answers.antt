@@ -4,7 +4,6 @@ use Rattle.saw_io.specs.Shelf.{Files}
 use Rattle.saw_messages.specs.Batches.{batch_list}
 use Rattle.saw_messages.specs.declared.batch.Batch.{Batch}
 use Rattle.saw_messages.specs.declared.batch.BatchList.{BatchList}
-use Rattle.saw_journal.specs.Judgement.{rules_with}
 use Rattle.saw_node.specs.Hashes.{first_half}
 use Rattle.saw_publish.specs.Candidates.{Signing}
 use Rattle.saw_report.specs.declared.run_fault.RunFault.{RunFault}
@@ -16,7 +15,7 @@ use Rattle.saw_top.specs.Command.{Asked, Generate, Judge, Wish, asked_of}
 use Rattle.saw_top.specs.Limits.{max_batches, max_list}
 use Rattle.saw_top.specs.Publishing.{Waiting}
 use Rattle.saw_top.specs.Run.{Answer, faulty, task_answer, whole}
-use Rattle.saw_top.specs.World.{Accepts, Ways, World, judging_by}
+use Rattle.saw_top.specs.World.{Accepts, Ways, World, judging_by, rules_with}
 use Rattle.saw_top.specs.declared.task.Ending.TheVariants.{Head}
 use Rattle.saw_top.specs.declared.task.Lines.TheVariants.{All}
 use Rattle.saw_top.specs.declared.task.Task.{Task}

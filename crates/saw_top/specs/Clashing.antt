@@ -4,7 +4,6 @@ use Rattle.std.specs.FinMap as finite
 use Rattle.saw_address.specs.Maps.{StateMap, no_entries}
 use Rattle.saw_context.specs.Outcome.{Processors}
 use Rattle.saw_journal.specs.Clashing.{Clashes}
-use Rattle.saw_journal.specs.Judgement.{rules_with}
 use Rattle.saw_journal.specs.Ledger.{Ledger}
 use Rattle.saw_node.specs.Hashes.{first_half}
 use Rattle.saw_node.specs.Nodes.{encoding_of, shape_of}
@@ -14,7 +13,7 @@ use Rattle.saw_receipts.specs.Running.{Runs, RunsBy}
 use Rattle.saw_report.specs.declared.run_fault.RunFault.{RunFault}
 use Rattle.saw_report.specs.declared.run_fault.RunFault.TheVariants.{Blocks, Collision, Memory, Peer}
 use Rattle.saw_top.specs.History.{IsAmong}
-use Rattle.saw_top.specs.World.{Accepts}
+use Rattle.saw_top.specs.World.{Accepts, rules_with}
 
 -- two different nodes of one hash
 abbrev pub AreAlike : Node → Node → Type 0

@@ -4,14 +4,12 @@ use Rattle.std.specs.Io.KnownBytes.{Appends}
 use Rattle.saw_address.specs.Maps.{StateMap}
 use Rattle.saw_context.specs.Outcome.{Processors}
 use Rattle.saw_faults.specs.Counts.{Rose}
-use Rattle.saw_journal.specs.Judgement.{Rules, rules_with}
+use Rattle.saw_journal.specs.Judgement.{Rules}
 use Rattle.saw_journal.specs.Ledger.{Ledger, map_under}
 use Rattle.saw_merkle.specs.Clashes.{IsClashFor}
-use Rattle.saw_messages.specs.declared.batch.Batch.{Batch as BatchMessage}
 use Rattle.saw_node.specs.Hashes.{first_half}
 use Rattle.saw_node.specs.Contents.{Node}
 use Rattle.saw_publish.specs.Building.{map_before}
-use Rattle.saw_publish.specs.Drafts.{Draft, draft_of}
 use Rattle.saw_receipts.specs.Branches.{ids_in}
 use Rattle.saw_receipts.specs.Heads.{head_branch, head_of}
 use Rattle.saw_receipts.specs.Running.{Runs, RunsBy}
@@ -23,31 +21,31 @@ use Rattle.saw_top.specs.Clashing.{AreAlike}
 use Rattle.saw_top.specs.Headline.{IsDone}
 use Rattle.saw_top.specs.Listing.{batch_status, batch_text, listing, listing_status, receipts_status, receipts_text}
 use Rattle.saw_top.specs.Outside.{End, SomeRose, WritesFront}
-use Rattle.saw_top.specs.Publishing.{Waiting, candidate_status, candidate_text, losses_text, map_left, parent_at}
+use Rattle.saw_top.specs.Publishing.{Publication, Waiting, candidate_status, candidate_text, losses_text, map_left, parent_at, publication_of}
 use Rattle.saw_top.specs.Run.{AtEnd, status_by}
-use Rattle.saw_top.specs.World.{Accepts}
+use Rattle.saw_top.specs.World.{Accepts, rules_with}
 use Rattle.saw_top.specs.declared.task.Ending.{Ending}
 use Rattle.saw_top.specs.declared.task.Ending.TheVariants.{Batch, Candidate, Head, Entries, Receipts}
 
 abbrev pub state_of_head : Ledger → StateMap
 state_of_head ledger = map_under ledger.states (head_of ledger.blocks)
 
--- the draft of batches behind the head
-abbrev pub draft_in : Rules → Ledger → List BatchMessage → Draft
-draft_in rules ledger batches =
-    draft_of rules.accepts rules.runs (map_before ledger.states (parent_at ledger.blocks)) (ids_in (head_branch ledger.blocks)) batches
+-- what comes of the batches that wait behind the head
+abbrev pub publication_in : Rules → Waiting → Ledger → Publication
+publication_in rules waiting ledger =
+    publication_of rules waiting.signing.key (map_before ledger.states (parent_at ledger.blocks)) (ids_in (head_branch ledger.blocks)) waiting.batches
 
 -- an end that tells nothing on the notes
 abbrev pub plain_end : List ℕ → ℕ → AtEnd
 plain_end output status = record { output = output; noted = []; status = status; made = None }
 
 -- that of a candidate
-abbrev pub end_of_draft : Rules → Waiting → Ledger → Bool → Draft → AtEnd
-end_of_draft rules waiting ledger refused draft = record {
-  output = candidate_text rules.hash waiting.signing (parent_at ledger.blocks) draft;
-  noted = losses_text draft;
-  status = candidate_status refused draft;
-  made = map_left draft;
+abbrev pub end_of_candidate : Rules → Waiting → Ledger → Bool → Publication → AtEnd
+end_of_candidate rules waiting ledger refused made = record {
+  output = candidate_text rules.hash waiting.signing (parent_at ledger.blocks) made;
+  noted = losses_text made;
+  status = candidate_status refused made;
+  made = map_left made;
 }
 
 -- what is written and told at the end, and the status
@@ -57,7 +55,7 @@ end_at rules waiting (Entries prefix) ledger refused =
     plain_end (listing prefix (state_of_head ledger)) (listing_status prefix (state_of_head ledger))
 end_at rules waiting Receipts ledger refused = plain_end (receipts_text ledger.blocks) (receipts_status ledger.blocks)
 end_at rules waiting (Batch id) ledger refused = plain_end (batch_text id ledger.blocks) (batch_status id ledger.blocks)
-end_at rules waiting Candidate ledger refused = end_of_draft rules waiting ledger refused (draft_in rules ledger waiting.batches)
+end_at rules waiting Candidate ledger refused = end_of_candidate rules waiting ledger refused (publication_in rules waiting ledger)
 
 -- ---- what was written
 

@@ -9,7 +9,7 @@ use Rattle.saw_report.specs.declared.run_fault.RunFault.{RunFault}
 use Rattle.saw_report.specs.declared.run_fault.RunFault.TheVariants.{Blocks}
 use Rattle.saw_top.specs.History.{History, history, map_behind, maps_of, records_of, some_refused, tried}
 use Rattle.saw_top.specs.Listing.{batch_status, batch_text, listing, listing_status, receipts_status, receipts_text}
-use Rattle.saw_top.specs.Publishing.{Waiting, candidate_status, candidate_text, draft_at, losses_text, map_left, parent_at}
+use Rattle.saw_top.specs.Publishing.{Waiting, candidate_status, candidate_text, losses_text, map_left, parent_at, publication_at}
 use Rattle.saw_top.specs.Reports.{report}
 use Rattle.saw_top.specs.Stream.{stream_of}
 use Rattle.saw_top.specs.World.{Judging}
@@ -152,11 +152,11 @@ module _ (rules : Rules) (waiting : Waiting) where
     status = batch_status id (records_of run.accepted);
     made = None;
   }
-  ending_of Candidate run = let draft = draft_at rules run.accepted waiting.batches in record {
-    output = candidate_text rules.hash waiting.signing (parent_at (records_of run.accepted)) draft;
-    noted = losses_text draft;
-    status = candidate_status (some_refused run.said) draft;
-    made = map_left draft;
+  ending_of Candidate run = let made = publication_at rules waiting run.accepted in record {
+    output = candidate_text rules.hash waiting.signing (parent_at (records_of run.accepted)) made;
+    noted = losses_text made;
+    status = candidate_status (some_refused run.said) made;
+    made = map_left made;
   }
 
   -- unless there is a fault

@@ -3,10 +3,11 @@ use Rattle.std.specs.Prelude.{◌≡◌, ℕ, Bool, true, List}
 use Rattle.saw_context.specs.Outcome.{Processors}
 use Rattle.saw_context.specs.Serial.{serial}
 use Rattle.saw_io.specs.Shelf.{Files}
-use Rattle.saw_journal.specs.Judgement.{Rules, rules_with}
+use Rattle.saw_journal.specs.Judgement.{Rules, rules_by}
 use Rattle.saw_node.specs.Hashes.{first_half}
 use Rattle.saw_publish.specs.Candidates.{Signing}
 use Rattle.saw_receipts.specs.Running.{Runs, RunsBy}
+use Rattle.saw_rules.specs.OnChainRules.{on_chain}
 
 -- who vouches for signatures
 abbrev pub Accepts : Type 0
@@ -49,6 +50,10 @@ pub record Judging : Type 0 where
 
 abbrev pub judging_by : Accepts → Ways → Judging
 judging_by accepts ways = record { accepts = accepts; ways = ways.blocks }
+
+-- rules with the policy of the settings on families and blocks
+abbrev pub rules_with : (List ℕ → List ℕ) → Accepts → Runs → Rules
+rules_with hash accepts runs = rules_by hash accepts on_chain runs
 
 -- the rules for the block at a place
 abbrev pub rules_at : Judging → ℕ → Rules

@@ -4,7 +4,6 @@ ghost use Rattle.std.specs.Prelude.{◌≡◌, ◌≤◌, ◌<◌, ◌^◌, ◌-
 ghost use Rattle.std.specs.Io.KnownBytes.{Appends};
 ghost use Rattle.saw_crew.specs.Desks.{Failed, HaveSameOffers, KeepsDesks, offers_at};
 ghost use Rattle.saw_faults.specs.Counts.{Rose};
-ghost use Rattle.saw_journal.specs.Judgement.{rules_with};
 ghost use Rattle.saw_journal.specs.Ledger.{IsFull, Says};
 ghost use Rattle.saw_merkle.specs.States.{Stays};
 ghost use Rattle.saw_node.specs.Hashes.{first_half};
@@ -13,6 +12,7 @@ ghost use Rattle.saw_receipts.specs.Verdicts.{is_accepted};
 ghost use Rattle.saw_station.specs.Serving.{processors_at};
 ghost use Rattle.saw_top.specs.Clashing.{ClashesBy, LeavesUnjudged};
 ghost use Rattle.saw_top.specs.Reports.{line_of, said_of};
+ghost use Rattle.saw_top.specs.World.{rules_with};
 
 use crate::task::Lines;
 use saw_io::{Sink, write_all};
@@ -20,14 +20,15 @@ use saw_journal::{Journal, JournalFault};
 use saw_node::Sha512Half;
 use saw_receipts::{BlockRecord, Verdict};
 use saw_report::{RunFault, verdict_line};
-use saw_rules::NoPolicy;
+use saw_rules::OnChainRules;
 use saw_station::{Desk, Station};
 use saw_verify::Verifier;
 use std::alloc::Global;
 use std::sync::Wait;
 use std::thread::Threads;
 
-/// Judges the bytes of a block. After a fault the journal is as before. The desks keep their offers and their remotes.
+/// Judges the bytes of a block by the rules of its parent's state, too. After a fault the journal is as before. The desks keep
+/// their offers and their remotes.
 pub(crate) fn judge<T: Threads + Wait + Sync, R: Station, V: Verifier>(
     rt: &T,
     journal: &mut Journal<Sha512Half>,
@@ -54,7 +55,7 @@ pub(crate) fn judge<T: Threads + Wait + Sync, R: Station, V: Verifier>(
     ensures desks { KeepsDesks R.faults R.offered desks.old desks.new }
     ensures cause { IsErrOf result RunFault.Peer → Failed R.faults desks.old desks.new }
 {
-    match journal.accept::<NoPolicy, T, V, R>(rt, content, verifier, desks) {
+    match journal.accept::<OnChainRules, T, V, R>(rt, content, verifier, desks) {
         Ok(verdict) => Ok(verdict),
         Err(JournalFault::Full) => Err(RunFault::Blocks),
         Err(JournalFault::Collision { kept, given }) => Err(RunFault::Collision { kept, given }),

@@ -1,29 +1,31 @@
-//! What is published behind the head: a candidate of waiting batches, and those that it leaves out on the notes.
+//! What is published behind the head: a candidate of waiting batches. On the notes are those that it leaves out, and why the
+//! policy refuses it.
 
-ghost use Rattle.std.specs.Prelude.{◌≡◌, ◌≤◌, ◌<◌, ◌^◌, ◌⊎◌, ℕ, length, take, IfErr, OnErr, OnOk, IsErrOf};
+ghost use Rattle.std.specs.Prelude.{◌≡◌, ◌≤◌, ◌<◌, ◌^◌, ◌++◌, ◌⊎◌, ℕ, length, take, IfErr, OnErr, OnOk, IsErrOf};
 ghost use Rattle.std.specs.Io.KnownBytes.{Appends};
 ghost use Rattle.std.specs.List.{flat_map};
 ghost use Rattle.saw_crew.specs.Desks.{Failed, HaveSameOffers, KeepsDesks, offers_at};
 ghost use Rattle.saw_faults.specs.Counts.{Rose};
 ghost use Rattle.saw_io.specs.Frame.{frame};
 ghost use Rattle.saw_publish.specs.Candidates.{Signing};
-ghost use Rattle.saw_report.specs.Lines.{loss_line};
+ghost use Rattle.saw_report.specs.Lines.{candidate_line, loss_line};
 ghost use Rattle.saw_station.specs.Serving.{processors_at};
 ghost use Rattle.saw_top.specs.Ends.{Finishes, Tells};
 ghost use Rattle.saw_top.specs.Making.{Makes, block_in, code_with, text_with};
 ghost use Rattle.saw_top.specs.Outside.{counts_of, sink_end};
-ghost use Rattle.saw_top.specs.Publishing.{Waiting};
+ghost use Rattle.saw_top.specs.Publishing.{Waiting, refusal_text};
 ghost use Rattle.saw_top.specs.declared.task.Ending.TheVariants.{Candidate};
 
 use crate::Status;
 use crate::line::write_lines;
-use saw_io::{Sink, write_frame};
+use saw_io::{Sink, write_all, write_frame};
 use saw_journal::Journal;
 use saw_messages::Batch;
 use saw_node::Sha512Half;
 use saw_publish::{PublishFault, build};
 use saw_receipts::Loss;
-use saw_report::RunFault;
+use saw_report::{RunFault, candidate_line};
+use saw_rules::{OnChainRules, Placed};
 use saw_station::{Desk, Station};
 use saw_verify::{Signer, Verifier};
 use saw_wire::Items;
@@ -31,10 +33,12 @@ use std::alloc::Global;
 use std::sync::Wait;
 use std::thread::Threads;
 
-/// A candidate's block, if a batch is applied, and the batches that are left out.
+/// A candidate's block, if a batch is applied and the policy does not refuse it; why it refuses; and the batches that are left
+/// out.
 #[derive(Drop)]
 struct Made {
     block: Option<Vec<u8>>,
+    refusal: Option<Placed>,
     dropped: Items<Loss>,
 }
 
@@ -45,7 +49,7 @@ fn few(journal: &Journal<Sha512Half>)
     let _ = journal.blocks().len();
 }
 
-// Builds a candidate behind the head.
+// Builds a candidate behind the head, by the rules of the head's state, too.
 fn make<T: Threads + Wait + Sync, V: Verifier, G: Signer, R: Station>(
     rt: &T,
     alloc: Global,
@@ -58,15 +62,15 @@ fn make<T: Threads + Wait + Sync, V: Verifier, G: Signer, R: Station>(
     requires some { 0 < length desks.old }
     requires alike { HaveSameOffers desks.old }
     ensures makes { let signing : Signing = record { key = G.key_text signer.now; signature = G.signature signer.now } in
-        Makes (processors_at R.next R.tells (offers_at desks.old)) (V.accepts verifier.now) signing journal.now
-        batches.now result }
+        let waiting : Waiting = record { signing = signing; batches = batches.now } in
+        Makes (processors_at R.next R.tells (offers_at desks.old)) (V.accepts verifier.now) waiting journal.now result }
     ensures desks { KeepsDesks R.faults R.offered desks.old desks.new }
     ensures cause { IsErrOf result RunFault.Peer → Failed R.faults desks.old desks.new }
 {
     few(journal);
     let parent = journal.parent()?;
     let known = journal.known()?;
-    match build(
+    match build::<OnChainRules, Sha512Half, T, V, G, R>(
         rt,
         alloc,
         parent.as_ref(),
@@ -79,15 +83,54 @@ fn make<T: Threads + Wait + Sync, V: Verifier, G: Signer, R: Station>(
     ) {
         Ok(made) => Ok(Made {
             block: Some(made.block),
+            refusal: None,
             dropped: made.dropped,
         }),
         Err(PublishFault::NothingValid { dropped }) => Ok(Made {
             block: None,
+            refusal: None,
+            dropped,
+        }),
+        Err(PublishFault::Policy { k, fault, dropped }) => Ok(Made {
+            block: None,
+            refusal: Some(Placed { k, fault }),
             dropped,
         }),
         Err(PublishFault::PeerFailed) => Err(RunFault::Peer),
         Err(PublishFault::Collision { kept, given }) => Err(RunFault::Collision { kept, given }),
         Err(PublishFault::OutOfMemory) => Err(RunFault::Memory),
+    }
+}
+
+// After a fault a part of the line was told.
+fn tell_refusal<N: Sink>(alloc: Global, notes: &mut N, refusal: &Placed) -> Result<(), RunFault>
+    ensures ok { OnOk result (Appends (N.written notes.old) (N.written notes.new)
+        (candidate_line refusal.now.k refusal.now.fault)) }
+    ensures err { OnErr result ((n : ℕ) × Appends (N.written notes.old) (N.written notes.new)
+        (take n (candidate_line refusal.now.k refusal.now.fault))) }
+    ensures fault { IfErr result (λ e. (e ≡ RunFault.Write) ⊎ (e ≡ RunFault.Memory)) }
+    ensures later { N.faults notes.old ≤ N.faults notes.new }
+    ensures cause { IsErrOf result RunFault.Write → Rose (N.faults notes.old) (N.faults notes.new) }
+{
+    let line = candidate_line(alloc, refusal.k, &refusal.fault)?;
+    write_all(notes, &line)?;
+    Ok(())
+}
+
+// Tells what is left out, and behind it why the block is refused, if it is. After a fault a part of that was told.
+fn tell_losses<N: Sink>(alloc: Global, notes: &mut N, made: &Made) -> Result<(), RunFault>
+    ensures ok { OnOk result (Appends (N.written notes.old) (N.written notes.new)
+        (flat_map loss_line made.now.dropped ++ refusal_text made.now.refusal)) }
+    ensures err { OnErr result ((n : ℕ) × Appends (N.written notes.old) (N.written notes.new)
+        (take n (flat_map loss_line made.now.dropped ++ refusal_text made.now.refusal))) }
+    ensures fault { IfErr result (λ e. (e ≡ RunFault.Write) ⊎ (e ≡ RunFault.Memory)) }
+    ensures later { N.faults notes.old ≤ N.faults notes.new }
+    ensures cause { IsErrOf result RunFault.Write → Rose (N.faults notes.old) (N.faults notes.new) }
+{
+    write_lines(alloc, notes, made.dropped.as_slice())?;
+    match &made.refusal {
+        Some(refusal) => tell_refusal(alloc, notes, refusal),
+        None => Ok(()),
     }
 }
 
@@ -104,7 +147,7 @@ fn write_block<O: Sink>(output: &mut O, block: &[u8]) -> Result<(), RunFault>
     Ok(())
 }
 
-// Tells what was made, and gives the status: the losses on the notes, and then the block on the output.
+// Tells what was made, and gives the status: losses and refusal on the notes, and then the block on the output.
 fn tell<O: Sink, N: Sink>(
     alloc: Global,
     output: &mut O,
@@ -112,11 +155,11 @@ fn tell<O: Sink, N: Sink>(
     refused: bool,
     made: &Made,
 ) -> Result<Status, RunFault>
-    ensures tells { Tells (text_with (block_in made.now)) (flat_map loss_line made.now.dropped)
+    ensures tells { Tells (text_with (block_in made.now)) (flat_map loss_line made.now.dropped ++ refusal_text made.now.refusal)
         (code_with refused (block_in made.now)) (sink_end O.Sink output.old) (sink_end O.Sink output.new)
         (sink_end N.Sink notes.old) (sink_end N.Sink notes.new) result }
 {
-    write_lines(alloc, notes, made.dropped.as_slice())?;
+    tell_losses(alloc, notes, made)?;
     let Some(block) = &made.block else {
         return Ok(Status::new(1));
     };
@@ -124,8 +167,8 @@ fn tell<O: Sink, N: Sink>(
     Ok(Status::new(if refused { 1 } else { 0 }))
 }
 
-/// Publishes a candidate of waiting batches behind the head, tells those that it leaves out, and gives the status. The
-/// desks keep their offers and their remotes.
+/// Publishes a candidate of waiting batches behind the head, tells those that it leaves out and why it is refused, if it is,
+/// and gives the status. The desks keep their offers and their remotes.
 pub(crate) fn publish<
     T: Threads + Wait + Sync,
     O: Sink,

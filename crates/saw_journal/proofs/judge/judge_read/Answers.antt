@@ -10,6 +10,7 @@ use Rattle.saw_merkle.specs.States.{map_at}
 use Rattle.saw_plan.specs.BatchShapes.{txs_of}
 use Rattle.saw_plan.specs.SortingSteps.{both}
 use Rattle.saw_receipts.specs.Branches.{branch_of, ids_in}
+use Rattle.saw_receipts.specs.Heads.{root_behind}
 use Rattle.saw_rules.specs.Policies.{policy_by}
 use Rattle.saw_schedule.specs.BatchResults.{AreResultsFor}
 use Rattle.saw_station.proofs.Finished.{processors_own}
@@ -59,7 +60,7 @@ run_all-requires-clause-known g c = λ κs alive.
     let placed = c.in_ok-parent.ensures in
     (at_root (values c.args.blocks.now) c.args.read.checked.id c.args.read.checked.header (sym placed.0)
     (option_copied c.in_ok-parent.parent) placed.1 g.H.NodeHasher.hash_of (map string_bytes (keys c.args.blocks.now)) c.args.state.now c.requires.founded
-    c.in_ok-before.before c.in_ok-before.ensures).1
+    c.in_ok-before.before (c.in_ok-before.ensures ∙ ap (root_behind g.H.NodeHasher.hash_of) c.root_of.ensures)).1
 
 pub run_all-requires-clause-ids : goal.run_all-requires-clause-ids
 run_all-requires-clause-ids g c = λ κs alive.
@@ -94,7 +95,7 @@ returns-in_err-ran-clause-judged g c = λ accepts content fine of.
     let ran = subst (λ (batches : List BatchShape). RanAs processors peer policy m checked.header.signer_public_key there batches (Err c.in_err-ran.field-0.0)) c.as_slice-batches.ensures
     (c.in_err-ran.ensures.ran there knows) in
     let root = at_root blocks checked.id checked.header (sym placed.0) (option_copied c.in_ok-parent.parent) placed.1 hash
-    (map string_bytes (keys c.args.blocks.now)) states c.requires.founded c.in_ok-before.before c.in_ok-before.ensures in
+    (map string_bytes (keys c.args.blocks.now)) states c.requires.founded c.in_ok-before.before (c.in_ok-before.ensures ∙ ap (root_behind g.H.NodeHasher.hash_of) c.root_of.ensures) in
     rw (p.1, p.2) (by_batches processors own hash accepts policy blocks states content checked fine of placed.0 c.in_ok-before.before root.0 peer
     c.in_err-ran.field-0.0 ran)
 
@@ -129,7 +130,7 @@ conclude-requires-clause-known g c = λ κs alive.
     let placed = c.in_ok-parent.ensures in
     (at_root (values c.args.blocks.now) c.args.read.checked.id c.args.read.checked.header (sym placed.0)
     (option_copied c.in_ok-parent.parent) placed.1 g.H.NodeHasher.hash_of (map string_bytes (keys c.args.blocks.now)) c.args.state.now c.requires.founded
-    c.in_ok-before.before c.in_ok-before.ensures).1
+    c.in_ok-before.before (c.in_ok-before.ensures ∙ ap (root_behind g.H.NodeHasher.hash_of) c.root_of.ensures)).1
 
 pub conclude-requires-clause-fit : goal.conclude-requires-clause-fit
 conclude-requires-clause-fit g c = λ κs alive.
@@ -154,7 +155,7 @@ returns-clause-judged g c = λ accepts content fine of.
     let there = ids_before blocks checked.header in
     let knows = known_before blocks checked.header c.in_ok-known.known c.requires.founded.linked c.in_ok-known.ensures in
     let root = at_root blocks checked.id checked.header (sym placed.0) parent placed.1 hash (map string_bytes (keys c.args.blocks.now)) states
-    c.requires.founded c.in_ok-before.before c.in_ok-before.ensures in
+    c.requires.founded c.in_ok-before.before (c.in_ok-before.ensures ∙ ap (root_behind g.H.NodeHasher.hash_of) c.root_of.ensures) in
     let laws = g.met.R.Station g.world.𝓛 g.world.𝓜 g.world.𝓡 ((λ s x. x), (λ x. x), (λ x. x), λ x. x) in
     let own = processors_own g.R.Station.next laws.own_reasons g.R.Station.tells (offers_at c.args.desks.now) in
     let policy = policy_by g.P.BlockPolicy.fault g.P.BlockPolicy.end_fault in

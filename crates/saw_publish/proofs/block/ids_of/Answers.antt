@@ -1,8 +1,0 @@
-use Rattle.std.proofs.lemmas.Slice.Zip.{either_empty_from_Zip}
-use Rattle.saw_publish.proofs.Written.{ids_ended}
-use Rattle.saw_publish.proofs.block.ids_of.Goals as goal
-
-pub returns : goal.returns
-returns c =
-    ids_ended c.loop-fate.ids _ _ _ (either_empty_from_Zip c.loop-fate.fate-iterator c.next.new.self c.next.result c.in-None.is c.next.ensures.steps)
-    c.loop-fate.invariant
