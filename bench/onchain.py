@@ -1,0 +1,89 @@
+"""Measures what on-chain rules cost: a block under ten rules and a list of families beside one without them.
+
+Run by hand, never by the gate, after `rt run` has built the program: python3 -B bench/onchain.py PROGRAM [TURNS]
+
+Both streams have a first block that sets the keys that may change settings, and two settings more: those of the rules, or
+two that bind nothing. Behind it stands a block of 16,600 IntegerKey transactions, ten in a batch, for which a candidate just
+has room. Runs of both take turns; printed are the least seconds of processor and on the wall, by one worker and by four, and
+the least of `publish`, which makes the second block.
+"""
+
+import os
+import subprocess
+import sys
+import tempfile
+import time
+
+sys.path.insert(0, os.path.join(os.path.dirname(__file__), "..", "tools"))
+
+import batches
+
+TRANSACTIONS, BATCH = 16_600, 10
+FAMILIES = '[{"family":"xo","version":"1.0"},{"family":"sawtooth_settings","version":"1.0"},{"family":"intkey","version":"1.0"}]'
+RULES = (
+    "NofX:20000,intkey; NofX:1,xo; NofX:100,sawtooth_settings; NofX:20000,other; XatY:intkey,0; XatY:intkey,-1;"
+    "XatY:intkey,9999; local:0; local:1,2,3; local:16599"
+)
+SETTINGS = {
+    "rules": ("sawtooth.validator.transaction_families", "sawtooth.validator.block_validation_rules"),
+    "none": ("sawtooth.validator.transaction_familiez", "sawtooth.validator.block_validation_rulez"),
+}
+
+
+def run(words, stream):
+    """Runs the program over a stream; gives seconds of processor, on the wall, and its output."""
+    with tempfile.TemporaryFile() as file, tempfile.TemporaryFile() as output:
+        file.write(stream)
+        file.seek(0)
+        begin = time.monotonic()
+        child = subprocess.Popen(words, stdin=file, stdout=output, stderr=subprocess.DEVNULL)
+        _, status, usage = os.wait4(child.pid, 0)
+        wall = time.monotonic() - begin
+        output.seek(0)
+        told = output.read()
+    if status != 0:
+        sys.exit(f"{words}: status {os.waitstatus_to_exitcode(status)}")
+    return usage.ru_utime + usage.ru_stime, wall, told
+
+
+def listed(folder, nonce, texts):
+    """The path of a batch list of these batches."""
+    path = os.path.join(folder, nonce)
+    with open(path, "wb") as file:
+        file.write(batches.batch_list(batches.KEY, nonce, texts)[0])
+    return path
+
+
+def first_batch(families, rules):
+    keys = f"settings propose sawtooth.settings.vote.authorized_keys {batches.KEY}"
+    return f"{keys}; settings propose {families} '{FAMILIES}'; settings propose {rules} '{RULES}'"
+
+
+def main():
+    program, turns = sys.argv[1], int(sys.argv[2]) if len(sys.argv) > 2 else 7
+    with tempfile.TemporaryDirectory() as folder:
+        sets = [[f"intkey set n{at + place} 1" for place in range(BATCH)] for at in range(0, TRANSACTIONS, BATCH)]
+        many = listed(folder, "many", ["; ".join(batch) for batch in sets])
+        first, whole = {}, {}
+        for name, keys in SETTINGS.items():
+            one = listed(folder, name, [first_batch(*keys)])
+            _, _, first[name] = run([program, "publish", "--batches", one], b"")
+            _, _, second = run([program, "publish", "--batches", many], first[name])
+            whole[name] = first[name] + second
+        for told, words, streams in (
+            ("apply, 1 worker", ["apply", "--workers", "1"], whole),
+            ("apply, 4 workers", ["apply", "--workers", "4"], whole),
+            ("publish, 1 worker", ["publish", "--batches", many, "--workers", "1"], first),
+        ):
+            ran = [{name: run([program, *words], stream)[:2] for name, stream in streams.items()} for _ in range(turns)]
+            least = {name: [min(turn[name][at] for turn in ran) for at in (0, 1)] for name in streams}
+            ratios = [rules / none for rules, none in zip(least["rules"], least["none"])]
+            (cpu, wall), (cpu_none, wall_none) = least["rules"], least["none"]
+            print(
+                f"{told}: processor {cpu:.3f} s beside {cpu_none:.3f}, {ratios[0]:.3f} times;"
+                f" wall {wall:.3f} s beside {wall_none:.3f}, {ratios[1]:.3f} times"
+            )
+
+
+if __name__ == "__main__":
+    main()
