@@ -3,9 +3,9 @@
 Run by hand, never by the gate, after `rt run` has built the program: python3 -B bench/onchain.py PROGRAM [TURNS]
 
 Both streams have a first block that sets the keys that may change settings, and two settings more: those of the rules, or
-two that bind nothing. Behind it stands a block of 16,600 IntegerKey transactions, ten in a batch, for which a candidate just
-has room. Runs of both take turns; printed are the least seconds of processor and on the wall, by one worker and by four, and
-the least of `publish`, which makes the second block.
+two that bind nothing. Behind it stands a block of 20,000 IntegerKey transactions, ten in a batch; `publish` makes one of the
+16,600 for which a candidate has room. Runs of both take turns; printed are the least seconds of processor and on the wall, by
+one worker and by four.
 """
 
 import os
@@ -17,8 +17,11 @@ import time
 sys.path.insert(0, os.path.join(os.path.dirname(__file__), "..", "tools"))
 
 import batches
+import counters
+from applied import values
+from families import number
 
-TRANSACTIONS, BATCH = 16_600, 10
+TRANSACTIONS, ROOM, BATCH = 20_000, 16_600, 10
 FAMILIES = '[{"family":"xo","version":"1.0"},{"family":"sawtooth_settings","version":"1.0"},{"family":"intkey","version":"1.0"}]'
 RULES = (
     "NofX:20000,intkey; NofX:1,xo; NofX:100,sawtooth_settings; NofX:20000,other; XatY:intkey,0; XatY:intkey,-1;"
@@ -59,21 +62,42 @@ def first_batch(families, rules):
     return f"{keys}; settings propose {families} '{FAMILIES}'; settings propose {rules} '{RULES}'"
 
 
+def block_of(front, made, listed, root):
+    """The stream of a first block and of one like `made` with all batches of a list, which states a root."""
+    header, all_batches = values(made[4:], 1)[-1], values(listed, 1)
+    ids = b"".join(counters.record(4, values(batch, 2)[-1]) for batch in all_batches)
+    header = number(1, 1) + b"".join(counters.record(at, values(header, at)[-1]) for at in (2, 3)) + ids
+    header += counters.record(5, "Devmode") + counters.record(6, root)
+    block = counters.record(1, header) + counters.record(2, counters.sha512(batches.KEY.encode() + header))
+    block += b"".join(counters.record(3, batch) for batch in all_batches)
+    return front + len(block).to_bytes(4, "big") + block
+
+
+def all_of(program, front, made, listed):
+    """The same with the root that the program computes."""
+    child = subprocess.run([program, "apply"], input=block_of(front, made, listed, "0" * 64), capture_output=True)
+    root = child.stdout.decode().split(" refused 15 Root ")[1].split("\n")[0]
+    return block_of(front, made, listed, root)
+
+
 def main():
     program, turns = sys.argv[1], int(sys.argv[2]) if len(sys.argv) > 2 else 7
     with tempfile.TemporaryDirectory() as folder:
         sets = [[f"intkey set n{at + place} 1" for place in range(BATCH)] for at in range(0, TRANSACTIONS, BATCH)]
-        many = listed(folder, "many", ["; ".join(batch) for batch in sets])
+        texts = ["; ".join(batch) for batch in sets]
+        many, roomy = listed(folder, "many", texts), listed(folder, "roomy", texts[: ROOM // BATCH])
+        with open(many, "rb") as file:
+            content = file.read()
         first, whole = {}, {}
         for name, keys in SETTINGS.items():
             one = listed(folder, name, [first_batch(*keys)])
             _, _, first[name] = run([program, "publish", "--batches", one], b"")
-            _, _, second = run([program, "publish", "--batches", many], first[name])
-            whole[name] = first[name] + second
+            _, _, second = run([program, "publish", "--batches", roomy], first[name])
+            whole[name] = all_of(program, first[name], second, content)
         for told, words, streams in (
             ("apply, 1 worker", ["apply", "--workers", "1"], whole),
             ("apply, 4 workers", ["apply", "--workers", "4"], whole),
-            ("publish, 1 worker", ["publish", "--batches", many, "--workers", "1"], first),
+            ("publish, 1 worker", ["publish", "--batches", roomy, "--workers", "1"], first),
         ):
             ran = [{name: run([program, *words], stream)[:2] for name, stream in streams.items()} for _ in range(turns)]
             least = {name: [min(turn[name][at] for turn in ran) for at in (0, 1)] for name in streams}
