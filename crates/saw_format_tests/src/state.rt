@@ -4,7 +4,7 @@ use saw_address::{
     Address, Prefix, are_hex_digits, is_hex_text, is_prefix_text, sha256_hex, sha512_hex,
     sha512_hex64,
 };
-use saw_intkey::{address_of, serves};
+use saw_intkey::address_of;
 use saw_node::{Child, Node, NodeHash, OneByte, empty_root, root_by, root_of};
 use saw_wire::Bytes;
 use std::collections::BTreeMap;
@@ -130,7 +130,5 @@ fn a_root_is_that_of_its_map(rt: HostRuntime) -> Result<(), Fail> {
 
 #[test]
 fn names_have_their_addresses(rt: HostRuntime) {
-    assert!(rt; serves("intkey", "1.0"));
-    assert!(rt; !serves("intkey", "1.1"));
     assert!(rt; address_of("a").to_hex().as_slice() == ADDRESS.as_bytes());
 }

@@ -15,7 +15,8 @@ use Rattle.saw_messages.specs.declared.talk.Turn.{Turn}
 use Rattle.saw_context.specs.Conversation.{body_of, first_refused}
 use Rattle.saw_context.specs.Outcome.{are_declared, are_prefixes, conversed, outcome_by, outcome_of, refusal}
 use Rattle.saw_context.specs.Serial.{names_one}
-use Rattle.saw_station.specs.Serving.{alone, family_of, next_by, next_of, serving}
+use Rattle.saw_station.specs.Families.{family_of}
+use Rattle.saw_station.specs.Serving.{alone, next_by, next_of, serving}
 use Rattle.saw_intkey.specs.Actions as intkey
 use Rattle.saw_intkey.specs.Actions.{address_of}
 use Rattle.saw_intkey.specs.Laws.{IsPayload}
@@ -44,7 +45,7 @@ module _ (payload : Payload) (tx : TxShape) (meant : IsFor payload tx) where
 
   next_is : (turns : List Turn) → (alone []).next tx turns ≡ intkey.next (payload_bytes payload) turns
   next_is turns =
-      ap (next_by (λ tx turns. actions.Invalid reasons.Remote) tx turns) is_served ∙ ap (next_of tx turns) is_family
+      ap (next_by (λ tx turns. actions.Invalid reasons.Remote) tx turns) is_served ∙ ap (next_of tx.header.signer_public_key tx.payload turns) is_family
       ∙ ap (λ bytes. intkey.next bytes turns) meant.payload_is
 
   one_prefix : (texts : List (List ℕ)) → texts ≡ text ∷ [] → are_prefixes texts ≡ true

@@ -1,8 +1,7 @@
 //! The next action of the family.
 
-ghost use Rattle.std.specs.Prelude.{◌≡◌, ◌&&◌, IfOk};
-ghost use Rattle.std.specs.Str.{bytes_eq};
-ghost use Rattle.saw_intkey.specs.Actions.{RepliesDecide, ReasonsAreOwn, address_of, after_get, after_set, asked, changed_in, changing, family_name, family_version, next};
+ghost use Rattle.std.specs.Prelude.{◌≡◌, IfOk};
+ghost use Rattle.saw_intkey.specs.Actions.{RepliesDecide, ReasonsAreOwn, address_of, after_get, after_set, asked, changed_in, changing, next};
 ghost use Rattle.saw_intkey.specs.Payloads.{payload_of};
 ghost use Rattle.saw_intkey.specs.States.{names_of};
 
@@ -14,6 +13,12 @@ use saw_messages::{Action, Reply, Transcript, Tx};
 use sha2::{Digest, Sha512};
 use std::alloc::{AllocError, Global};
 
+/// The family's name, as a transaction states it.
+pub const NAME: &str = "intkey";
+
+/// The family's version, as a transaction states it.
+pub const VERSION: &str = "1.0";
+
 /// The first bytes of each address of the family.
 const FAMILY_BYTES: [u8; 3] = [0x1c, 0xf1, 0x26];
 
@@ -22,13 +27,6 @@ const REFUSED: u16 = 105;
 
 /// What is kept at the address are no names.
 const BAD_STATE: u16 = 106;
-
-/// Whether the family serves transactions of this family name and version.
-pub fn serves(family: &str, version: &str) -> bool
-    ensures { result ≡ (bytes_eq family.now family_name && bytes_eq version.now family_version) }
-{
-    family == "intkey" && version == "1.0"
-}
 
 /// Where a name is kept: three bytes of the family, then the last 32 bytes of SHA-512 of the name.
 pub fn address_of(name: &str) -> Address

@@ -8,7 +8,7 @@ mod noted;
 mod payload;
 mod state;
 
-pub use action::{address_of, reasons_are_own, replies_decide, serves, step, step_noting};
+pub use action::{NAME, VERSION, address_of, reasons_are_own, replies_decide, step, step_noting};
 pub use laws::{kept_is_read, payload_is_read};
 pub use noted::Noted;
 pub use payload::{Payload, Verb, encode_payload};

@@ -5,7 +5,6 @@ pub mod Hearing
 pub mod LinkConversation
 pub mod LinkMemory
 pub mod LinkStreams
-pub mod Copies
 pub mod Troubles
 pub mod Asking
 pub mod Remotes

@@ -9,7 +9,7 @@ use Rattle.saw_messages.specs.declared.transaction.Transaction.{Transaction}
 use Rattle.saw_station.specs.TalkSteps.{Step}
 use Rattle.saw_station.specs.declared.fault.StationFault.{StationFault}
 use Rattle.saw_station.specs.declared.fault.StationFault.TheVariants as stations
-use Rattle.saw_link.specs.Copies.{kept_tx}
+use Rattle.saw_station.specs.Copies.{kept_tx}
 use Rattle.saw_link.specs.LinkConversation.{Answers, Began, IsDue, Moved, IsSpelled, fresh}
 use Rattle.saw_link.specs.declared.passed.Passed.{Passed}
 use Rattle.saw_link.specs.Troubles.{StopsBeginning, Troubled}

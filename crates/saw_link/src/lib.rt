@@ -1,7 +1,6 @@
 //! Processors elsewhere, over links of frames.
 #![tactic(auto)]
 
-mod copies;
 mod exchange;
 mod fault;
 mod heard;

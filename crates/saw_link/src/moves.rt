@@ -8,7 +8,7 @@ ghost use Rattle.saw_messages.specs.Reasons.{has_own_reason};
 ghost use Rattle.saw_messages.specs.TxShapes.{shape_in};
 ghost use Rattle.saw_station.specs.TalkSteps.{IsShort, fits};
 ghost use Rattle.saw_link.specs.Asking.{IsAsking};
-ghost use Rattle.saw_link.specs.Copies.{kept_tx};
+ghost use Rattle.saw_station.specs.Copies.{kept_tx};
 ghost use Rattle.saw_link.specs.Hearing.{heard, registration};
 ghost use Rattle.saw_link.specs.LinkConversation.{Registers, Begins, Answers, Refuses, ObeysAfter, IsSpelled, IsAct, Moved, Closed, Registered, Began, acted, acted_by, after, answered, closed, left_by, may_register, registered, registered_by, version_by};
 ghost use Rattle.saw_link.specs.Troubles.{IsUnregistered, Acts, Unasked, Unspoken, Unacted, Unanswered, Troubled, StopsBeginning, StopsClosing, StopsRegistering, late};
@@ -20,7 +20,6 @@ ghost use Rattle.saw_link.specs.declared.passed.Passed.TheVariants.{Sent, Receiv
 ghost use Rattle.saw_link.specs.SentFrames.{answer, limit_of, process_request, welcome};
 ghost use Rattle.saw_link.specs.Tells.{Adds};
 
-use crate::copies::{copy_action, copy_reply, copy_tx};
 use crate::exchange::{Trouble, receive, send};
 use crate::heard::{Asked, Finish, Heard, Registration, hear, hear_registration};
 use crate::link::Link;
@@ -28,7 +27,7 @@ use crate::standing::{LastStep, Standing};
 use crate::written::{answer, limit_of, process_request, welcome};
 use saw_linkmsg::TpRegisterRequest;
 use saw_messages::{Action, Reason, Reply, Transaction, Turn, Tx};
-use saw_station::Offer;
+use saw_station::{Offer, copy_action, copy_reply, copy_tx};
 use saw_wire::{Bytes, Items, Text};
 use std::alloc::{AllocError, Global};
 

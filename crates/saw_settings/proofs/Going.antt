@@ -3,7 +3,7 @@ use Rattle.std.proofs.Common.{◌≡◌, List, Result, subst}
 use Rattle.std.specs.Prelude.{IfOk}
 use Rattle.saw_messages.specs.declared.talk.Action.{Action}
 use Rattle.saw_messages.specs.declared.talk.Reply.{Reply}
-use Rattle.saw_settings.specs.Replies.{Told, Goes, then_do}
+use Rattle.saw_settings.specs.Requests.{Told, Goes, then_do}
 
 -- an action that follows is the next one
 pub goes : {A E : Type 0} (r : Result Action E) (told : Told A) (value : A) (rest : List Reply) (go : A → List Reply → Action)

@@ -7,3 +7,4 @@ pub mod SettingsBack
 pub mod Octets
 pub mod KeptBack
 pub mod Reasons
+pub mod Asked

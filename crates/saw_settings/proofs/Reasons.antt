@@ -22,87 +22,42 @@ use Rattle.saw_settings.specs.Actions.{propose_under, proposal_fault, put_to_vot
 use Rattle.saw_settings.specs.Actions.{vote_under, with_vote, write}
 use Rattle.saw_settings.specs.Keys.{address_of, approval_threshold, authorized_keys, proposals, with_value}
 use Rattle.saw_settings.specs.Messages.{setting, setting_proposal, setting_vote, settings_payload}
-use Rattle.saw_settings.specs.Replies.{Told, Due, Goes, and_then, done, done_by, entries_at, entries_told, set_to, then_do, told_by, update_of}
-use Rattle.saw_settings.specs.Replies.{value_at, value_told, written_to}
+use Rattle.saw_settings.specs.Replies.{change_of, set_to, setting_at, value_at, written_to}
+use Rattle.saw_settings.specs.Requests.{Goes, done}
 use Rattle.saw_settings.specs.Values.{candidates_of_value, kept_text, keys_in, keys_of, number_in, threshold_of}
 use Rattle.saw_settings.specs.declared.candidate.SettingCandidate.{SettingCandidate}
 use Rattle.saw_settings.specs.declared.payload.SettingProposal.{SettingProposal}
 use Rattle.saw_settings.specs.declared.payload.SettingVote.{SettingVote}
 use Rattle.saw_settings.specs.declared.payload.SettingsPayload.{SettingsPayload}
-use Rattle.saw_settings.specs.declared.setting.Setting.{Setting}
-use Rattle.saw_settings.specs.declared.setting.SettingEntry.{SettingEntry}
+use Rattle.saw_settings.proofs.Asked.{and_own, done_own, due_own, either_own, either_told, message_own, then_own}
 
 -- What is so of the requests that the family makes, of the end and of its refusals is so of each of its actions.
 module _ (Q : Action → Type 0) (gets : (place : Place) → Q (actions.Get (place ∷ []))) (sets : (entry : Entry) → Q (actions.Set (entry ∷ [])))
     (tells : (event : Event) → Q (actions.AddEvent event)) (ends : Q actions.Ok)
     (refuses : (number : ℕ) → nat_lt 100 number ≡ true → Q (actions.Invalid (Family number))) where
-  either_own : (test : Bool) (x y : Action) → Q x → Q y → Q (cond test x y)
-  either_own true x y own other = own
-  either_own false x y own other = other
+  -- ---- one setting
 
-  -- ---- what is told
+  setting_own : (key : List ℕ) (replies : List Reply) → due_own Q (setting_at key replies)
+  setting_own key replies =
+      message_own Q 301 (refuses 301 refl) 302 setting (address_of key) replies (gets (At (address_of key))) (refuses 302 refl)
 
-  -- an action that is due refuses by a number of the family
-  abbrev due_own : {A : Type 0} → Told A → Type 0
-  due_own (Due action) = Q action
-  due_own (Goes told rest) = Unit {0}
-
-  then_own : {A : Type 0} (told : Told A) (others : A → List Reply → Action) → due_own told → ((x : A) (rest : List Reply) → Q (others x rest))
-      → Q (then_do told others)
-  then_own (Due action) others own all = own
-  then_own (Goes told rest) others own all = all told rest
-
-  and_own : {A B : Type 0} (told : Told A) (others : A → List Reply → Told B) → due_own told → ((x : A) (rest : List Reply) → due_own (others x rest))
-      → due_own (and_then told others)
-  and_own (Due action) others own all = own
-  and_own (Goes told rest) others own all = all told rest
-
-  entries_own : (rest : List Reply) (read : Result Setting MessageFault) → due_own (entries_told rest read)
-  entries_own rest (Ok read) = tt
-  entries_own rest (Err e) = refuses 302 refl
-
-  told_own : (rest : List Reply) (reply : Reply) → due_own (told_by rest reply)
-  told_own rest (Entries []) = refuses 301 refl
-  told_own rest (Entries (body ∷ [])) = entries_own rest (setting body)
-  told_own rest (Entries (body ∷ second ∷ others)) = refuses 301 refl
-  told_own rest Done = refuses 301 refl
-  told_own rest (Unauthorized index) = refuses 301 refl
-
-  entries_at_own : (key : List ℕ) (replies : List Reply) → due_own (entries_at key replies)
-  entries_at_own key [] = gets (At (address_of key))
-  entries_at_own key (first ∷ rest) = told_own rest first
-
-  value_told_own : (key : List ℕ) (told : Told (List SettingEntry)) → due_own told → due_own (value_told key told)
-  value_told_own key (Due action) own = own
-  value_told_own key (Goes entries rest) own = tt
-
-  value_own : (key : List ℕ) (replies : List Reply) → due_own (value_at key replies)
+  value_own : (key : List ℕ) (replies : List Reply) → due_own Q (value_at key replies)
   unfolding value_at
-  value_own key replies = value_told_own key (entries_at key replies) (entries_at_own key replies)
+  value_own key replies = and_own Q (setting_at key replies) _ (setting_own key replies) (λ kept rest. tt)
 
-  done_by_own : (rest : List Reply) (reply : Reply) → due_own (done_by rest reply)
-  done_by_own rest (Entries bodies) = refuses 301 refl
-  done_by_own rest Done = tt
-  done_by_own rest (Unauthorized index) = refuses 301 refl
+  done_is_own : (action : Action) (replies : List Reply) → Q action → due_own Q (done 301 action replies)
+  done_is_own = done_own Q 301 (refuses 301 refl)
 
-  done_own : (action : Action) (replies : List Reply) → Q action → due_own (done action replies)
-  done_own action [] own = own
-  done_own action (first ∷ rest) own = done_by_own rest first
-
-  either_told : {A : Type 0} (test : Bool) (x y : Told A) → due_own x → due_own y → due_own (cond test x y)
-  either_told true x y own other = own
-  either_told false x y own other = other
-
-  written_own : (key value : List ℕ) (replies : List Reply) → due_own (written_to key value replies)
+  written_own : (key value : List ℕ) (replies : List Reply) → due_own Q (written_to key value replies)
   unfolding written_to
   written_own key value replies =
-      and_own (entries_at key replies) _ (entries_at_own key replies) (λ entries rest.
-      and_own (done (set_to key (with_value key value entries)) rest) _ (done_own (set_to key (with_value key value entries)) rest (sets _)) (λ nothing behind.
-      either_told (bytes_eq key proposals) (Goes tt behind) (done (actions.AddEvent (update_of key)) behind) tt
-      (done_own (actions.AddEvent (update_of key)) behind (tells (update_of key)))))
+      and_own Q (setting_at key replies) _ (setting_own key replies) (λ kept rest.
+      and_own Q (done 301 (set_to key (with_value key value kept.entries)) rest) _ (done_is_own (set_to key (with_value key value kept.entries)) rest (sets _))
+      (λ nothing behind. either_told Q (bytes_eq key proposals) (Goes tt behind) (done 301 (actions.AddEvent (change_of key)) behind) tt
+      (done_is_own (actions.AddEvent (change_of key)) behind (tells (change_of key)))))
 
   write_own : (key value : List ℕ) (replies : List Reply) → Q (write key value replies)
-  write_own key value replies = then_own (written_to key value replies) _ (written_own key value replies) (λ nothing rest. ends)
+  write_own key value replies = then_own Q (written_to key value replies) _ (written_own key value replies) (λ nothing rest. ends)
 
   -- ---- a proposal
 
@@ -111,10 +66,10 @@ module _ (Q : Action → Type 0) (gets : (place : Place) → Q (actions.Get (pla
   add_own signer id proposal replies None = refuses 302 refl
   add_own signer id proposal replies (Some candidates) =
       let more = kept_text (candidates ++ new_candidate signer id proposal ∷ []) in
-      either_own (list_any (has_id id) candidates) (invalid 311) (write proposals more replies) (refuses 311 refl) (write_own proposals more replies)
+      either_own Q (list_any (has_id id) candidates) (invalid 311) (write proposals more replies) (refuses 311 refl) (write_own proposals more replies)
 
   put_own : (signer id : List ℕ) (proposal : SettingProposal) (replies : List Reply) → Q (put_to_vote signer id proposal replies)
-  put_own signer id proposal replies = then_own (value_at proposals replies) _ (value_own proposals replies)
+  put_own signer id proposal replies = then_own Q (value_at proposals replies) _ (value_own proposals replies)
       (λ value rest. add_own signer id proposal rest (candidates_of_value value))
 
   -- a fault's number is the family's
@@ -137,7 +92,7 @@ module _ (Q : Action → Type 0) (gets : (place : Place) → Q (actions.Get (pla
       → Q (decide signer id proposal threshold replies fault)
   decide_own signer id proposal threshold replies (Some number) own = refuses number own
   decide_own signer id proposal threshold replies None own =
-      either_own (nat_le threshold 1) (write proposal.setting proposal.value replies) (put_to_vote signer id proposal replies)
+      either_own Q (nat_le threshold 1) (write proposal.setting proposal.value replies) (put_to_vote signer id proposal replies)
       (write_own proposal.setting proposal.value replies) (put_own signer id proposal replies)
 
   under_own : (keys : List (List ℕ)) (signer id : List ℕ) (proposal : SettingProposal) (replies : List Reply) (threshold : Option ℕ)
@@ -150,7 +105,7 @@ module _ (Q : Action → Type 0) (gets : (place : Place) → Q (actions.Get (pla
       → Q (propose_by keys signer id replies read)
   propose_by_own keys signer id replies (Err e) = refuses 306 refl
   propose_by_own keys signer id replies (Ok proposal) =
-      then_own (value_at approval_threshold replies) _ (value_own approval_threshold replies)
+      then_own Q (value_at approval_threshold replies) _ (value_own approval_threshold replies)
       (λ value rest. under_own keys signer id proposal rest (threshold_of value))
 
   propose_own : (keys : List (List ℕ)) (signer body : List ℕ) (replies : List Reply) → Q (propose keys signer body replies)
@@ -164,10 +119,10 @@ module _ (Q : Action → Type 0) (gets : (place : Place) → Q (actions.Get (pla
   count_own keys threshold candidates place voted replies =
       let fewer = kept_text (remove candidates place) in
       let same = kept_text (slice_set candidates place voted) in
-      either_own (nat_le threshold (count_votes accept_number voted.votes)) _ _
-      (then_own (written_to voted.proposal.setting voted.proposal.value replies) _ (written_own voted.proposal.setting voted.proposal.value replies)
+      either_own Q (nat_le threshold (count_votes accept_number voted.votes)) _ _
+      (then_own Q (written_to voted.proposal.setting voted.proposal.value replies) _ (written_own voted.proposal.setting voted.proposal.value replies)
       (λ nothing rest. write_own proposals fewer rest))
-      (either_own (nat_le threshold (count_votes reject_number voted.votes) || (length voted.votes == length keys)) (write proposals fewer replies)
+      (either_own Q (nat_le threshold (count_votes reject_number voted.votes) || (length voted.votes == length keys)) (write proposals fewer replies)
       (write proposals same replies)
       (write_own proposals fewer replies) (write_own proposals same replies))
 
@@ -175,14 +130,14 @@ module _ (Q : Action → Type 0) (gets : (place : Place) → Q (actions.Get (pla
       (replies : List Reply) (threshold : Option ℕ) → Q (vote_under keys signer vote candidates place candidate replies threshold)
   vote_under_own keys signer vote candidates place candidate replies None = refuses 302 refl
   vote_under_own keys signer vote candidates place candidate replies (Some threshold) =
-      either_own (has_voted signer candidate) (invalid 314) (count_up keys threshold candidates place (with_vote signer vote candidate) replies)
+      either_own Q (has_voted signer candidate) (invalid 314) (count_up keys threshold candidates place (with_vote signer vote candidate) replies)
       (refuses 314 refl) (count_own keys threshold candidates place (with_vote signer vote candidate) replies)
 
   vote_for_own : (keys : List (List ℕ)) (signer : List ℕ) (vote : ℕ) (candidates : List SettingCandidate) (replies : List Reply)
       (found : Option (ℕ × SettingCandidate)) → Q (vote_for keys signer vote candidates replies found)
   vote_for_own keys signer vote candidates replies None = refuses 313 refl
   vote_for_own keys signer vote candidates replies (Some found) =
-      then_own (value_at approval_threshold replies) _ (value_own approval_threshold replies)
+      then_own Q (value_at approval_threshold replies) _ (value_own approval_threshold replies)
       (λ value rest. vote_under_own keys signer vote candidates found.0 found.1 rest (threshold_of value))
 
   among_own : (keys : List (List ℕ)) (signer id : List ℕ) (vote : ℕ) (replies : List Reply) (kept : Option (List SettingCandidate))
@@ -193,8 +148,8 @@ module _ (Q : Action → Type 0) (gets : (place : Place) → Q (actions.Get (pla
   vote_by_own : (keys : List (List ℕ)) (signer : List ℕ) (replies : List Reply) (read : Result SettingVote MessageFault) → Q (vote_by keys signer replies read)
   vote_by_own keys signer replies (Err e) = refuses 306 refl
   vote_by_own keys signer replies (Ok one) =
-      either_own (not ((one.vote == accept_number) || (one.vote == reject_number))) (invalid 312) _ (refuses 312 refl)
-      (then_own (value_at proposals replies) _ (value_own proposals replies)
+      either_own Q (not ((one.vote == accept_number) || (one.vote == reject_number))) (invalid 312) _ (refuses 312 refl)
+      (then_own Q (value_at proposals replies) _ (value_own proposals replies)
       (λ value rest. among_own keys signer one.proposal_id one.vote rest (candidates_of_value value)))
 
   cast_own : (keys : List (List ℕ)) (signer body : List ℕ) (replies : List Reply) → Q (cast_vote keys signer body replies)
@@ -207,18 +162,18 @@ module _ (Q : Action → Type 0) (gets : (place : Place) → Q (actions.Get (pla
       → Q (act_by keys signer replies read)
   act_by_own keys signer replies (Err e) = refuses 304 refl
   act_by_own keys signer replies (Ok payload) =
-      either_own (payload.action == propose_number) (propose keys signer payload.body replies) _ (propose_own keys signer payload.body replies)
-      (either_own (payload.action == vote_number) (cast_vote keys signer payload.body replies) (invalid 305)
+      either_own Q (payload.action == propose_number) (propose keys signer payload.body replies) _ (propose_own keys signer payload.body replies)
+      (either_own Q (payload.action == vote_number) (cast_vote keys signer payload.body replies) (invalid 305)
       (cast_own keys signer payload.body replies) (refuses 305 refl))
 
   act_own : (keys : List (List ℕ)) (signer payload : List ℕ) (replies : List Reply) → Q (act keys signer payload replies)
   act_own keys signer payload replies =
-      either_own (not (has_none keys || has_key signer keys)) (invalid 303) (act_by keys signer replies (settings_payload payload)) (refuses 303 refl)
+      either_own Q (not (has_none keys || has_key signer keys)) (invalid 303) (act_by keys signer replies (settings_payload payload)) (refuses 303 refl)
       (act_by_own keys signer replies (settings_payload payload))
 
   after_own : (signer payload : List ℕ) (replies : List Reply) → Q (next_after signer payload replies)
   unfolding next_after
-  after_own signer payload replies = then_own (value_at authorized_keys replies) _ (value_own authorized_keys replies)
+  after_own signer payload replies = then_own Q (value_at authorized_keys replies) _ (value_own authorized_keys replies)
       (λ value rest. act_own (keys_of value) signer payload rest)
 
   pub each_action : (signer payload : List ℕ) (turns : List Turn) → Q (next signer payload turns)

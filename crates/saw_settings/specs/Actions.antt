@@ -13,7 +13,8 @@ use Rattle.saw_messages.specs.declared.talk.Turn.{Turn}
 use Rattle.saw_settings.specs.Keys.{authorized_keys, approval_threshold, proposals}
 use Rattle.saw_settings.specs.Messages.{settings_payload, setting_proposal, setting_vote}
 use Rattle.saw_settings.specs.Values.{keys_of, keys_in, number_in, threshold_of, candidates_of_value, kept_text}
-use Rattle.saw_settings.specs.Replies.{then_do, value_at, written_to}
+use Rattle.saw_settings.specs.Replies.{value_at, written_to}
+use Rattle.saw_settings.specs.Requests.{then_do}
 use Rattle.saw_settings.specs.declared.candidate.SettingCandidate.{SettingCandidate}
 use Rattle.saw_settings.specs.declared.candidate.VoteRecord.{VoteRecord}
 use Rattle.saw_settings.specs.declared.payload.SettingsPayload.{SettingsPayload}

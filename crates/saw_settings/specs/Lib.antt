@@ -3,6 +3,7 @@ pub mod Candidates
 pub mod Keys
 pub mod Values
 pub mod Settings
+pub mod Requests
 pub mod Replies
 pub mod Actions
 pub mod Turns

@@ -3,9 +3,9 @@ use Rattle.std.specs.Prelude.{ℕ, List, map, drop, Result, Ok, Err}
 use Rattle.saw_messages.specs.Reasons.{invalid}
 use Rattle.saw_messages.specs.declared.talk.Reply.{Reply}
 use Rattle.saw_messages.specs.declared.talk.Turn.{Turn}
-use Rattle.saw_settings.specs.Replies.{Told, Due, Goes}
-use Rattle.saw_settings.specs.declared.reply.Told.{Told as ToldAt}
-use Rattle.saw_settings.specs.declared.reply.Told.TheVariants as places
+use Rattle.saw_settings.specs.Requests.{Told, Due, Goes}
+use Rattle.saw_settings.specs.declared.talk.Told.{Told as ToldAt}
+use Rattle.saw_settings.specs.declared.talk.Told.TheVariants as places
 
 -- the replies from a place on
 abbrev pub replies_from : ℕ → List Turn → List Reply

@@ -1,17 +1,22 @@
 //! The next action of the family.
 
-ghost use Rattle.std.specs.Prelude.{◌≡◌, ◌&&◌, ◌||◌, IfOk};
-ghost use Rattle.std.specs.Str.{bytes_eq};
-ghost use Rattle.saw_settings.specs.Actions.{RepliesDecide, ReasonsAreOwn, act, family_name, family_version, has_key, has_none, next};
+ghost use Rattle.std.specs.Prelude.{◌≡◌, ◌||◌, IfOk};
+ghost use Rattle.saw_settings.specs.Actions.{RepliesDecide, ReasonsAreOwn, act, has_key, has_none, next};
 ghost use Rattle.saw_settings.specs.Turns.{replies_from};
 
 use crate::decoding::decode_settings_payload;
 use crate::key::AUTHORIZED_KEYS;
-use crate::reply::{Talk, Told};
+use crate::talk::{Talk, Told};
 use crate::value::keys_of;
 use saw_messages::{Action, Transcript, Tx};
 use saw_wire::{Bytes, MessageFault};
 use std::alloc::{AllocError, Global};
+
+/// The family's name, as a transaction states it.
+pub const NAME: &str = "sawtooth_settings";
+
+/// The family's version, as a transaction states it.
+pub const VERSION: &str = "1.0";
 
 /// The number of the action that proposes.
 const PROPOSE: u32 = 1;
@@ -27,13 +32,6 @@ const BAD_PAYLOAD: u16 = 304;
 
 /// The action neither proposes nor votes.
 const BAD_ACTION: u16 = 305;
-
-/// Whether the family serves transactions of this family name and version.
-pub fn serves(family: &str, version: &str) -> bool
-    ensures { result ≡ (bytes_eq family.now family_name && bytes_eq version.now family_version) }
-{
-    family == "sawtooth_settings" && version == "1.0"
-}
 
 /// The next action, by the signer, the payload and the replies so far.
 #[tactic(auto, unfolding(crate::specs::Actions::next_after))]

@@ -10,7 +10,7 @@ use saw_wire::{Items, Text};
 use std::alloc::{AllocError, Global};
 
 /// The value of the first entry with the key.
-pub(crate) fn value_in(
+pub fn value_in(
     alloc: Global,
     key: &str,
     entries: &[SettingEntry],

@@ -10,14 +10,15 @@ mod key;
 mod laws;
 mod payload;
 mod proposal;
-mod reply;
+mod reading;
 mod setting;
 mod state;
+mod talk;
 mod value;
 mod vote;
 mod writing;
 
-pub use action::{reasons_are_own, replies_decide, serves, step};
+pub use action::{NAME, VERSION, reasons_are_own, replies_decide, step};
 pub use candidate::{SettingCandidate, SettingCandidates, VoteRecord};
 pub use decoding::{
     decode_setting, decode_setting_candidates, decode_setting_proposal, decode_setting_vote,
@@ -27,9 +28,11 @@ pub use encoding::{
     encode_setting, encode_setting_candidates, encode_setting_proposal, encode_setting_vote,
     encode_settings_payload,
 };
+pub use entry::value_in;
 pub use key::address_of;
 pub use laws::settings_are_read_back;
 pub use payload::{SettingProposal, SettingVote, SettingsPayload};
 pub use setting::{Setting, SettingEntry};
 pub use state::{setting_of, value_by};
+pub use talk::{Talk, Told, update_of};
 pub use value::{number_in, trimmed};

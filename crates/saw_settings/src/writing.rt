@@ -1,10 +1,10 @@
 //! One setting is written: it is read again and set, and an event tells of it.
 
-ghost use Rattle.std.specs.Prelude.{◌≡◌, List, IfOk};
-ghost use Rattle.saw_messages.specs.declared.talk.Turn.{Turn};
+ghost use Rattle.std.specs.Prelude.{◌≡◌, IfOk};
 ghost use Rattle.saw_settings.specs.Actions.{write};
 ghost use Rattle.saw_settings.specs.Keys.{proposals, with_value};
-ghost use Rattle.saw_settings.specs.Replies.{done, done_by, set_to, told_of, update_of, written_to};
+ghost use Rattle.saw_settings.specs.Replies.{set_to, told_of, written_to};
+ghost use Rattle.saw_settings.specs.Requests.{done};
 ghost use Rattle.saw_settings.specs.Turns.{replies_from, seen};
 ghost use Rattle.saw_settings.specs.Values.{kept_text};
 
@@ -12,12 +12,16 @@ use crate::candidate::SettingCandidate;
 use crate::encoding::encode_setting;
 use crate::entry::with_value;
 use crate::key::{PROPOSALS, address_of};
-use crate::reply::{REFUSED, Talk, Told};
+use crate::reading::REFUSED;
 use crate::setting::{Setting, SettingEntry};
+use crate::talk::{Talk, Told, update_of};
 use crate::value::kept_text;
-use saw_messages::{Action, Attribute, Event, Reply};
-use saw_wire::{Bytes, Items, Text};
+use saw_messages::Action;
+use saw_wire::{Bytes, Items};
 use std::alloc::{AllocError, Global};
+
+/// The type of the event of a change.
+const UPDATE: &str = "settings/update";
 
 /// The change that keeps the entries where the key is.
 fn set_to(alloc: Global, key: &str, entries: Items<SettingEntry>) -> Result<Action, AllocError>
@@ -25,33 +29,6 @@ fn set_to(alloc: Global, key: &str, entries: Items<SettingEntry>) -> Result<Acti
 {
     let body = encode_setting(alloc, &Setting { entries })?;
     Action::set(alloc, address_of(key), Bytes::from_vec(body))
-}
-
-/// The event of a change, under the name of the key.
-fn update_of(alloc: Global, key: &str) -> Result<Event, AllocError>
-    ensures { IfOk result (λ event. event ≡ update_of key.now) }
-{
-    let mut attributes = Items::new(alloc);
-    attributes.push(Attribute {
-        key: Text::from_str(alloc, "updated")?,
-        value: Text::from_str(alloc, key)?,
-    })?;
-    Ok(Event {
-        event_type: Text::from_str(alloc, "settings/update")?,
-        attributes,
-        body: Bytes::new(alloc),
-    })
-}
-
-/// What a reply makes of an action that is to be answered `Done`.
-fn done_by(reply: &Reply, next: usize) -> Told<()>
-    ensures { (turns : List Turn) → seen turns result ≡ done_by (replies_from next turns) reply.now }
-{
-    match reply {
-        Reply::Entries(_) => Told::Due(Action::invalid(REFUSED)),
-        Reply::Done => Told::Goes((), next),
-        Reply::Unauthorized { index: _ } => Told::Due(Action::invalid(REFUSED)),
-    }
 }
 
 impl Talk<'_> {
@@ -64,11 +41,11 @@ impl Talk<'_> {
         at: usize,
     ) -> Result<Told<()>, AllocError>
         ensures { IfOk result (λ told. seen self.now.turns.now told
-            ≡ done (set_to key.now (with_value key.now value.now entries))
+            ≡ done 301 (set_to key.now (with_value key.now value.now entries))
             (replies_from at self.now.turns.now)) }
     {
-        match self.reply_at(at) {
-            Some((reply, next)) => Ok(done_by(reply, next)),
+        match self.done_at(REFUSED, at) {
+            Some(told) => Ok(told),
             None => {
                 let entries = with_value(self.alloc, key, value, entries)?;
                 Ok(Told::Due(set_to(self.alloc, key, entries)?))
@@ -84,9 +61,9 @@ impl Talk<'_> {
         if key == PROPOSALS {
             return Ok(Told::Goes((), at));
         }
-        match self.reply_at(at) {
-            Some((reply, next)) => Ok(done_by(reply, next)),
-            None => Ok(Told::Due(Action::AddEvent(update_of(self.alloc, key)?))),
+        match self.done_at(REFUSED, at) {
+            Some(told) => Ok(told),
+            None => Ok(Told::Due(Action::AddEvent(update_of(self.alloc, UPDATE, key)?))),
         }
     }
 
@@ -101,11 +78,11 @@ impl Talk<'_> {
         ensures { IfOk result (λ told. seen self.now.turns.now told
             ≡ written_to key.now value.now (replies_from at self.now.turns.now)) }
     {
-        let (entries, at) = match self.entries_at(key, at)? {
+        let (kept, at) = match self.setting_at(key, at)? {
             Told::Due(action) => return Ok(Told::Due(action)),
-            Told::Goes(entries, at) => (entries, at),
+            Told::Goes(kept, at) => (kept, at),
         };
-        match self.put(key, value, entries, at)? {
+        match self.put(key, value, kept.entries, at)? {
             Told::Due(action) => Ok(Told::Due(action)),
             Told::Goes((), at) => self.tell(key, at),
         }

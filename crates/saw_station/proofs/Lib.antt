@@ -5,3 +5,4 @@ pub mod Replays
 pub mod Conversed
 pub mod Covered
 pub mod Finished
+pub mod Rows

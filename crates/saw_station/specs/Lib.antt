@@ -1,6 +1,8 @@
 pub mod TalkSteps
+pub mod Families
 pub mod Serving
 pub mod CommonOffers
+pub mod Copies
 pub mod Spoken
 pub mod AccessReplies
 pub mod DeskPlaces

@@ -9,31 +9,16 @@ use Rattle.saw_messages.specs.declared.outcome.Reason.TheVariants as reasons
 use Rattle.saw_messages.specs.declared.talk.Action.{Action}
 use Rattle.saw_messages.specs.declared.talk.Action.TheVariants as actions
 use Rattle.saw_messages.specs.declared.talk.Turn.{Turn}
-use Rattle.saw_intkey.specs.Actions as intkey
 use Rattle.saw_intkey.proofs.Reasons as of_intkey
-use Rattle.saw_xo.specs.Actions as xo
 use Rattle.saw_xo.proofs.Reasons as of_xo
-use Rattle.saw_settings.specs.Actions as settings
 use Rattle.saw_settings.proofs.Reasons as of_settings
+use Rattle.saw_station.specs.Families.{Row, family_of, of_each}
 use Rattle.saw_station.specs.declared.offer.Offer.{Offer}
-use Rattle.saw_station.specs.declared.serving.Family.{Family}
-use Rattle.saw_station.specs.declared.serving.Family.TheVariants.{IntKey, Xo, Settings}
 use Rattle.saw_station.specs.declared.serving.Served.{Served}
 use Rattle.saw_station.specs.declared.serving.Served.TheVariants.{BuiltIn, Remote}
 
-abbrev pub is_family : List ℕ → List ℕ → List ℕ → List ℕ → Bool
-is_family name its_version family version = bytes_eq family name && bytes_eq version its_version
-
 abbrev pub is_offered : List Offer → List ℕ → List ℕ → Bool
 is_offered offers family version = list_any (λ offer. bytes_eq family offer.family && bytes_eq version offer.version) offers
-
--- the family whose processor is built in
-abbrev pub family_of : List ℕ → List ℕ → Option Family
-family_of family version =
-    if is_family intkey.family_name intkey.family_version family version then Some IntKey
-    else if is_family xo.family_name xo.family_version family version then Some Xo
-    else if is_family settings.family_name settings.family_version family version then Some Settings
-    else None
 
 -- a built-in family is served by its own processor, any other by the remote where it is offered
 abbrev pub serving : List Offer → List ℕ → List ℕ → Option Served
@@ -43,25 +28,21 @@ serving offers family version =
     else None
 
 -- the next action of a family's processor; without a family it is a refusal
-abbrev pub next_of : TxShape → List Turn → Option Family → Action
-next_of tx turns (Some IntKey) = intkey.next tx.payload turns
-next_of tx turns (Some Xo) = xo.next tx.header.signer_public_key tx.payload turns
-next_of tx turns (Some Settings) = settings.next tx.header.signer_public_key tx.payload turns
-next_of tx turns None = actions.Invalid reasons.Remote
+abbrev pub next_of : List ℕ → List ℕ → List Turn → Option Row → Action
+next_of signer payload turns (Some family) = family.next signer payload turns
+next_of signer payload turns None = actions.Invalid reasons.Remote
 
 -- the same of the family that the transaction names
 abbrev pub built_in_next : TxShape → List Turn → Action
-built_in_next tx turns = next_of tx turns (family_of tx.header.family_name tx.header.family_version)
+built_in_next tx turns = next_of tx.header.signer_public_key tx.payload turns (family_of tx.header.family_name tx.header.family_version)
 
 -- all refuse by their own reasons
-next_of_own : (tx : TxShape) (turns : List Turn) (family : Option Family) → has_own_reason (next_of tx turns family) ≡ true
-next_of_own tx turns (Some IntKey) = of_intkey.next_own tx.payload turns
-next_of_own tx turns (Some Xo) = of_xo.next_own tx.header.signer_public_key tx.payload turns
-next_of_own tx turns (Some Settings) = of_settings.next_own tx.header.signer_public_key tx.payload turns
-next_of_own tx turns None = refl
-
 pub built_in_own : (tx : TxShape) (turns : List Turn) → has_own_reason (built_in_next tx turns) ≡ true
-built_in_own tx turns = next_of_own tx turns (family_of tx.header.family_name tx.header.family_version)
+built_in_own tx turns =
+    let signer = tx.header.signer_public_key in
+    let payload = tx.payload in
+    of_each (λ family. has_own_reason (next_of signer payload turns family) ≡ true) refl tx.header.family_name tx.header.family_version
+    (of_intkey.next_own payload turns, (of_xo.next_own signer payload turns, (of_settings.next_own signer payload turns, tt)))
 
 module _ (next : TxShape → List Turn → Action) where
   abbrev pub next_by : TxShape → List Turn → Option Served → Action

@@ -1,9 +1,12 @@
 //! Who serves a family.
 
-ghost use Rattle.std.specs.Prelude.{◌≡◌};
-ghost use Rattle.saw_station.specs.Serving.{family_of, is_offered, serving};
+ghost use Rattle.std.specs.Prelude.{◌≡◌, map, option_map, IfOk};
+ghost use Rattle.saw_station.specs.Families.{families, family_of, is_family, offer_of, row};
+ghost use Rattle.saw_station.specs.Serving.{is_offered, serving};
 
 use crate::offer::Offer;
+use saw_wire::Text;
+use std::alloc::{AllocError, Global};
 
 /// A family whose processor is built in.
 #[derive(Clone, Copy, Debug)]
@@ -13,19 +16,69 @@ pub(crate) enum Family {
     Settings,
 }
 
+/// All of them, in the order in which a processor of them registers.
+const FAMILIES: [Family; 3] = [Family::IntKey, Family::Xo, Family::Settings];
+
+impl Family {
+    fn name(self) -> &'static str
+        ensures { result.now ≡ (row self).name }
+    {
+        match self {
+            Family::IntKey => saw_intkey::NAME,
+            Family::Xo => saw_xo::NAME,
+            Family::Settings => saw_settings::NAME,
+        }
+    }
+
+    fn version(self) -> &'static str
+        ensures { result.now ≡ (row self).version }
+    {
+        match self {
+            Family::IntKey => saw_intkey::VERSION,
+            Family::Xo => saw_xo::VERSION,
+            Family::Settings => saw_settings::VERSION,
+        }
+    }
+
+    fn is(self, family: &str, version: &str) -> bool
+        ensures { result ≡ is_family (row self).name (row self).version family.now version.now }
+    {
+        family == self.name() && version == self.version()
+    }
+
+    fn offer(self, alloc: Global) -> Result<Offer, AllocError>
+        ensures { IfOk result (λ offer. offer ≡ offer_of (row self)) }
+    {
+        Ok(Offer {
+            family: Text::from_str(alloc, self.name())?,
+            version: Text::from_str(alloc, self.version())?,
+        })
+    }
+}
+
 /// The family of this name and version. `None`: it is not built in.
 pub(crate) fn family_of(family: &str, version: &str) -> Option<Family>
-    ensures { result ≡ family_of family.now version.now }
+    ensures { option_map row result ≡ family_of family.now version.now }
 {
-    if saw_intkey::serves(family, version) {
-        Some(Family::IntKey)
-    } else if saw_xo::serves(family, version) {
-        Some(Family::Xo)
-    } else if saw_settings::serves(family, version) {
-        Some(Family::Settings)
-    } else {
-        None
+    let all: &[Family] = &FAMILIES;
+    for one in all {
+        if one.is(family, version) {
+            return Some(*one);
+        }
     }
+    None
+}
+
+/// What a processor of all built-in families registers.
+pub fn built_in_offers(alloc: Global) -> Result<Vec<Offer>, AllocError>
+    ensures { IfOk result (λ offers. offers.items ≡ map offer_of families) }
+{
+    let mut offers = Vec::new(alloc);
+    let all: &[Family] = &FAMILIES;
+    for one in all {
+        offers.push(one.offer(alloc)?)?;
+    }
+    Ok(offers)
 }
 
 /// Who answers for a transaction.

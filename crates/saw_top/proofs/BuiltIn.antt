@@ -17,7 +17,8 @@ use Rattle.saw_plan.specs.BatchShapes.{txs_of}
 use Rattle.saw_receipts.specs.Shapes.{batch_in}
 use Rattle.saw_report.specs.declared.run_fault.RunFault.{RunFault}
 use Rattle.saw_station.proofs.Finished.{processors_own}
-use Rattle.saw_station.specs.Serving.{family_of, processors_at}
+use Rattle.saw_station.specs.Families.{family_of}
+use Rattle.saw_station.specs.Serving.{processors_at}
 use Rattle.saw_station.specs.declared.offer.Offer.{Offer}
 use Rattle.saw_top.specs.Answers.{Prepared}
 use Rattle.saw_top.specs.BuiltInLaws.{BuiltInTell}

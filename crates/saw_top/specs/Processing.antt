@@ -1,5 +1,6 @@
 -- What a processor of the built-in families makes of its words and of its link.
-use Rattle.std.specs.Prelude.{◌≡◌, ℕ, List, [], ◌∷◌, Option, Result, Ok, Err, codes}
+use Rattle.std.specs.Prelude.{◌≡◌, ℕ, List, map, Option, Result, Ok, Err}
+use Rattle.saw_station.specs.Families.{families, offer_of}
 use Rattle.saw_station.specs.declared.offer.Offer.{Offer}
 use Rattle.saw_link.specs.declared.passed.Passed.{Passed}
 use Rattle.saw_tpside.specs.ProcessorConversation.{starting}
@@ -11,11 +12,7 @@ use Rattle.saw_top.specs.declared.opening.Wish.TheVariants.{Plain, Listen, Conne
 
 -- what it registers
 abbrev pub family_offers : List Offer
-family_offers =
-    record { family = codes "intkey"; version = codes "1.0" }
-    ∷ record { family = codes "xo"; version = codes "1.0" }
-    ∷ record { family = codes "sawtooth_settings"; version = codes "1.0" }
-    ∷ []
+family_offers = map offer_of families
 
 abbrev pub status_of : Result ℕ TpFault → ℕ
 status_of (Ok number) = 0

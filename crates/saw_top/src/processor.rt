@@ -1,6 +1,6 @@
 //! A processor of the built-in families, at the other end of a link.
 
-ghost use Rattle.std.specs.Prelude.{◌≡◌, ◌≤◌, map, string_bytes, IfOk};
+ghost use Rattle.std.specs.Prelude.{◌≡◌, ◌≤◌, map, string_bytes};
 ghost use Rattle.saw_top.specs.Opening.{opened_of};
 ghost use Rattle.saw_top.specs.Processing.{HasProcessed, family_offers, status_of};
 ghost use Rattle.saw_tpside.specs.ProcessorConversation.{starting};
@@ -9,39 +9,19 @@ ghost use Rattle.saw_tpside.specs.ServedLinks.{HasServed};
 use crate::opening::{Wish, listen_wish};
 use crate::status::Status;
 use saw_link::Link;
-use saw_station::Offer;
+use saw_station::built_in_offers;
 use saw_tpside::{TpFault, serve_link};
-use saw_wire::Text;
-use std::alloc::{AllocError, Global};
+use std::alloc::Global;
 use std::sync::Wait;
 
 /// The version of the link that is asked for.
 const VERSION: u32 = 2;
 
-fn offer(alloc: Global, family: &str, version: &str) -> Result<Offer, AllocError>
-    ensures { IfOk result (λ offer. offer ≡ record { family = family.now; version = version.now }) }
-{
-    Ok(Offer {
-        family: Text::from_str(alloc, family)?,
-        version: Text::from_str(alloc, version)?,
-    })
-}
-
-fn family_offers(alloc: Global) -> Result<Vec<Offer>, AllocError>
-    ensures { IfOk result (λ offers. offers.items ≡ family_offers) }
-{
-    let mut offers = Vec::new(alloc);
-    offers.push(offer(alloc, "intkey", "1.0")?)?;
-    offers.push(offer(alloc, "xo", "1.0")?)?;
-    offers.push(offer(alloc, "sawtooth_settings", "1.0")?)?;
-    Ok(offers)
-}
-
 fn serve<L: Link, R: Wait>(rt: &R, alloc: Global, link: &mut L) -> Result<u64, TpFault>
     ensures served { HasServed (starting family_offers 2) result (L.told link.old) (L.told link.new) (L.faults link.old) (L.faults link.new) }
     ensures later { L.faults link.old ≤ L.faults link.new }
 {
-    let offers = family_offers(alloc)?;
+    let offers = built_in_offers(alloc)?;
     serve_link(rt, alloc, link, &offers, VERSION)
 }
 

@@ -11,8 +11,6 @@ use Rattle.saw_messages.specs.declared.talk.Action.TheVariants as actions
 use Rattle.saw_messages.specs.declared.talk.Reply.{Reply}
 use Rattle.saw_messages.specs.declared.talk.Reply.TheVariants.{Entries, Done, Unauthorized}
 use Rattle.saw_messages.specs.declared.talk.Turn.{Turn}
-use Rattle.saw_messages.specs.declared.outcome.Reason.TheVariants.{Remote}
-use Rattle.saw_messages.specs.declared.transaction.TransactionHeader.{TransactionHeader}
 use Rattle.saw_intkey.specs.Actions as intkey
 use Rattle.saw_intkey.specs.Payloads as intkeys
 use Rattle.saw_xo.specs.Actions as xo
@@ -21,20 +19,18 @@ use Rattle.saw_settings.specs.Actions.{accept_number, act, act_by, add_to, cast_
 use Rattle.saw_settings.specs.Actions.{has_none, has_voted, id_of, new_candidate, next_after, propose, propose_by, propose_number}
 use Rattle.saw_settings.specs.Actions.{propose_under, proposal_fault, put_to_vote, reject_number, vote_among, vote_by, vote_for, vote_number}
 use Rattle.saw_settings.specs.Actions.{vote_under, with_vote, write}
-use Rattle.saw_settings.specs.Keys.{approval_threshold, authorized_keys, proposals, with_value}
+use Rattle.saw_settings.specs.Keys.{address_of, approval_threshold, authorized_keys, proposals, with_value}
 use Rattle.saw_settings.specs.Messages.{setting, setting_proposal, setting_vote, settings_payload}
-use Rattle.saw_settings.specs.Replies.{Told, Due, Goes, and_then, done, done_by, entries_at, entries_told, set_to, then_do, told_by, update_of}
-use Rattle.saw_settings.specs.Replies.{value_at, value_told, written_to}
+use Rattle.saw_settings.specs.Replies.{change_of, set_to, setting_at, value_at, written_to}
+use Rattle.saw_settings.specs.Requests.{Told, Due, Goes, and_then, body_at, body_by, done, done_by, readable, then_do}
 use Rattle.saw_settings.specs.Values.{candidates_of_value, kept_text, keys_of, threshold_of}
 use Rattle.saw_settings.specs.declared.candidate.SettingCandidate.{SettingCandidate}
 use Rattle.saw_settings.specs.declared.payload.SettingProposal.{SettingProposal}
 use Rattle.saw_settings.specs.declared.payload.SettingVote.{SettingVote}
 use Rattle.saw_settings.specs.declared.payload.SettingsPayload.{SettingsPayload}
 use Rattle.saw_settings.specs.declared.setting.Setting.{Setting}
-use Rattle.saw_settings.specs.declared.setting.SettingEntry.{SettingEntry}
-use Rattle.saw_settings.specs.Actions as settings
-use Rattle.saw_station.specs.Serving.{is_family}
-use Rattle.saw_tpside.specs.FamilyLaws.{chosen, chosen_is}
+use Rattle.saw_station.specs.Families.{of_each}
+use Rattle.saw_station.specs.Serving.{next_of}
 use Rattle.saw_tpside.specs.ProcessorConversation.{family_action}
 
 -- the last of the replies is a refusal
@@ -105,50 +101,50 @@ and_stops : {A B : Type 0} (t : Told A) (others : A → List Reply → Told B) �
 and_stops (Due action) others stops all = stops
 and_stops (Goes told rest) others stops all = all told rest stops
 
-entries_stop : (r : List Reply) (read : Result Setting MessageFault) → EndsRefused r → Stops (entries_told r read)
-entries_stop r (Ok read) last = last
-entries_stop r (Err e) last = refl
+body_by_stops : (r : List Reply) (reply : Reply) → EndsRefused r → Stops (body_by 301 r reply)
+body_by_stops r (Entries []) last = refl
+body_by_stops r (Entries (body ∷ [])) last = last
+body_by_stops r (Entries (body ∷ second ∷ others)) last = refl
+body_by_stops r Done last = refl
+body_by_stops r (Unauthorized index) last = refl
 
-told_stops : (r : List Reply) (reply : Reply) → EndsRefused r → Stops (told_by r reply)
-told_stops r (Entries []) last = refl
-told_stops r (Entries (body ∷ [])) last = entries_stop r (setting body) last
-told_stops r (Entries (body ∷ second ∷ others)) last = refl
-told_stops r Done last = refl
-told_stops r (Unauthorized index) last = refl
+body_stops : (address : List ℕ) (r : List Reply) → EndsRefused r → Stops (body_at 301 address r)
+body_stops address [] last = absurd last
+body_stops address (x ∷ []) last = let P : Reply → Type 0 = λ x. Stops (body_by 301 [] x) in subst P (sym last) refl
+body_stops address (x ∷ y ∷ r) last = body_by_stops (y ∷ r) x last
 
-entries_at_stop : (key : List ℕ) (r : List Reply) → EndsRefused r → Stops (entries_at key r)
-entries_at_stop key [] last = absurd last
-entries_at_stop key (x ∷ []) last = let P : Reply → Type 0 = λ x. Stops (told_by [] x) in subst P (sym last) refl
-entries_at_stop key (x ∷ y ∷ r) last = told_stops (y ∷ r) x last
+read_stops : (r : List Reply) (read : Result Setting MessageFault) → EndsRefused r → Stops (readable 302 r read)
+read_stops r (Ok read) last = last
+read_stops r (Err e) last = refl
 
-value_stops : (key : List ℕ) (t : Told (List SettingEntry)) → Stops t → Stops (value_told key t)
-value_stops key (Due action) stops = stops
-value_stops key (Goes entries rest) stops = stops
+setting_stops : (key : List ℕ) (r : List Reply) → EndsRefused r → Stops (setting_at key r)
+setting_stops key r last =
+    and_stops (body_at 301 (address_of key) r) _ (body_stops (address_of key) r last) (λ body rest last. read_stops rest (setting body) last)
 
 value_at_stops : (key : List ℕ) (r : List Reply) → EndsRefused r → Stops (value_at key r)
 unfolding value_at
-value_at_stops key r last = value_stops key (entries_at key r) (entries_at_stop key r last)
+value_at_stops key r last = and_stops (setting_at key r) _ (setting_stops key r last) (λ kept rest last. last)
 
-done_by_stops : (r : List Reply) (reply : Reply) → EndsRefused r → Stops (done_by r reply)
+done_by_stops : (r : List Reply) (reply : Reply) → EndsRefused r → Stops (done_by 301 r reply)
 done_by_stops r (Entries bodies) last = refl
 done_by_stops r Done last = last
 done_by_stops r (Unauthorized index) last = refl
 
-done_stops : (action : Action) (r : List Reply) → EndsRefused r → Stops (done action r)
+done_stops : (action : Action) (r : List Reply) → EndsRefused r → Stops (done 301 action r)
 done_stops action [] last = absurd last
-done_stops action (x ∷ []) last = let P : Reply → Type 0 = λ x. Stops (done_by [] x) in subst P (sym last) refl
+done_stops action (x ∷ []) last = let P : Reply → Type 0 = λ x. Stops (done_by 301 [] x) in subst P (sym last) refl
 done_stops action (x ∷ y ∷ r) last = done_by_stops (y ∷ r) x last
 
-told_of_stops : (test : Bool) (action : Action) (r : List Reply) → EndsRefused r → Stops (cond test (Goes (tt {0}) r) (done action r))
+told_of_stops : (test : Bool) (action : Action) (r : List Reply) → EndsRefused r → Stops (cond test (Goes (tt {0}) r) (done 301 action r))
 told_of_stops true action r last = last
 told_of_stops false action r last = done_stops action r last
 
 written_stops : (key value : List ℕ) (r : List Reply) → EndsRefused r → Stops (written_to key value r)
 unfolding written_to
 written_stops key value r last =
-    and_stops (entries_at key r) _ (entries_at_stop key r last)
-    (λ entries rest last. and_stops (done (set_to key (with_value key value entries)) rest) _ (done_stops (set_to key (with_value key value entries)) rest last)
-    (λ nothing behind last. told_of_stops _ (actions.AddEvent (update_of key)) behind last))
+    and_stops (setting_at key r) _ (setting_stops key r last)
+    (λ kept rest last. and_stops (done 301 (set_to key (with_value key value kept.entries)) rest) _ (done_stops (set_to key (with_value key value kept.entries)) rest last)
+    (λ nothing behind last. told_of_stops _ (actions.AddEvent (change_of key)) behind last))
 
 write_ends : (key value : List ℕ) (r : List Reply) → EndsRefused r → IsEnd (write key value r)
 write_ends key value r last = then_stops (written_to key value r) _ (written_stops key value r last) (λ nothing rest last. refl)
@@ -253,19 +249,14 @@ settings_end signer payload r last = then_stops (value_at authorized_keys r) _ (
 
 -- ---- all of them
 
-chosen_ends : (header : TransactionHeader) (payload : List ℕ) (turns : List Turn) → EndsRefused (map (λ turn. turn.reply) turns)
-    → IsEnd (chosen header payload turns)
-chosen_ends header payload turns last =
-    let replies = map (λ (turn : Turn). turn.reply) turns in
-    either (is_family intkey.family_name intkey.family_version header.family_name header.family_version) (intkey.next payload turns) _
-    (intkey_ends payload replies last)
-    (either (is_family xo.family_name xo.family_version header.family_name header.family_version) (xo.next header.signer_public_key payload turns) _
-    (xo_ends header.signer_public_key payload replies last)
-    (either (is_family settings.family_name settings.family_version header.family_name header.family_version)
-    (settings.next header.signer_public_key payload turns) (actions.Invalid Remote) (settings_end header.signer_public_key payload replies last) refl))
-
 -- the families end a transaction at the first refusal
 pub family_ends : (tx : TxShape) (turns : List Turn) (turn : Turn) → turn.reply ≡ Unauthorized 0 → is_request (family_action tx (turns ++ turn ∷ [])) ≡ false
 unfolding family_action
 family_ends tx turns turn is =
-    subst IsEnd (sym (chosen_is tx (turns ++ turn ∷ []))) (chosen_ends tx.header tx.payload (turns ++ turn ∷ []) (ends_refused turns turn is))
+    let signer = tx.header.signer_public_key in
+    let payload = tx.payload in
+    let all = turns ++ turn ∷ [] in
+    let replies = map (λ (turn : Turn). turn.reply) all in
+    let last = ends_refused turns turn is in
+    of_each (λ family. IsEnd (next_of signer payload all family)) refl tx.header.family_name tx.header.family_version
+    (intkey_ends payload replies last, (xo_ends signer payload replies last, (settings_end signer payload replies last, tt)))

@@ -1,9 +1,7 @@
 -- The families' next actions, as a station hears them.
-use Rattle.std.proofs.Common.{◌≡◌, ℕ, Bool, true, false, List, [], ◌∷◌, map, Result, Ok, Err, refl, sym, ap, ◌∙◌}
-use Rattle.std.specs.Prelude.{if◌then◌else◌}
+use Rattle.std.proofs.Common.{◌≡◌, ℕ, Bool, true, false, List, [], ◌∷◌, map, Result, Ok, Err, refl, ap, ap₂}
 use Rattle.saw_messages.specs.Reasons.{has_own_reason}
 use Rattle.saw_messages.specs.TxShapes.{TxShape}
-use Rattle.saw_messages.specs.declared.outcome.Reason.TheVariants.{Remote}
 use Rattle.saw_messages.specs.declared.talk.Action.{Action}
 use Rattle.saw_messages.specs.declared.talk.Action.TheVariants as actions
 use Rattle.saw_messages.specs.declared.talk.Reply.{Reply}
@@ -15,8 +13,8 @@ use Rattle.saw_intkey.specs.Payloads as intkeys
 use Rattle.saw_xo.specs.Actions as xo
 use Rattle.saw_xo.specs.Payloads as xos
 use Rattle.saw_link.specs.Alike.{AreAlike}
-use Rattle.saw_settings.specs.Actions as settings
-use Rattle.saw_station.specs.Serving.{built_in_next, built_in_own, is_family}
+use Rattle.saw_station.specs.Families.{family_of, of_each}
+use Rattle.saw_station.specs.Serving.{built_in_next, built_in_own, next_of}
 use Rattle.saw_tpside.specs.ProcessorConversation.{family_action}
 use Rattle.saw_tpside.specs.FamilyPeers.{as_remote, family_next}
 use Rattle.saw_tpside.specs.RepliesAlike.{Alike, alike_replies, reply_same}
@@ -62,53 +60,20 @@ xo_same signer payload (x ∷ []) (y ∷ z ∷ s) are = absurd are.1
 xo_same signer payload (x ∷ z ∷ r) (y ∷ []) are = absurd are.1
 xo_same signer payload (x ∷ z ∷ r) (y ∷ w ∷ s) are = reply_same xo.after_change (λ i j. refl) z w are.1.0
 
--- the action of the family that a header names
-abbrev pub chosen : TransactionHeader → List ℕ → List Turn → Action
-chosen header payload turns =
-    if is_family intkey.family_name intkey.family_version header.family_name header.family_version then intkey.next payload turns
-    else if is_family xo.family_name xo.family_version header.family_name header.family_version then xo.next header.signer_public_key payload turns
-    else if is_family settings.family_name settings.family_version header.family_name header.family_version then settings.next header.signer_public_key payload turns
-    else actions.Invalid Remote
-
-chosen_by : (tx : TxShape) (turns : List Turn) (first second third : Bool)
-    → is_family intkey.family_name intkey.family_version tx.header.family_name tx.header.family_version ≡ first
-    → is_family xo.family_name xo.family_version tx.header.family_name tx.header.family_version ≡ second
-    → is_family settings.family_name settings.family_version tx.header.family_name tx.header.family_version ≡ third
-    → built_in_next tx turns ≡ chosen tx.header tx.payload turns
-chosen_by tx turns true second third a b c = rw a refl
-chosen_by tx turns false true third a b c = rw (a, b) refl
-chosen_by tx turns false false true a b c = rw (a, b, c) refl
-chosen_by tx turns false false false a b c = rw (a, b, c) refl
-
--- it is the next action of all three
-pub chosen_is : (tx : TxShape) (turns : List Turn) → built_in_next tx turns ≡ chosen tx.header tx.payload turns
-chosen_is tx turns = chosen_by tx turns _ _ _ refl refl refl
-
 -- the families look at the header and the payload alone
 pub next_parts : (tx other : TxShape) (turns : List Turn) → tx.header ≡ other.header → tx.payload ≡ other.payload → family_next tx turns ≡ family_next other turns
 unfolding family_action
 next_parts tx other turns header payload =
-    ap as_remote (chosen_is tx turns ∙ ap (λ (h : TransactionHeader). chosen h tx.payload turns) header
-    ∙ ap (λ (p : List ℕ). chosen other.header p turns) payload ∙ sym (chosen_is other turns))
-
-either_same : (test : Bool) (x y p q : Action) → x ≡ p → y ≡ q → (if test then x else y) ≡ (if test then p else q)
-either_same true x y p q first second = first
-either_same false x y p q first second = second
-
-chosen_alike : (header : TransactionHeader) (payload : List ℕ) (turns others : List Turn) → AreAlike turns others
-    → chosen header payload turns ≡ chosen header payload others
-chosen_alike header payload turns others are =
-    let replies = alike_replies turns others are in
-    either_same (is_family intkey.family_name intkey.family_version header.family_name header.family_version) _ _ _ _
-    (intkey_same payload _ _ replies)
-    (either_same (is_family xo.family_name xo.family_version header.family_name header.family_version) _ _ _ _
-    (xo_same header.signer_public_key payload _ _ replies)
-    (either_same (is_family settings.family_name settings.family_version header.family_name header.family_version) _ _ _ _
-    (settings_same header.signer_public_key payload _ _ replies) refl))
+    ap as_remote (ap₂ (λ (h : TransactionHeader) (p : List ℕ). next_of h.signer_public_key p turns (family_of h.family_name h.family_version)) header payload)
 
 -- the built-in families' next actions do not depend on the index of a place that is not declared
 pub built_in_alike : (tx : TxShape) (turns others : List Turn) → AreAlike turns others → built_in_next tx turns ≡ built_in_next tx others
-built_in_alike tx turns others are = chosen_is tx turns ∙ chosen_alike tx.header tx.payload turns others are ∙ sym (chosen_is tx others)
+built_in_alike tx turns others are =
+    let replies = alike_replies turns others are in
+    let signer = tx.header.signer_public_key in
+    let payload = tx.payload in
+    of_each (λ family. next_of signer payload turns family ≡ next_of signer payload others family) refl tx.header.family_name tx.header.family_version
+    (intkey_same payload _ _ replies, (xo_same signer payload _ _ replies, (settings_same signer payload _ _ replies, tt)))
 
 pub family_alike : (tx : TxShape) (turns others : List Turn) → AreAlike turns others → family_next tx turns ≡ family_next tx others
 unfolding family_action

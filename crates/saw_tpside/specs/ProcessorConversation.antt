@@ -11,7 +11,8 @@ use Rattle.saw_messages.specs.declared.talk.Action.TheVariants as actions
 use Rattle.saw_messages.specs.declared.talk.Reply.{Reply}
 use Rattle.saw_messages.specs.declared.talk.Reply.TheVariants.{Entries, Done, Unauthorized}
 use Rattle.saw_messages.specs.declared.talk.Turn.{Turn}
-use Rattle.saw_station.specs.Serving.{built_in_next, family_of}
+use Rattle.saw_station.specs.Families.{family_of}
+use Rattle.saw_station.specs.Serving.{built_in_next}
 use Rattle.saw_station.specs.declared.offer.Offer.{Offer}
 use Rattle.saw_link.specs.SentFrames.{limit_of, stated}
 use Rattle.saw_link.specs.declared.passed.Passed.{Passed}

@@ -14,17 +14,16 @@ use Rattle.saw_settings.specs.Actions.{accept_number, act, act_by, add_to, cast_
 use Rattle.saw_settings.specs.Actions.{has_none, has_voted, id_of, new_candidate, next_after, propose, propose_by, propose_number}
 use Rattle.saw_settings.specs.Actions.{propose_under, proposal_fault, put_to_vote, reject_number, vote_among, vote_by, vote_for, vote_number}
 use Rattle.saw_settings.specs.Actions.{vote_under, with_vote, write}
-use Rattle.saw_settings.specs.Keys.{approval_threshold, authorized_keys, proposals, with_value}
+use Rattle.saw_settings.specs.Keys.{address_of, approval_threshold, authorized_keys, proposals, with_value}
 use Rattle.saw_settings.specs.Messages.{setting, setting_proposal, setting_vote, settings_payload}
-use Rattle.saw_settings.specs.Replies.{Told, Due, Goes, and_then, done, done_by, entries_at, entries_told, set_to, then_do, told_by, update_of}
-use Rattle.saw_settings.specs.Replies.{value_at, value_told, written_to}
+use Rattle.saw_settings.specs.Replies.{change_of, set_to, setting_at, value_at, written_to}
+use Rattle.saw_settings.specs.Requests.{Told, Due, Goes, and_then, body_at, body_by, done, done_by, readable, then_do}
 use Rattle.saw_settings.specs.Values.{candidates_of_value, kept_text, keys_of, threshold_of}
 use Rattle.saw_settings.specs.declared.candidate.SettingCandidate.{SettingCandidate}
 use Rattle.saw_settings.specs.declared.payload.SettingProposal.{SettingProposal}
 use Rattle.saw_settings.specs.declared.payload.SettingVote.{SettingVote}
 use Rattle.saw_settings.specs.declared.payload.SettingsPayload.{SettingsPayload}
 use Rattle.saw_settings.specs.declared.setting.Setting.{Setting}
-use Rattle.saw_settings.specs.declared.setting.SettingEntry.{SettingEntry}
 use Rattle.saw_tpside.specs.RepliesAlike.{Alike, reply_same}
 
 either_same : (test : Bool) (x y p q : Action) → x ≡ p → y ≡ q → cond test x y ≡ cond test p q
@@ -56,46 +55,44 @@ and_same {A} (Goes v r) (Goes w s) others same all =
     let P : A → Type 0 = λ x. Same (others v r) (others x s) in
     subst P same.0 (all v r s same.1)
 
-entries_same : (r s : List Reply) (read : Result Setting MessageFault) → Alike r s → Same (entries_told r read) (entries_told s read)
-entries_same r s (Ok read) are = (refl, are)
-entries_same r s (Err e) are = refl
+body_rest : (r s : List Reply) (reply : Reply) → Alike r s → Same (body_by 301 r reply) (body_by 301 s reply)
+body_rest r s (Entries []) are = refl
+body_rest r s (Entries (body ∷ [])) are = (refl, are)
+body_rest r s (Entries (body ∷ second ∷ others)) are = refl
+body_rest r s Done are = refl
+body_rest r s (Unauthorized index) are = refl
 
-told_rest : (r s : List Reply) (reply : Reply) → Alike r s → Same (told_by r reply) (told_by s reply)
-told_rest r s (Entries []) are = refl
-told_rest r s (Entries (body ∷ [])) are = entries_same r s (setting body) are
-told_rest r s (Entries (body ∷ second ∷ others)) are = refl
-told_rest r s Done are = refl
-told_rest r s (Unauthorized index) are = refl
+body_same : (address : List ℕ) (r s : List Reply) → Alike r s → Same (body_at 301 address r) (body_at 301 address s)
+body_same address [] [] are = refl
+body_same address [] (y ∷ s) are = absurd are
+body_same address (x ∷ r) [] are = absurd are
+body_same address (x ∷ r) (y ∷ s) are =
+    subst (Same (body_by 301 r x)) (reply_same (body_by 301 s) (λ i j. refl) x y are.0) (body_rest r s x are.1)
 
-entries_at_same : (key : List ℕ) (r s : List Reply) → Alike r s → Same (entries_at key r) (entries_at key s)
-entries_at_same key [] [] are = refl
-entries_at_same key [] (y ∷ s) are = absurd are
-entries_at_same key (x ∷ r) [] are = absurd are
-entries_at_same key (x ∷ r) (y ∷ s) are =
-    subst (λ (t : Told (List SettingEntry)). Same (told_by r x) t) (reply_same (told_by s) (λ i j. refl) x y are.0) (told_rest r s x are.1)
+read_same : (r s : List Reply) (read : Result Setting MessageFault) → Alike r s → Same (readable 302 r read) (readable 302 s read)
+read_same r s (Ok read) are = (refl, are)
+read_same r s (Err e) are = refl
 
-value_told_same : (key : List ℕ) (t u : Told (List SettingEntry)) → Same t u → Same (value_told key t) (value_told key u)
-value_told_same key (Due x) (Due y) same = same
-value_told_same key (Due x) (Goes w s) same = absurd same
-value_told_same key (Goes v r) (Due y) same = absurd same
-value_told_same key (Goes v r) (Goes w s) same =
-    subst (λ (x : List SettingEntry). Same (value_told key (Goes v r)) (value_told key (Goes x s))) same.0 (refl, same.1)
+setting_same : (key : List ℕ) (r s : List Reply) → Alike r s → Same (setting_at key r) (setting_at key s)
+setting_same key r s are =
+    and_same (body_at 301 (address_of key) r) (body_at 301 (address_of key) s) _ (body_same (address_of key) r s are)
+    (λ body r s are. read_same r s (setting body) are)
 
 value_same : (key : List ℕ) (r s : List Reply) → Alike r s → Same (value_at key r) (value_at key s)
 unfolding value_at
-value_same key r s are = value_told_same key (entries_at key r) (entries_at key s) (entries_at_same key r s are)
+value_same key r s are = and_same (setting_at key r) (setting_at key s) _ (setting_same key r s are) (λ kept r s are. (refl, are))
 
-done_rest : (r s : List Reply) (reply : Reply) → Alike r s → Same (done_by r reply) (done_by s reply)
+done_rest : (r s : List Reply) (reply : Reply) → Alike r s → Same (done_by 301 r reply) (done_by 301 s reply)
 done_rest r s (Entries bodies) are = refl
 done_rest r s Done are = (refl, are)
 done_rest r s (Unauthorized index) are = refl
 
-done_same : (action : Action) (r s : List Reply) → Alike r s → Same (done action r) (done action s)
+done_same : (action : Action) (r s : List Reply) → Alike r s → Same (done 301 action r) (done 301 action s)
 done_same action [] [] are = refl
 done_same action [] (y ∷ s) are = absurd are
 done_same action (x ∷ r) [] are = absurd are
 done_same action (x ∷ r) (y ∷ s) are =
-    subst (Same (done_by r x)) (reply_same (done_by s) (λ i j. refl) x y are.0) (done_rest r s x are.1)
+    subst (Same (done_by 301 r x)) (reply_same (done_by 301 s) (λ i j. refl) x y are.0) (done_rest r s x are.1)
 
 either_told : {A : Type 0} (test : Bool) (x y p q : Told A) → Same x p → Same y q → Same (cond test x y) (cond test p q)
 either_told true x y p q first second = first
@@ -104,11 +101,11 @@ either_told false x y p q first second = second
 written_same : (key value : List ℕ) (r s : List Reply) → Alike r s → Same (written_to key value r) (written_to key value s)
 unfolding written_to
 written_same key value r s are =
-    and_same (entries_at key r) (entries_at key s) _ (entries_at_same key r s are) (λ entries r s are.
-    and_same (done (set_to key (with_value key value entries)) r) (done (set_to key (with_value key value entries)) s) _
-    (done_same (set_to key (with_value key value entries)) r s are) (λ nothing r s are.
-    either_told (bytes_eq key proposals) (Goes tt r) (done (actions.AddEvent (update_of key)) r) (Goes tt s) (done (actions.AddEvent (update_of key)) s) (refl, are)
-    (done_same (actions.AddEvent (update_of key)) r s are)))
+    and_same (setting_at key r) (setting_at key s) _ (setting_same key r s are) (λ kept r s are.
+    and_same (done 301 (set_to key (with_value key value kept.entries)) r) (done 301 (set_to key (with_value key value kept.entries)) s) _
+    (done_same (set_to key (with_value key value kept.entries)) r s are) (λ nothing r s are.
+    either_told (bytes_eq key proposals) (Goes tt r) (done 301 (actions.AddEvent (change_of key)) r) (Goes tt s) (done 301 (actions.AddEvent (change_of key)) s) (refl, are)
+    (done_same (actions.AddEvent (change_of key)) r s are)))
 
 write_same : (key value : List ℕ) (r s : List Reply) → Alike r s → write key value r ≡ write key value s
 write_same key value r s are = then_same (written_to key value r) (written_to key value s) _ (written_same key value r s are) (λ nothing r s are. refl)

@@ -1,8 +1,7 @@
 //! The next action of the family.
 
-ghost use Rattle.std.specs.Prelude.{◌≡◌, ◌&&◌, IfOk};
-ghost use Rattle.std.specs.Str.{bytes_eq};
-ghost use Rattle.saw_xo.specs.Actions.{RepliesDecide, ReasonsAreOwn, address_of, after_change, after_get, asked, changed_in, changing, family_name, family_version, next};
+ghost use Rattle.std.specs.Prelude.{◌≡◌, IfOk};
+ghost use Rattle.saw_xo.specs.Actions.{RepliesDecide, ReasonsAreOwn, address_of, after_change, after_get, asked, changed_in, changing, next};
 ghost use Rattle.saw_xo.specs.Changes.{set_or_delete};
 ghost use Rattle.saw_xo.specs.Games.{games_of};
 ghost use Rattle.saw_xo.specs.Maps.{seen};
@@ -16,6 +15,12 @@ use saw_messages::{Action, Reply, Transcript, Tx};
 use sha2::{Digest, Sha512};
 use std::alloc::{AllocError, Global};
 
+/// The family's name, as a transaction states it.
+pub const NAME: &str = "xo";
+
+/// The family's version, as a transaction states it.
+pub const VERSION: &str = "1.0";
+
 /// The first bytes of each address of the family.
 const FAMILY_BYTES: [u8; 3] = [0x5b, 0x73, 0x49];
 
@@ -24,13 +29,6 @@ const REFUSED: u16 = 205;
 
 /// What is kept at the address are no games.
 const NO_GAMES: u16 = 206;
-
-/// Whether the family serves transactions of this family name and version.
-pub fn serves(family: &str, version: &str) -> bool
-    ensures { result ≡ (bytes_eq family.now family_name && bytes_eq version.now family_version) }
-{
-    family == "xo" && version == "1.0"
-}
 
 /// Where a name is kept: three bytes of the family, then the first 32 bytes of SHA-512 of the name.
 pub fn address_of(name: &str) -> Address

@@ -9,5 +9,5 @@ mod moves;
 mod parts;
 mod payload;
 
-pub use action::{address_of, reasons_are_own, replies_decide, serves, step};
+pub use action::{NAME, VERSION, address_of, reasons_are_own, replies_decide, step};
 pub use laws::kept_is_read;

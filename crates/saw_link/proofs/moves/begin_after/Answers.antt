@@ -1,5 +1,5 @@
 use Rattle.std.proofs.Common.{◌≡◌, ◌⊎◌, inr, rules, refl, ◌∙◌}
-use Rattle.saw_link.specs.Copies.{kept_tx}
+use Rattle.saw_station.specs.Copies.{kept_tx}
 use Rattle.saw_link.specs.LinkConversation.{Begins, Refuses}
 use Rattle.saw_link.proofs.LinkRuns.{closed_none, spelled_ran}
 use Rattle.saw_link.proofs.Steps.{ok_map}

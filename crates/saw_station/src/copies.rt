@@ -1,7 +1,7 @@
 //! Copies of what a step was given and of what it answered.
 
 ghost use Rattle.std.specs.Prelude.{◌≡◌, IfOk};
-ghost use Rattle.saw_link.specs.Copies.{kept_tx};
+ghost use Rattle.saw_station.specs.Copies.{kept_tx};
 ghost use Rattle.saw_messages.specs.TxShapes.{shape_in};
 
 use saw_messages::{Action, Entry, Place, Reply, Transaction, Turn, Tx};
@@ -9,7 +9,7 @@ use saw_wire::{Bytes, Items};
 use std::alloc::{AllocError, Global};
 
 /// The transaction as it stands in a batch.
-pub(crate) fn copy_tx(alloc: Global, tx: &Tx) -> Result<Transaction, AllocError>
+pub fn copy_tx(alloc: Global, tx: &Tx) -> Result<Transaction, AllocError>
     ensures kept { IfOk result (λ made. made ≡ kept_tx tx.now) }
     ensures shape { IfOk result (λ made. shape_in made ≡ tx.now) }
 {
@@ -54,7 +54,7 @@ fn copy_bodies(alloc: Global, bodies: &[Bytes]) -> Result<Items<Bytes>, AllocErr
 }
 
 /// A copy of the whole.
-pub(crate) fn copy_action(alloc: Global, action: &Action) -> Result<Action, AllocError>
+pub fn copy_action(alloc: Global, action: &Action) -> Result<Action, AllocError>
     ensures { IfOk result (λ made. made ≡ action.now) }
 {
     match action {
@@ -68,7 +68,7 @@ pub(crate) fn copy_action(alloc: Global, action: &Action) -> Result<Action, Allo
 }
 
 /// A copy of the whole.
-pub(crate) fn copy_reply(alloc: Global, reply: &Reply) -> Result<Reply, AllocError>
+pub fn copy_reply(alloc: Global, reply: &Reply) -> Result<Reply, AllocError>
     ensures { IfOk result (λ made. made ≡ reply.now) }
 {
     match reply {
@@ -76,4 +76,18 @@ pub(crate) fn copy_reply(alloc: Global, reply: &Reply) -> Result<Reply, AllocErr
         Reply::Done => Ok(Reply::Done),
         Reply::Unauthorized { index } => Ok(Reply::Unauthorized { index: *index }),
     }
+}
+
+/// A copy of the whole.
+pub fn copy_turns(alloc: Global, turns: &[Turn]) -> Result<Items<Turn>, AllocError>
+    ensures { IfOk result (λ made. made ≡ turns.now) }
+{
+    let mut made = Items::new(alloc);
+    for turn in turns {
+        made.push(Turn {
+            action: copy_action(alloc, &turn.action)?,
+            reply: copy_reply(alloc, &turn.reply)?,
+        })?;
+    }
+    Ok(made)
 }
