@@ -11,7 +11,7 @@ use saw_address::Base;
 use saw_checks::PolicyFault;
 use saw_messages::TxBatch;
 use saw_receipts::LossCause;
-use saw_rules::BlockPolicy;
+use saw_rules::{BlockPolicy, judge_next};
 use saw_wire::{Bytes, Items};
 use std::alloc::{AllocError, Global};
 
@@ -35,7 +35,7 @@ fn policy_fates<P: BlockPolicy, B: Base>(
     let mut course = P::begin(alloc, parent, signer)?;
     let mut fates = Items::new(alloc);
     for batch in batches {
-        let found = course.judge_next(alloc, batch)?;
+        let found = judge_next(&mut course, alloc, parent, batch)?;
         fates.push(fate_of(found))?;
     }
     Ok(fates)

@@ -22,11 +22,3 @@ pub counts_more : (txs : List TxShape) (rules : List Rule) (made : List ℕ) (i 
     → made ≡ map (count_for txs) (take i rules) → n ≡ count_for txs rule → made ++ n ∷ [] ≡ map (count_for txs) (take (i + 1) rules)
 counts_more txs rules made i rule n more here so_far is =
     rw (take_more rules i rule more, ← here, so_far, is) (sym (map-append (count_for txs) (take i rules) (rule ∷ [])))
-
--- a sum at the limit is above each number of a rule
-pub capped : (n sum : ℕ) → n < 2 ^ 32 → ltb n (min sum (2 ^ 64 - 1)) ≡ ltb n sum
-capped n sum small = go (ltb n sum) refl
-  where
-    go : (b : Bool) → ltb n sum ≡ b → ltb n (min sum (2 ^ 64 - 1)) ≡ ltb n sum
-    go true is = lt-ltb n (min sum (2 ^ 64 - 1)) (omega (arith, ltb-true n sum is)) ∙ sym is
-    go false is = le-ltb n (min sum (2 ^ 64 - 1)) (omega (arith, ltb-false n sum is)) ∙ sym is

@@ -6,3 +6,4 @@ pub mod Search
 pub mod Counted
 pub mod Standing
 pub mod Unread
+pub mod Alike

@@ -1,12 +1,12 @@
 //! The tests of a batch behind earlier ones, and of a whole block.
 
-ghost use Rattle.std.specs.Prelude.{◌≡◌, List, ℕ, length, map, not, option_map, position, IfOk};
+ghost use Rattle.std.specs.Prelude.{◌≡◌, ◌++◌, List, ℕ, length, map, not, option_map, position, true, IfOk};
 ghost use Rattle.std.specs.Arc.{arc_value};
 ghost use Rattle.saw_messages.specs.TxShapes.{TxShape};
 ghost use Rattle.saw_rules.specs.OnChainRules.{at_number, at_place, family_fault, is_allowed, is_broken, is_missed, is_of_other, is_other_at, missed_fault, rule_fault};
-ghost use Rattle.saw_rules.specs.Courses.{count_for};
+ghost use Rattle.saw_rules.specs.Courses.{are_alike, count_for};
 
-use crate::counting::{count_at, how_many, is_of};
+use crate::counting::{count_at, is_of};
 use crate::families::Family;
 use crate::policy::small;
 use crate::rule::Rule;
@@ -26,26 +26,54 @@ fn is_allowed(families: &[Family], tx: &Tx) -> bool
     })
 }
 
-/// The first transaction of another family than the allowed ones.
+fn first_other(families: &[Family], txs: &[Arc<Tx>]) -> Option<usize>
+    ensures { result ≡ position (λ tx. not (is_allowed families.now tx)) (map arc_value txs.now) }
+{
+    txs.iter().position(|tx| !is_allowed(families, tx))
+}
+
+/// The same of transactions that are all alike.
+fn first_if_other(families: &[Family], txs: &[Arc<Tx>]) -> Option<usize>
+    requires { are_alike (map arc_value txs.now) ≡ true }
+    ensures { result ≡ position (λ tx. not (is_allowed families.now tx)) (map arc_value txs.now) }
+{
+    match txs.first() {
+        Some(first) => if is_allowed(families, first) {
+            None
+        } else {
+            Some(0)
+        },
+        None => None,
+    }
+}
+
+fn other_in(families: &[Family], txs: &[Arc<Tx>], alike: bool) -> Option<usize>
+    requires { alike ≡ true → are_alike (map arc_value txs.now) ≡ true }
+    ensures { result ≡ position (λ tx. not (is_allowed families.now tx)) (map arc_value txs.now) }
+{
+    if alike {
+        first_if_other(families, txs)
+    } else {
+        first_other(families, txs)
+    }
+}
+
+/// The first transaction of another family than the allowed ones. Of transactions that are alike one is asked for all.
 pub(crate) fn family_fault(
     families: &Option<Items<Family>>,
     txs: &[Arc<Tx>],
+    alike: bool,
 ) -> Result<Option<PolicyFault>, AllocError>
+    requires { alike ≡ true → are_alike (map arc_value txs.now) ≡ true }
     ensures { IfOk result (λ found. found ≡ family_fault families.now (map arc_value txs.now)) }
 {
     let Some(families) = families else {
         return Ok(None);
     };
-    match first_other(families.as_slice(), txs) {
+    match other_in(families.as_slice(), txs, alike) {
         Some(t) => Ok(Some(PolicyFault::Family { t: small(t)? })),
         None => Ok(None),
     }
-}
-
-fn first_other(families: &[Family], txs: &[Arc<Tx>]) -> Option<usize>
-    ensures { result ≡ position (λ tx. not (is_allowed families.now tx)) (map arc_value txs.now) }
-{
-    txs.iter().position(|tx| !is_allowed(families, tx))
 }
 
 // ---- rules
@@ -81,15 +109,13 @@ fn is_of_other(signer: &str, earlier: usize, txs: &[Arc<Tx>], index: u32) -> boo
     }
 }
 
-/// Whether a batch breaks a rule that has counted so many transactions.
+/// Whether a batch breaks a rule, which counts so many transactions to its end.
 fn is_broken(rule: &Rule, count: usize, signer: &str, earlier: usize, txs: &[Arc<Tx>]) -> bool
-    ensures { (before : List TxShape) → count ≡ count_for before rule.now → earlier ≡ length before
-        → result ≡ is_broken signer.now before (map arc_value txs.now) rule.now }
+    ensures { (before : List TxShape) → count ≡ count_for (before ++ map arc_value txs.now) rule.now
+        → earlier ≡ length before → result ≡ is_broken signer.now before (map arc_value txs.now) rule.now }
 {
     match rule {
-        Rule::NofX { n, family } => {
-            (*n as usize) < count.saturating_add(how_many(family.as_str(), txs))
-        }
+        Rule::NofX { n, family: _ } => (*n as usize) < count,
         Rule::XatY { family, position } => is_other_at(family.as_str(), earlier, txs, *position),
         Rule::Local { indices } => indices
             .as_slice()
@@ -105,7 +131,8 @@ fn first_broken(
     earlier: usize,
     txs: &[Arc<Tx>],
 ) -> Option<usize>
-    ensures { (before : List TxShape) → counts.now ≡ map (count_for before) rules.now → earlier ≡ length before
+    ensures { (before : List TxShape) → counts.now ≡ map (count_for (before ++ map arc_value txs.now)) rules.now
+        → earlier ≡ length before
         → result ≡ position (is_broken signer.now before (map arc_value txs.now)) rules.now }
 {
     for (place, rule) in rules.iter().enumerate() {
@@ -116,7 +143,7 @@ fn first_broken(
     None
 }
 
-/// The first rule that a batch breaks, with the counts of the rules behind so many earlier transactions.
+/// The first rule that a batch breaks behind so many earlier transactions. The counts of the rules are those to its end.
 pub(crate) fn rule_fault(
     rules: &[Rule],
     counts: &[usize],
@@ -124,7 +151,8 @@ pub(crate) fn rule_fault(
     earlier: usize,
     txs: &[Arc<Tx>],
 ) -> Result<Option<PolicyFault>, AllocError>
-    ensures { (before : List TxShape) → counts.now ≡ map (count_for before) rules.now → earlier ≡ length before
+    ensures { (before : List TxShape) → counts.now ≡ map (count_for (before ++ map arc_value txs.now)) rules.now
+        → earlier ≡ length before
         → IfOk result (λ found. found ≡ rule_fault rules.now signer.now before (map arc_value txs.now)) }
 {
     match first_broken(rules, counts, signer, earlier, txs) {

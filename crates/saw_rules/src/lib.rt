@@ -12,5 +12,5 @@ mod rule;
 pub use families::{Family, families_of};
 pub use laws::{none_are_passed, nothing_read_refuses_nothing, zero_is_broken};
 pub use onchain::OnChainRules;
-pub use policy::{BlockPolicy, NoPolicy, Placed, first_fault};
+pub use policy::{BlockPolicy, NoPolicy, Placed, first_fault, judge_next};
 pub use rule::{Rule, rules_of};

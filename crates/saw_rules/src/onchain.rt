@@ -1,15 +1,14 @@
 //! The policy of the settings on families and on blocks.
 
-ghost use Rattle.std.specs.Prelude.{◌≡◌, ◌++◌, ◌∷◌, [], List, ℕ, map, option_copied, IfOk, OnOk, OnErr};
+ghost use Rattle.std.specs.Prelude.{◌≡◌, ◌++◌, ◌∷◌, [], List, ℕ, map, option_copied, true, IfOk, OnOk};
 ghost use Rattle.std.specs.Arc.{arc_value};
-ghost use Rattle.std.specs.Option.{option_or};
 ghost use Rattle.saw_address.specs.Maps.{StateMap, value_at};
 ghost use Rattle.saw_settings.specs.Keys.{address_of};
 ghost use Rattle.saw_messages.specs.TxShapes.{BatchShape, TxShape};
-ghost use Rattle.saw_rules.specs.OnChainRules.{allowed, families_key, family_fault, listed, rule_fault, rules_in, rules_key, txs_in};
-ghost use Rattle.saw_rules.specs.Courses.{Stands};
+ghost use Rattle.saw_rules.specs.OnChainRules.{allowed, families_key, fault, listed, rules_in, rules_key, txs_in};
+ghost use Rattle.saw_rules.specs.Courses.{Looked, Stands, are_alike, count_for};
 
-use crate::counting::{counts_behind, no_counts};
+use crate::counting::{are_alike, counts_behind, no_counts};
 use crate::families::{Family, families_of};
 use crate::judging::{end_fault, family_fault, rule_fault};
 use crate::policy::BlockPolicy;
@@ -20,6 +19,7 @@ use saw_messages::{Tx, TxBatch};
 use saw_settings::{address_of, value_by};
 use saw_wire::{Items, Text};
 use std::alloc::{AllocError, Global};
+use std::mem;
 use std::sync::Arc;
 
 /// The setting that names the families that are allowed.
@@ -38,6 +38,8 @@ pub struct OnChainRules {
     txs: Vec<Arc<Tx>>,
     /// How many transactions of its family there are, for each rule `NofX`; 0 for another rule.
     counts: Vec<usize>,
+    /// The same with the batch that was looked at last.
+    next_counts: Vec<usize>,
 }
 
 // One step of a proof wherever one ends.
@@ -49,6 +51,7 @@ impl Drop for OnChainRules {
             signer: _signer,
             txs: _txs,
             counts: _counts,
+            next_counts: _next_counts,
         } = self;
     }
 }
@@ -119,20 +122,31 @@ impl OnChainRules {
             signer,
             txs: Vec::new(alloc),
             counts,
+            next_counts: Vec::new(alloc),
         })
     }
 
-    /// What is wrong with the transactions of a batch.
-    fn fault_in(&self, txs: &[Arc<Tx>]) -> Result<Option<PolicyFault>, AllocError>
+    /// The counts of the rules behind the transactions of one more batch.
+    fn counted(&self, alloc: Global, txs: &[Arc<Tx>], alike: bool) -> Result<Vec<usize>, AllocError>
+        requires { alike ≡ true → are_alike (map arc_value txs.now) ≡ true }
         ensures { (m : StateMap) (signer : List ℕ) (before : List BatchShape) → Stands self.now m signer before
-            → IfOk result (λ found. found ≡ option_or (family_fault (allowed m) (map arc_value txs.now))
-            (rule_fault (rules_in m) signer (txs_in before) (map arc_value txs.now))) }
+            → IfOk result (λ counts. counts.items ≡ map (count_for (txs_in before ++ map arc_value txs.now)) (rules_in m)) }
     {
-        match family_fault(&self.families, txs)? {
+        counts_behind(alloc, self.rules.as_slice(), &self.counts, txs, alike)
+    }
+
+    /// What is wrong with the transactions of the batch with which was counted.
+    fn fault_in(&self, txs: &[Arc<Tx>], alike: bool) -> Result<Option<PolicyFault>, AllocError>
+        requires { alike ≡ true → are_alike (map arc_value txs.now) ≡ true }
+        ensures { (m : StateMap) (signer : List ℕ) (before : List BatchShape) (batch : BatchShape)
+            → Looked self.now m signer before batch → batch.txs ≡ map arc_value txs.now
+            → IfOk result (λ found. found ≡ fault m signer before batch) }
+    {
+        match family_fault(&self.families, txs, alike)? {
             Some(fault) => Ok(Some(fault)),
             None => rule_fault(
                 self.rules.as_slice(),
-                &self.counts,
+                &self.next_counts,
                 self.signer.as_str(),
                 self.txs.len(),
                 txs,
@@ -140,19 +154,55 @@ impl OnChainRules {
         }
     }
 
-    /// Adds the transactions of a batch without a judgement. An `Err` adds nothing.
-    fn add(&mut self, alloc: Global, txs: &[Arc<Tx>]) -> Result<(), AllocError>
+    /// Counts with the transactions of the batch that is looked at. An `Err` changes nothing.
+    fn count(&mut self, alloc: Global, txs: &[Arc<Tx>], alike: bool) -> Result<(), AllocError>
+        requires { alike ≡ true → are_alike (map arc_value txs.now) ≡ true }
         ensures ok { OnOk result ((m : StateMap) (signer : List ℕ) (before : List BatchShape) (batch : BatchShape)
             → Stands self.old m signer before → batch.txs ≡ map arc_value txs.now
-            → Stands self.new m signer (before ++ batch ∷ [])) }
-        ensures err { OnErr result ((m : StateMap) (signer : List ℕ) (before : List BatchShape)
-            → Stands self.old m signer before → Stands self.new m signer before) }
+            → Looked self.new m signer before batch) }
     {
-        let counts = counts_behind(alloc, self.rules.as_slice(), &self.counts, txs)?;
+        self.next_counts = self.counted(alloc, txs, alike)?;
+        Ok(())
+    }
+
+    /// Looks at the transactions of a batch.
+    fn fault_of(
+        &mut self,
+        alloc: Global,
+        txs: &[Arc<Tx>],
+    ) -> Result<Option<PolicyFault>, AllocError>
+        ensures fault { (m : StateMap) (signer : List ℕ) (before : List BatchShape) (batch : BatchShape)
+            → Stands self.old m signer before → batch.txs ≡ map arc_value txs.now
+            → IfOk result (λ found. found ≡ fault m signer before batch) }
+        ensures looked { (m : StateMap) (signer : List ℕ) (before : List BatchShape) (batch : BatchShape)
+            → Stands self.old m signer before → batch.txs ≡ map arc_value txs.now
+            → OnOk result (Looked self.new m signer before batch) }
+    {
+        let alike = are_alike(txs);
+        self.count(alloc, txs, alike)?;
+        self.fault_in(txs, alike)
+    }
+
+    /// Adds the transactions of the batch that was looked at last.
+    fn add(&mut self, alloc: Global, txs: &[Arc<Tx>]) -> Result<(), AllocError>
+        ensures { OnOk result ((m : StateMap) (signer : List ℕ) (before : List BatchShape) (batch : BatchShape)
+            → Looked self.old m signer before batch → batch.txs ≡ map arc_value txs.now
+            → Stands self.new m signer (before ++ batch ∷ [])) }
+    {
         let mut more = shared(alloc, txs)?;
         self.txs.append(&mut more)?;
-        self.counts = counts;
+        self.counts = mem::replace(&mut self.next_counts, Vec::new(alloc));
         Ok(())
+    }
+
+    /// Adds the transactions of a batch without a judgement.
+    fn add_unjudged(&mut self, alloc: Global, txs: &[Arc<Tx>]) -> Result<(), AllocError>
+        ensures { OnOk result ((m : StateMap) (signer : List ℕ) (before : List BatchShape) (batch : BatchShape)
+            → Stands self.old m signer before → batch.txs ≡ map arc_value txs.now
+            → Stands self.new m signer (before ++ batch ∷ [])) }
+    {
+        self.count(alloc, txs, are_alike(txs))?;
+        self.add(alloc, txs)
     }
 
     /// Adds batches without a judgement. An `Err` may have added some.
@@ -160,7 +210,7 @@ impl OnChainRules {
         ensures { OnOk result ((m : StateMap) (signer : List ℕ) → Stands self.old m signer [] → Stands self.new m signer batches.now) }
     {
         for batch in batches {
-            self.add(alloc, batch.txs.as_slice())?;
+            self.add_unjudged(alloc, batch.txs.as_slice())?;
         }
         Ok(())
     }
@@ -168,7 +218,7 @@ impl OnChainRules {
 
 impl BlockPolicy for OnChainRules {
     ghost use Rattle.saw_rules.specs.OnChainRules.{fault, end_fault};
-    ghost use Rattle.saw_rules.specs.Courses.{Stands};
+    ghost use Rattle.saw_rules.specs.Courses.{Looked, Stands};
 
     ghost fault = { fault };
 
@@ -176,22 +226,25 @@ impl BlockPolicy for OnChainRules {
 
     ghost stands = { Stands };
 
+    ghost looked = { Looked };
+
     fn begin<B: Base>(alloc: Global, parent: &B, signer: &str) -> Result<Self, AllocError> {
         let families = parent.get(&address_of(FAMILIES));
         let rules = parent.get(&address_of(RULES));
         OnChainRules::read(alloc, families, rules, signer)
     }
 
-    fn judge_next(
+    fn look<B: Base>(
         &mut self,
         alloc: Global,
+        _parent: &B,
         batch: &TxBatch,
     ) -> Result<Option<PolicyFault>, AllocError> {
-        let found = self.fault_in(batch.txs.as_slice())?;
-        if found.is_none() {
-            self.add(alloc, batch.txs.as_slice())?;
-        }
-        Ok(found)
+        self.fault_of(alloc, batch.txs.as_slice())
+    }
+
+    fn pass(&mut self, alloc: Global, batch: &TxBatch) -> Result<(), AllocError> {
+        self.add(alloc, batch.txs.as_slice())
     }
 
     fn judge_all(&self) -> Result<Option<PolicyFault>, AllocError> {
@@ -209,7 +262,7 @@ impl BlockPolicy for OnChainRules {
         let rules = parent.get(&address_of(RULES));
         let mut course = OnChainRules::read(alloc, families, rules, signer)?;
         course.add_all(alloc, before)?;
-        course.fault_in(batch.txs.as_slice())
+        course.fault_of(alloc, batch.txs.as_slice())
     }
 
     fn judge_end<B: Base>(

@@ -1,6 +1,6 @@
 //! Policies that judge blocks, and the first fault by one.
 
-ghost use Rattle.std.specs.Prelude.{◌≡◌, ◌++◌, ◌∷◌, [], List, ℕ, Option, Some, None, IfOk, OnErr};
+ghost use Rattle.std.specs.Prelude.{◌≡◌, ◌++◌, ◌∷◌, [], List, ℕ, Option, Some, None, IfOk, OnOk};
 ghost use Rattle.saw_address.specs.Maps.{StateMap};
 ghost use Rattle.saw_checks.specs.declared.policy.PolicyFault.{PolicyFault};
 ghost use Rattle.saw_messages.specs.TxShapes.{BatchShape};
@@ -12,7 +12,7 @@ use saw_messages::TxBatch;
 use std::alloc::{AllocError, Global};
 
 /// What judges the batches of a block by the state of its parent. A value of it is one judgement under way: what was read
-/// of the parent, and the batches that passed so far.
+/// of the parent, and the batches that passed so far. After an `Err` of `look` or `pass` it is given up.
 pub trait BlockPolicy: Sized + Drop {
     /// What is wrong with a batch of a block by a signer, behind the batches before it, over a state.
     ghost fault: { StateMap → List ℕ → List BatchShape → BatchShape → Option PolicyFault };
@@ -23,25 +23,31 @@ pub trait BlockPolicy: Sized + Drop {
     /// Judges over this state, for this signer, behind these batches.
     ghost stands: { Self → StateMap → List ℕ → List BatchShape → Type 0 };
 
-    /// Begins the judgement of a block. The parent's state is read here alone.
+    /// The same, and nothing is wrong with this batch, which was looked at last.
+    ghost looked: { Self → StateMap → List ℕ → List BatchShape → BatchShape → Type 0 };
+
+    /// Begins the judgement of a block.
     fn begin<B: Base>(alloc: Global, parent: &B, signer: &str) -> Result<Self, AllocError>
         ensures { IfOk result (λ course. stands course (B.entry parent.now) signer.now []) };
 
-    /// Judges the next batch. Where nothing is wrong with it, it is one of those that passed. After an `Err` all is as
-    /// before.
-    fn judge_next(
+    /// Looks at the next batch. It is not added.
+    fn look<B: Base>(
         &mut self,
         alloc: Global,
+        parent: &B,
         batch: &TxBatch,
     ) -> Result<Option<PolicyFault>, AllocError>
-        ensures fault { (m : StateMap) (signer : List ℕ) (before : List BatchShape) → stands self.old m signer before
-            → IfOk result (λ found. found ≡ fault m signer before batch.now) }
-        ensures passed { (m : StateMap) (signer : List ℕ) (before : List BatchShape) → stands self.old m signer before
-            → IfOk result (λ found. found ≡ None → stands self.new m signer (before ++ batch.now ∷ [])) }
-        ensures stays { (m : StateMap) (signer : List ℕ) (before : List BatchShape) → stands self.old m signer before
-            → IfOk result (λ found. (e : PolicyFault) → found ≡ Some e → stands self.new m signer before) }
-        ensures err { OnErr result ((m : StateMap) (signer : List ℕ) (before : List BatchShape)
-            → stands self.old m signer before → stands self.new m signer before) };
+        ensures fault { (signer : List ℕ) (before : List BatchShape) → stands self.old (B.entry parent.now) signer before
+            → IfOk result (λ found. found ≡ fault (B.entry parent.now) signer before batch.now) }
+        ensures stays { (signer : List ℕ) (before : List BatchShape) → stands self.old (B.entry parent.now) signer before
+            → OnOk result (stands self.new (B.entry parent.now) signer before) }
+        ensures looked { (signer : List ℕ) (before : List BatchShape) → stands self.old (B.entry parent.now) signer before
+            → IfOk result (λ found. found ≡ None → looked self.new (B.entry parent.now) signer before batch.now) };
+
+    /// Adds the batch that was looked at last, with which nothing is wrong, to those that passed.
+    fn pass(&mut self, alloc: Global, batch: &TxBatch) -> Result<(), AllocError>
+        ensures { OnOk result ((m : StateMap) (signer : List ℕ) (before : List BatchShape)
+            → looked self.old m signer before batch.now → stands self.new m signer (before ++ batch.now ∷ [])) };
 
     /// Judges the batches that passed as a whole block.
     fn judge_all(&self) -> Result<Option<PolicyFault>, AllocError>
@@ -80,16 +86,23 @@ impl BlockPolicy for NoPolicy {
 
     ghost stands = { λ course m signer before. ⊤ };
 
+    ghost looked = { λ course m signer before batch. ⊤ };
+
     fn begin<B: Base>(_alloc: Global, _parent: &B, _signer: &str) -> Result<Self, AllocError> {
         Ok(NoPolicy)
     }
 
-    fn judge_next(
+    fn look<B: Base>(
         &mut self,
         _alloc: Global,
+        _parent: &B,
         _batch: &TxBatch,
     ) -> Result<Option<PolicyFault>, AllocError> {
         Ok(None)
+    }
+
+    fn pass(&mut self, _alloc: Global, _batch: &TxBatch) -> Result<(), AllocError> {
+        Ok(())
     }
 
     fn judge_all(&self) -> Result<Option<PolicyFault>, AllocError> {
@@ -123,6 +136,30 @@ pub struct Placed {
     pub fault: PolicyFault,
 }
 
+/// Judges the next batch. Where nothing is wrong with it, it is one of those that passed. After an `Err` the judgement is given
+/// up.
+pub fn judge_next<P: BlockPolicy, B: Base>(
+    course: &mut P,
+    alloc: Global,
+    parent: &B,
+    batch: &TxBatch,
+) -> Result<Option<PolicyFault>, AllocError>
+    ensures fault { (signer : List ℕ) (before : List BatchShape) → P.stands course.old (B.entry parent.now) signer before
+        → IfOk result (λ found. found ≡ P.fault (B.entry parent.now) signer before batch.now) }
+    ensures passed { (signer : List ℕ) (before : List BatchShape) → P.stands course.old (B.entry parent.now) signer before
+        → IfOk result (λ found. found ≡ None
+        → P.stands course.new (B.entry parent.now) signer (before ++ batch.now ∷ [])) }
+    ensures stays { (signer : List ℕ) (before : List BatchShape) → P.stands course.old (B.entry parent.now) signer before
+        → IfOk result (λ found. (e : PolicyFault) → found ≡ Some e
+        → P.stands course.new (B.entry parent.now) signer before) }
+{
+    let found = course.look(alloc, parent, batch)?;
+    if found.is_none() {
+        course.pass(alloc, batch)?;
+    }
+    Ok(found)
+}
+
 /// The first batch of a block by this signer that has a fault behind those before it, over the parent's state, or else
 /// the fault of the whole block.
 pub fn first_fault<P: BlockPolicy, B: Base>(
@@ -136,7 +173,7 @@ pub fn first_fault<P: BlockPolicy, B: Base>(
 {
     let mut course = P::begin(alloc, parent, signer)?;
     for (k, batch) in batches.iter().enumerate() {
-        if let Some(fault) = course.judge_next(alloc, batch)? {
+        if let Some(fault) = judge_next(&mut course, alloc, parent, batch)? {
             return Ok(Some(fault_at(k, fault)?));
         }
     }

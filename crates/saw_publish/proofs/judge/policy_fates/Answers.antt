@@ -13,9 +13,9 @@ loop-batch-preserved g c =
     let batch = c.batch-item.result in
     let found = c.in_ok-found.found in (
       passed_with found passed batch,
-      stands_next (λ (passed : List BatchShape). g.P.BlockPolicy.stands c.judge_next.new.self m signer passed) passed batch found
-          (c.in_ok-found.ensures.passed m signer passed stands) (c.in_ok-found.ensures.stays m signer passed stands),
+      stands_next (λ (passed : List BatchShape). g.P.BlockPolicy.stands c.judge_next.new.course m signer passed) passed batch found
+          (c.in_ok-found.ensures.passed signer passed stands) (c.in_ok-found.ensures.stays signer passed stands),
       fates_more g.P.BlockPolicy.fault m signer passed c.args.batches.now c.loop-batch.batch-index batch c.loop-batch-test.true c.batch-item.is found
-          c.loop-batch.fates _ _ (c.in_ok-found.ensures.fault m signer passed stands)
+          c.loop-batch.fates _ _ (c.in_ok-found.ensures.fault signer passed stands)
           (c.in_ok-push.ensures.ok ∙ ap (λ fate. c.loop-batch.fates ++ fate ∷ []) c.fate_of.ensures) c.loop-batch.invariant.2,
     )

@@ -9,6 +9,6 @@ loop-batch-preserved c = λ m signer begun.
     let batches = c.args.batches.now in
     let i = c.loop-batch.batch-index in
     let batch = c.batch-item.result in
-    rw (take_more batches i batch c.loop-batch-test.true, ← c.batch-item.is) (c.in_ok-add.ensures.ok m signer (take i batches) batch
+    rw (take_more batches i batch c.loop-batch-test.true, ← c.batch-item.is) (c.in_ok-add_unjudged.ensures m signer (take i batches) batch
     (c.loop-batch.invariant m signer begun)
     (sym (ap (λ (one : BatchShape). one.txs) c.batch.view_is) ∙ sym (ap (map arc_value) c.as_slice.ensures)))

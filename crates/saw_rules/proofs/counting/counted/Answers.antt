@@ -4,7 +4,7 @@ use Rattle.std.proofs.lemmas.Iterator.{YieldsList-from_slice}
 use Rattle.std.proofs.lemmas.Iterator.Consumers.{YieldsList-from_filter, count_from_yields_List}
 use Rattle.saw_rules.specs.OnChainRules.{is_of}
 use Rattle.saw_rules.proofs.Search.{filter_seen}
-use Rattle.saw_rules.proofs.counting.how_many.Goals as goal
+use Rattle.saw_rules.proofs.counting.counted.Goals as goal
 
 pub returns : goal.returns
 returns c = count_from_yields_List c.filter.result c.count.result c.count.ensures.ran
