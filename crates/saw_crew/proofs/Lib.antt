@@ -15,3 +15,4 @@ pub mod Rounds
 pub mod Ended
 pub mod InHand
 pub mod Apart
+pub mod Unoffered

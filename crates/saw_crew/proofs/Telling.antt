@@ -10,7 +10,8 @@ use Rattle.saw_context.specs.declared.batch_result.BatchResult.{BatchResult}
 use Rattle.saw_messages.specs.TxShapes.{TxShape}
 use Rattle.saw_messages.specs.declared.talk.Action.{Action}
 use Rattle.saw_messages.specs.declared.talk.Turn.{Turn}
-use Rattle.saw_station.specs.Serving.{family_of, is_offered, processors_at}
+use Rattle.saw_station.specs.Families.{family_of}
+use Rattle.saw_station.specs.Serving.{is_offered, processors_at}
 use Rattle.saw_station.specs.declared.offer.Offer.{Offer}
 
 -- whoever serves it, if anyone does

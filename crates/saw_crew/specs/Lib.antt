@@ -4,3 +4,4 @@ pub mod Alone
 pub mod Failing
 pub mod Rounds
 pub mod Lanes
+pub mod Offered

@@ -12,6 +12,7 @@ use crate::built_in::run_built_in;
 use crate::ending::{left_by_workers, run_alone};
 use crate::fault::CrewFault;
 use crate::locked::Locked;
+use crate::offered::are_offered;
 use crate::seats::seats_for;
 use crate::serial::run_serially;
 use crate::tangle::is_tangled;
@@ -47,7 +48,7 @@ pub fn execute<B: Base, R: Station, T: Threads + Wait + Sync>(
     ensures cause { IsErrOf result CrewFault.PeerFailed → Failed R.faults desks.old desks.new }
 {
     let batches = plan.batches.as_slice();
-    if desks[0].offers().is_empty() {
+    if !are_offered(desks[0].offers(), batches) {
         let lanes = lanes_for(batches, workers_at(desks));
         return Ok(run_built_in::<B, R, T>(rt, alloc, batches, base, lanes)?);
     }

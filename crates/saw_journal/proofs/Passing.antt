@@ -1,15 +1,22 @@
 -- What comes of a block's batches by the rules on them and by their run.
-use Rattle.std.proofs.Common.{◌≡◌, ℕ, List, Option, Some, None, Result, Ok, Err, refl, sym, ap, subst, ◌∙◌}
+use Rattle.std.proofs.Common.{◌≡◌, ℕ, Bool, false, List, [], Option, Some, None, Result, Ok, Err, refl, sym, ap, subst, ◌∙◌}
 use Rattle.std.specs.Prelude.{IsErrOf}
 use Rattle.saw_address.specs.Maps.{StateMap}
 use Rattle.saw_checks.specs.Tests.{◌<|>◌}
 use Rattle.saw_context.specs.Outcome.{Processors}
+use Rattle.saw_crew.proofs.Unoffered.{all_come}
+use Rattle.saw_crew.specs.Offered.{are_offered}
 use Rattle.saw_crew.specs.declared.fault.CrewFault.{CrewFault}
 use Rattle.saw_crew.specs.declared.fault.CrewFault.TheVariants as crew
-use Rattle.saw_messages.specs.TxShapes.{BatchShape}
+use Rattle.saw_messages.specs.TxShapes.{BatchShape, TxShape}
+use Rattle.saw_messages.specs.declared.talk.Action.{Action}
+use Rattle.saw_messages.specs.declared.talk.Turn.{Turn}
+use Rattle.saw_plan.specs.BatchShapes.{txs_of}
 use Rattle.saw_plan.specs.StaticRules.{Ids}
 use Rattle.saw_receipts.specs.declared.verdict.BlockFault.{BlockFault}
 use Rattle.saw_rules.specs.Policies.{Policy}
+use Rattle.saw_station.specs.Serving.{processors_at}
+use Rattle.saw_station.specs.declared.offer.Offer.{Offer}
 use Rattle.saw_journal.proofs.Judging.{or_none}
 use Rattle.saw_journal.specs.BlockFaults.{policy_fault, static_fault}
 use Rattle.saw_journal.specs.LowerFaults.{fault_of_crew}
@@ -73,3 +80,16 @@ module _ (processors : Processors) (peer : Type 0) (policy : Policy) (m : StateM
   without_peer (Err (Failed faults.Full)) is = is
   without_peer (Err (Failed faults.PeerFailed)) is = absurd is
   without_peer (Err (Failed faults.OutOfMemory)) is = tt
+
+-- where no transaction is of a family that is offered
+module _ (next : TxShape → List Turn → Action) (tells : Bool) (offers : List Offer) (peer : Type 0) (policy : Policy) (m : StateMap) (signer : List ℕ)
+    (there : Ids) (batches : List BatchShape) (none : are_offered offers (txs_of batches) ≡ false) where
+  pub ran_unoffered : (result : Result Executed Stop) → RanAs (processors_at next tells []) peer policy m signer there batches result
+      → RanAs (processors_at next tells offers) peer policy m signer there batches result
+  ran_unoffered (Ok ran) is =
+      (is.0, record { may = all_come next tells offers m (txs_of batches) ran.results.batches none is.1.may; fit = is.1.fit })
+  ran_unoffered (Err (Refused fault)) is = is
+  ran_unoffered (Err (Failed (faults.Collision kept given))) is = is
+  ran_unoffered (Err (Failed faults.Full)) is = is
+  ran_unoffered (Err (Failed faults.PeerFailed)) is = is
+  ran_unoffered (Err (Failed faults.OutOfMemory)) is = is

@@ -17,7 +17,7 @@ use crate::branch_ids::BranchIds;
 use crate::planned::plan_all;
 use crate::stop::Stop;
 use saw_address::Base;
-use saw_crew::{execute, lanes_for, run_built_in, workers_at};
+use saw_crew::{are_offered, execute, lanes_for, run_built_in, workers_at};
 use saw_merkle::State;
 use saw_messages::{Block, TxBatch};
 use saw_node::{NodeHash, NodeHasher};
@@ -71,14 +71,6 @@ pub(crate) fn run_all<P: BlockPolicy, H: NodeHasher, T: Threads + Wait + Sync, R
     }
 }
 
-// Whether no external processor offers a family, so that the built-in ones alone are asked.
-fn ask_no_others<R: Station>(desks: &[Desk<R>]) -> bool
-    requires { 0 < length desks.now }
-    ensures { result ≡ true → offers_at desks.now ≡ [] }
-{
-    desks[0].offers().is_empty()
-}
-
 // The same over a base: the rules and the run side by side where the built-in processors alone are asked, which cannot
 // fail for a block that the rules refuse.
 fn run_over<P: BlockPolicy, B: Base, T: Threads + Wait + Sync, R: Station>(
@@ -102,7 +94,7 @@ fn run_over<P: BlockPolicy, B: Base, T: Threads + Wait + Sync, R: Station>(
     ensures desks { KeepsDesks R.faults R.offered desks.old desks.new }
 {
     let lanes = lanes_for(batches, workers_at(desks));
-    if lanes > 1 && ask_no_others(desks) {
+    if lanes > 1 && !are_offered(desks[0].offers(), batches) {
         return run_shared::<P, B, T, R>(rt, alloc, base, signer, known, batches, lanes, spent);
     }
     give_up(spent);
