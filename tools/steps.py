@@ -32,6 +32,10 @@ KINDS = {
 FOLDERS = {kind: f"{FOLDER}/{crate}/data/{kind}" for crate, kinds in KINDS.items() for kind in kinds}
 
 
+def number(field, value):
+    return varint(field << 3) + varint(value) if value else b""
+
+
 def hexed(data):
     return data.hex() if data else "-"
 
@@ -115,7 +119,7 @@ def setting_address(key):
 
 def families(name, family, rows):
     put("families", name, [
-        (" ".join([family, hexed(payload)] + [r if r == "!" else hexed(r) for r in replies]), line)
+        (" ".join([family, hexed(payload)] + [r if r in ("!", ".") else hexed(r) for r in replies]), line)
         for payload, replies, line in rows
     ])
 
@@ -229,6 +233,95 @@ def settings():
         (vote + b"\x02", [two_keys, setting(proposals, of_k), two_votes], 314),
     ])
     families("settings-steps", "sawtooth_settings", [(b"", [], f"get {setting_address(keys)}")])
+
+
+def entry(kind, key):
+    return record(2, number(1, kind) + record(2, key))
+
+
+def policy(name, *entries):
+    return record(1, name) + b"".join(entries)
+
+
+def role(name, its_policy):
+    return record(1, name) + record(2, its_policy)
+
+
+def policy_address(name):
+    return "00001d00" + hashlib.sha256(name.encode()).hexdigest()[:62]
+
+
+def role_address(name):
+    parts = setting_address(name)[6:]
+    return "00001d01" + parts[:14] + parts[16:]
+
+
+def identities():
+    allowed = "sawtooth.identity.allowed_keys"
+    to_all = setting(allowed, "L, K ,")
+
+    def setting_of(kind, item):
+        return number(1, kind) + record(2, item)
+
+    sound = entry(1, KEY), entry(2, "*")
+    new, of_p = setting_of(1, policy("p", *sound)), setting_of(2, role("a.b.c.d.e", "p"))
+    kept = record(1, policy("p", *sound))
+    numbers("identity-reasons", "sawtooth_identity", [
+        (new, ["!"], 401),
+        (new, ["."], 401),
+        (new, [b"\x0a"], 402),
+        (new, [b""], 403),
+        (new, [setting(allowed, "L,M")], 403),
+        (new, [setting(allowed + "x", "K")], 403),
+        (b"\x0a", [to_all], 404),
+        (b"", [to_all], 405),
+        (setting_of(3, b""), [to_all], 405),
+        # Of a policy.
+        (setting_of(1, b"\x0a"), [to_all], 406),
+        (setting_of(1, policy("", *sound)), [to_all], 407),
+        (setting_of(1, policy("p")), [to_all], 407),
+        (setting_of(1, policy("p", *sound, entry(3, "*"))), [to_all], 407),
+        (setting_of(1, policy("p", entry(0, KEY))), [to_all], 407),
+        (setting_of(1, policy("p", entry(1, KEY[1:]))), [to_all], 407),
+        (setting_of(1, policy("p", entry(1, KEY[1:] + "g"))), [to_all], 407),
+        (setting_of(1, policy("p", entry(1, "**"))), [to_all], 407),
+        (new, [to_all, "!"], 401),
+        (new, [to_all, b"\x0a"], 402),
+        (new, [to_all, b"", "!"], 401),
+        (new, [to_all, b"", ".", "!"], 401),
+        # Of a role.
+        (setting_of(2, b"\x0a"), [to_all], 408),
+        (setting_of(2, role("", "p")), [to_all], 409),
+        (setting_of(2, role("a", "")), [to_all], 409),
+        (of_p, [to_all, "!"], 401),
+        (of_p, [to_all, b"\x0a"], 402),
+        (of_p, [to_all, b""], 410),
+        (of_p, [to_all, record(1, policy("q", *sound))], 410),
+        (of_p, [to_all, kept, "!"], 401),
+        (of_p, [to_all, kept, b"\x0a"], 402),
+        (of_p, [to_all, kept, b"", "!"], 401),
+        (of_p, [to_all, kept, b"", ".", b""], 401),
+    ])
+    at, role_at = policy_address("p"), role_address("a.b.c.d.e")
+    others = record(1, policy("o", *sound)), record(1, policy("q"))
+    roles = record(1, role("a.b.c.d", "p")), record(1, role("z", ""))
+    families("identity-steps", "sawtooth_identity", [
+        (new, [], f"get {setting_address(allowed)}"),
+        (new, [to_all], f"get {at}"),
+        # In place of the first of its name, or at the end.
+        (new, [to_all, b""], f"set {at} {kept.hex()}"),
+        (new, [to_all, b"".join(others)], f"set {at} {(others[0] + others[1] + kept).hex()}"),
+        (new, [to_all, others[0] + record(1, policy("p")) + others[1]], f"set {at} {(others[0] + kept + others[1]).hex()}"),
+        (new, [to_all, record(1, policy("p")) * 2], f"set {at} {(kept + record(1, policy('p'))).hex()}"),
+        (new, [to_all, b"", "."], "event identity/update"),
+        (new, [to_all, b"", ".", "."], "ok"),
+        (of_p, [to_all], f"get {at}"),
+        (of_p, [to_all, others[0] + kept], f"get {role_at}"),
+        (of_p, [to_all, kept, b"".join(roles)], f"set {role_at} {(roles[0] + roles[1] + record(1, role('a.b.c.d.e', 'p'))).hex()}"),
+        (of_p, [to_all, kept, record(1, role("a.b.c.d.e", "q")) + roles[1]], f"set {role_at} {(record(1, role('a.b.c.d.e', 'p')) + roles[1]).hex()}"),
+        (of_p, [to_all, kept, b"", "."], "event identity/update"),
+        (of_p, [to_all, kept, b"", ".", "."], "ok"),
+    ])
 
 
 def messages():
@@ -726,6 +819,7 @@ def main():
     counters()
     games()
     settings()
+    identities()
     messages()
     rule_texts()
     planned()

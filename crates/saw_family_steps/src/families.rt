@@ -1,4 +1,4 @@
-//! The next action of a built-in family: its payload, and the replies so far.
+//! The next action of a family: its payload, and the replies so far.
 
 use saw_messages::{Action, Entry, Place, Reply, Transcript, Turn, Tx};
 use saw_scripts::{
@@ -48,14 +48,17 @@ fn step(alloc: Global, family: &str, tx: &Tx, talk: &Transcript) -> anyhow::Resu
         "intkey" => Ok(saw_intkey::step(alloc, tx, talk)?),
         "xo" => Ok(saw_xo::step(alloc, tx, talk)?),
         "sawtooth_settings" => Ok(saw_settings::step(alloc, tx, talk)?),
+        "sawtooth_identity" => Ok(saw_identity::step(alloc, tx, talk)?),
         _ => Err(ScriptFault::NoForm.into()),
     }
 }
 
-/// A reply: a refusal of the first place as `!`, or the bytes at one place.
+/// A reply: a refusal of the first place as `!`, that a change was made as `.`, or the bytes at one place.
 fn reply_of(alloc: Global, word: &str) -> anyhow::Result<Reply> {
-    if word == "!" {
-        return Ok(Reply::Unauthorized { index: 0 });
+    match word {
+        "!" => return Ok(Reply::Unauthorized { index: 0 }),
+        "." => return Ok(Reply::Done),
+        _ => {}
     }
     let mut bodies = Items::new(alloc);
     bodies.push(bytes_of(alloc, word)?)?;

@@ -81,10 +81,17 @@ reason_number reasons.TooManyRequests = 4
 reason_number reasons.Remote = 5
 reason_number (reasons.Family number) = number
 
--- the number of a fault by a policy, and the transaction or the rule that it has
+-- a number, or a word where there is none
+abbrev pub spaced_or : List ℕ → Option ℕ → List ℕ
+spaced_or word (Some number) = spaced number
+spaced_or word None = codes " " ++ word
+
+-- the number of a fault by a policy, and the transaction or the rule that it has; or the signer's transaction or batch, the
+-- role and the entry
 abbrev pub policy_text : PolicyFault → List ℕ
 policy_text (policies.Family t) = spaced 1 ++ spaced t
 policy_text (policies.Rule index) = spaced 2 ++ spaced index
+policy_text (policies.Denied t role entry) = spaced 3 ++ spaced_or (codes "batch") t ++ spaced role ++ spaced_or (codes "none") entry
 
 -- what a fault of a block says behind its number and name
 abbrev pub said_text : BlockFault → List ℕ

@@ -1,7 +1,7 @@
 //! The words of faults and losses.
 
 ghost use Rattle.std.specs.Prelude.{◌≡◌, ◌++◌, codes, OnOk};
-ghost use Rattle.saw_report.specs.Lines.{spaced, batch_fault_text, structure_text, cause_text, policy_text, reason_number, said_text, fault_text, loss_text};
+ghost use Rattle.saw_report.specs.Lines.{spaced, spaced_or, batch_fault_text, structure_text, cause_text, policy_text, reason_number, said_text, fault_text, loss_text};
 
 use crate::word::{put_number, put_pair, put_placed, put_spaced};
 use saw_checks::{BatchFault, PolicyFault, StructureFault};
@@ -126,13 +126,37 @@ fn put_batch_fault(alloc: Global, out: &mut Vec<u8>, fault: &BatchFault) -> Resu
     }
 }
 
-// The number of a fault by a policy, and the place that it has.
+// A number, or a word where there is none.
+fn put_spaced_or(
+    alloc: Global,
+    out: &mut Vec<u8>,
+    number: Option<u32>,
+    word: &str,
+) -> Result<(), AllocError>
+    ensures { OnOk result (out.new.items ≡ out.old.items ++ spaced_or word.now number) }
+{
+    match number {
+        Some(number) => put_spaced(alloc, out, number as u64),
+        None => {
+            out.push(b' ')?;
+            out.extend_from_slice(word.as_bytes())
+        }
+    }
+}
+
+// The number of a fault by a policy, and what else it says.
 fn put_policy_fault(alloc: Global, out: &mut Vec<u8>, fault: &PolicyFault) -> Result<(), AllocError>
     ensures { OnOk result (out.new.items ≡ out.old.items ++ policy_text fault.now) }
 {
     match *fault {
         PolicyFault::Family { t } => put_pair(alloc, out, b"", 1, t as u64),
         PolicyFault::Rule { index } => put_pair(alloc, out, b"", 2, index as u64),
+        PolicyFault::Denied { t, role, entry } => {
+            put_spaced(alloc, out, 3)?;
+            put_spaced_or(alloc, out, t, "batch")?;
+            put_spaced(alloc, out, role as u64)?;
+            put_spaced_or(alloc, out, entry, "none")
+        }
     }
 }
 

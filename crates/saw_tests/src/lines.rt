@@ -62,6 +62,16 @@ fn what_a_policy_refuses_has_its_line(rt: HostRuntime) -> Result<(), Fail> {
     let alloc = rt.alloc();
     let family = PolicyFault::Family { t: 2 };
     let rule = PolicyFault::Rule { index: 1 };
+    let batch = PolicyFault::Denied {
+        t: None,
+        role: 4,
+        entry: Some(0),
+    };
+    let transaction = PolicyFault::Denied {
+        t: Some(5),
+        role: 1,
+        entry: None,
+    };
     let cases = [
         (
             family,
@@ -72,6 +82,16 @@ fn what_a_policy_refuses_has_its_line(rt: HostRuntime) -> Result<(), Fail> {
             rule,
             "candidate refused 16 Policy 4 2 1\n",
             "batch 3 dropped policy 2 1\n",
+        ),
+        (
+            batch,
+            "candidate refused 16 Policy 4 3 batch 4 0\n",
+            "batch 3 dropped policy 3 batch 4 0\n",
+        ),
+        (
+            transaction,
+            "candidate refused 16 Policy 4 3 5 1 none\n",
+            "batch 3 dropped policy 3 5 1 none\n",
         ),
     ];
     for (fault, refused, dropped) in &cases {

@@ -1,0 +1,5 @@
+pub mod Short
+pub mod Offers
+pub mod Kept
+pub mod Rulings
+mod Roles

@@ -1,0 +1,5 @@
+use Rattle.std.proofs.Common.{[]}
+use Rattle.saw_identity.proofs.payload.IdentityPayloadMessage.encode.Goals as goal
+
+pub returns : goal.returns
+returns c = c.in_ok-write_bytes.ensures _ (c.in_ok-write_small.ensures [] c.new-out.ensures.items)

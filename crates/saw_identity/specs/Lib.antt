@@ -1,0 +1,8 @@
+pub mod Messages
+pub mod Addresses
+pub mod Actions
+pub mod Reasons
+pub mod Stations
+pub mod Permissions
+pub mod Standing
+pub mod Laws
