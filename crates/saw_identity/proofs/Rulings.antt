@@ -1,8 +1,9 @@
 -- What policies and roles that are kept say of signers, and what a judgement has of them.
 use Rattle.std.proofs.Common.{◌≡◌, ℕ, ◌+◌, ◌<◌, Bool, true, false, cond, List, [], ◌∷◌, length, get_or, drop, map, Option, Some, None, option_map, Result, IfOk, IfSome, nat_lt, codes, refl, sym, ap, subst, ◌∙◌, add-one}
 use Rattle.std.specs.BTreeMap.{is_at}
+use Rattle.std.specs.BTreeSet.{BTreeSet, contains}
 use Rattle.std.specs.Cmp.Lexicographic.{slice_cmp}
-use Rattle.std.specs.List.{find, position, position_or_len, slice_get}
+use Rattle.std.specs.List.{find, list_any, position, position_or_len, slice_get}
 use Rattle.std.specs.Map.{lookup}
 use Rattle.std.specs.Option.{option_or}
 use Rattle.std.specs.Ordering.{nat_cmp}
@@ -21,8 +22,9 @@ use Rattle.saw_checks.specs.declared.policy.PolicyFault.{PolicyFault}
 use Rattle.saw_messages.specs.TxShapes.{BatchShape, TxShape}
 use Rattle.saw_identity.specs.Addresses.{policy_address, role_address}
 use Rattle.saw_identity.specs.Permissions.{Standing, denied_by, fault, fault_by, for_batches, for_transactions, named, policy_by, policy_kept, policy_of, role_kept, role_policy, txs_denied}
-use Rattle.saw_identity.specs.Standing.{AreOwn, Tells, answer, family_role, for_all, for_all_transactions, kept_for, own_ruling, ruled, ruling, tx_fault}
+use Rattle.saw_identity.specs.Standing.{AreKnown, ArePermitted, IsKnown, Tells, answer, family_role, for_all, for_all_transactions, kept_for, own_ruling, ruled, ruling, tx_fault}
 use Rattle.saw_identity.specs.declared.permissions.Judged.{Judged}
+use Rattle.saw_identity.specs.declared.permissions.Known.{Known}
 use Rattle.saw_identity.specs.declared.policy.Policy.{Policy}
 use Rattle.saw_identity.specs.declared.role.Role.{Role}
 use Rattle.saw_identity.specs.declared.ruling.Ruling.{Ruling}
@@ -118,19 +120,55 @@ pub permitted : (m : StateMap) (t : ℕ) (tx : TxShape) (signer family : List �
     → tx_fault m t tx ≡ None → denied_by signer (for_transactions m family) ≡ None
 permitted m t tx signer family is_signer is_family none = rw (is_signer, is_family) (none_of (fault_by (Some t)) _ none)
 
--- ---- the rulings of families
+-- the same of a signer that was permitted before
+pub permitted_before : (m : StateMap) (t : ℕ) (tx : TxShape) (known : Known) → IsKnown m tx.header.family_name known
+    → contains (slice_cmp nat_cmp) known.permitted tx.header.signer_public_key ≡ true → tx_fault m t tx ≡ None
+permitted_before m t tx known is has = ap (option_map (fault_by (Some t))) (is.permitted tx.header.signer_public_key has)
 
--- one more that is that of its family
-pub own_kept : (m : StateMap) (old new : List (List ℕ × Option Ruling)) (key family : List ℕ) (own : Option Ruling) → key ≡ family → AreOwn m old
-    → own ≡ own_ruling m family
-    → ((q : List ℕ) → lookup (is_at (slice_cmp nat_cmp q)) new ≡ cond (is_at (slice_cmp nat_cmp key) q) (Some own) (lookup (is_at (slice_cmp nat_cmp q)) old))
-    → AreOwn m new
-own_kept m old new key family own same are is updates = λ q.
-    subst (λ (found : Option (Option Ruling)). IfSome found (λ one. one ≡ own_ruling m q)) (sym (updates q)) (go q (is_at (slice_cmp nat_cmp key) q) refl)
+-- ---- what is known of families
+
+-- a look-up finds the key itself
+is_key : (key q : List ℕ) → is_at (slice_cmp nat_cmp key) q ≡ true → key ≡ q
+is_key key q e = (bytes_eq-Decides key q).0 (sym (is_eq-slice_cmp key q) ∙ e)
+
+-- where there are no signers, each is permitted
+pub none_permitted : (m : StateMap) (family : List ℕ) (signers : BTreeSet (List ℕ)) → signers.keys ≡ [] → ArePermitted m family signers
+none_permitted m family signers empty = λ signer has. absurd (go signers.keys empty signer has)
   where
-    go : (q : List ℕ) (b : Bool) → is_at (slice_cmp nat_cmp key) q ≡ b → IfSome (cond b (Some own) (kept_for old q)) (λ one. one ≡ own_ruling m q)
-    go q true e = is ∙ ap (own_ruling m) (sym same ∙ (bytes_eq-Decides key q).0 (sym (is_eq-slice_cmp key q) ∙ e))
+    go : (keys : List (List ℕ)) → keys ≡ [] → (signer : List ℕ) → list_any (is_at (slice_cmp nat_cmp signer)) keys ≡ true → ⊥
+    go [] e signer has = (cc)
+    go (key ∷ keys) e signer has = (cc)
+
+-- one more signer that is permitted
+pub one_permitted : (m : StateMap) (family key : List ℕ) (old new : BTreeSet (List ℕ)) → denied_by key (for_transactions m family) ≡ None
+    → ArePermitted m family old
+    → ((q : List ℕ) → contains (slice_cmp nat_cmp) new q ≡ cond (is_at (slice_cmp nat_cmp key) q) true (contains (slice_cmp nat_cmp) old q))
+    → ArePermitted m family new
+one_permitted m family key old new none are updates = λ q has. go q (is_at (slice_cmp nat_cmp key) q) refl (sym (updates q) ∙ has)
+  where
+    go : (q : List ℕ) (b : Bool) → is_at (slice_cmp nat_cmp key) q ≡ b → cond b true (contains (slice_cmp nat_cmp) old q) ≡ true
+        → denied_by q (for_transactions m family) ≡ None
+    go q true e has = subst (λ (signer : List ℕ). denied_by signer (for_transactions m family) ≡ None) (is_key key q e) none
+    go q false e has = are q has
+
+-- what is kept of one family is known
+pub known_kept : (m : StateMap) (old new : List (List ℕ × Known)) (key family : List ℕ) (known : Known) → key ≡ family → AreKnown m old
+    → IsKnown m family known
+    → ((q : List ℕ) → lookup (is_at (slice_cmp nat_cmp q)) new ≡ cond (is_at (slice_cmp nat_cmp key) q) (Some known) (lookup (is_at (slice_cmp nat_cmp q)) old))
+    → AreKnown m new
+known_kept m old new key family known same are is updates = λ q.
+    subst (λ (found : Option Known). IfSome found (IsKnown m q)) (sym (updates q)) (go q (is_at (slice_cmp nat_cmp key) q) refl)
+  where
+    go : (q : List ℕ) (b : Bool) → is_at (slice_cmp nat_cmp key) q ≡ b → IfSome (cond b (Some known) (kept_for old q)) (IsKnown m q)
+    go q true e = subst (λ (name : List ℕ). IsKnown m name known) (sym same ∙ is_key key q e) is
     go q false e = are q
+
+-- what was found of a family is known
+pub known_found : (m : StateMap) (families : List (List ℕ × Known)) (name family : List ℕ) (known : Known) → name ≡ family → AreKnown m families
+    → Some known ≡ kept_for families name → IsKnown m family known
+known_found m families name family known same are found =
+    subst (λ (one : List ℕ). IsKnown m one known) same
+    (subst (λ (kept : Option Known). IfSome kept (IsKnown m name)) (sym found) (are name))
 
 -- ---- transactions in order
 
@@ -185,12 +223,6 @@ all_is m all transactor last default at found is_all is_transactor is_last is_de
     ∙ ap (option_or (ruling 4 (role_policy m (codes "transactor")))) (is_last ∙ ap (ruling 5) kept)
 
 -- ---- what a judgement tells
-
--- a ruling that is kept is that of its family
-pub own_found : (m : StateMap) (families : List (List ℕ × Option Ruling)) (name family : List ℕ) (own : Option Ruling) → name ≡ family → AreOwn m families
-    → Some own ≡ kept_for families name → own ≡ own_ruling m family
-own_found m families name family own same are found =
-    subst (λ (kept : Option (Option Ruling)). IfSome kept (λ one. one ≡ own_ruling m name)) (sym found) (are name) ∙ ap (own_ruling m) same
 
 -- what was found is told
 pub tells_of : (m : StateMap) (t : ℕ) (tx : TxShape) (found : Option PolicyFault) (told : Judged) → told ≡ answer found → found ≡ tx_fault m t tx → Tells m t tx told

@@ -6,7 +6,7 @@ use Rattle.saw_address.specs.Maps.{StateMap, value_at}
 use Rattle.saw_wire.specs.declared.fault.MessageFault.{MessageFault}
 use Rattle.saw_checks.specs.declared.policy.PolicyFault.{PolicyFault}
 use Rattle.saw_checks.specs.declared.policy.PolicyFault.TheVariants.{Denied}
-use Rattle.saw_messages.specs.TxShapes.{BatchShape, TxShape}
+use Rattle.saw_messages.specs.TxShapes.{TxShape}
 use Rattle.saw_rules.specs.Policies.{BatchTest, EndTest, Policy as BlockPolicy, policy_by as judged_by}
 use Rattle.saw_identity.specs.Actions.{permit}
 use Rattle.saw_identity.specs.Addresses.{policy_address, role_address}

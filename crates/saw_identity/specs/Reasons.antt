@@ -1,5 +1,5 @@
 -- Each refusal is by a number of the family.
-use Rattle.std.proofs.Common.{◌≡◌, ℕ, Bool, true, ◌||◌, List, [], ◌∷◌, map, length, Result, Ok, Err, ◌==◌, refl}
+use Rattle.std.proofs.Common.{◌≡◌, ℕ, true, ◌||◌, List, [], ◌∷◌, map, length, Result, Ok, Err, ◌==◌, refl}
 use Rattle.std.specs.Prelude.{nat_lt, codes}
 use Rattle.saw_wire.specs.Writing.{spelled}
 use Rattle.saw_wire.specs.declared.fault.MessageFault.{MessageFault}

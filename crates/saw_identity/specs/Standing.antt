@@ -1,6 +1,7 @@
 -- What a judgement by permissions has of the state.
-use Rattle.std.specs.Prelude.{◌≡◌, ⊤, ℕ, Bool, false, ◌&&◌, List, [], ◌++◌, Option, Some, None, IfSome, option_map, codes}
+use Rattle.std.specs.Prelude.{◌≡◌, ⊤, ℕ, Bool, true, false, ◌&&◌, List, [], ◌++◌, Option, Some, None, IfSome, option_map, codes}
 use Rattle.std.specs.BTreeMap.{is_at}
+use Rattle.std.specs.BTreeSet.{BTreeSet, contains}
 use Rattle.std.specs.Cmp.Lexicographic.{slice_cmp}
 use Rattle.std.specs.Map.{lookup}
 use Rattle.std.specs.Option.{option_or}
@@ -12,6 +13,7 @@ use Rattle.saw_messages.specs.TxShapes.{BatchShape, TxShape}
 use Rattle.saw_identity.specs.Permissions.{denied_by, denied_from, fault_by, for_transactions, policy_of, role_policy}
 use Rattle.saw_identity.specs.declared.permissions.Judged.TheVariants as judged
 use Rattle.saw_identity.specs.declared.permissions.Judged.{Judged}
+use Rattle.saw_identity.specs.declared.permissions.Known.{Known}
 use Rattle.saw_identity.specs.declared.permissions.Last.{Last}
 use Rattle.saw_identity.specs.declared.permissions.Permissions.{Permissions}
 use Rattle.saw_identity.specs.declared.policy.Policy.{Policy}
@@ -61,13 +63,22 @@ tx_fault m t tx = option_map (fault_by (Some t)) (denied_by tx.header.signer_pub
 
 -- ---- a judgement
 
--- the rulings that were read for families
-abbrev pub kept_for : List (List ℕ × Option Ruling) → List ℕ → Option (Option Ruling)
+-- what is kept of a family
+abbrev pub kept_for : List (List ℕ × Known) → List ℕ → Option Known
 kept_for families family = lookup (is_at (slice_cmp nat_cmp family)) families
 
--- each is that of its family
-abbrev pub AreOwn : StateMap → List (List ℕ × Option Ruling) → Type 0
-AreOwn m families = (family : List ℕ) → IfSome (kept_for families family) (λ own. own ≡ own_ruling m family)
+-- each of these signers is permitted for transactions of the family
+abbrev pub ArePermitted : StateMap → List ℕ → BTreeSet (List ℕ) → Type 0
+ArePermitted m family signers = (signer : List ℕ) → contains (slice_cmp nat_cmp) signers signer ≡ true → denied_by signer (for_transactions m family) ≡ None
+
+-- its ruling is that of the family, and its signers are permitted
+pub record IsKnown (m : StateMap) (family : List ℕ) (known : Known) : Type 0 where
+  pub own : known.own ≡ own_ruling m family
+  pub permitted : ArePermitted m family known.permitted
+
+-- the same of each family that is kept
+abbrev pub AreKnown : StateMap → List (List ℕ × Known) → Type 0
+AreKnown m families = (family : List ℕ) → IfSome (kept_for families family) (IsKnown m family)
 
 -- the signer is permitted for transactions of the family
 abbrev pub IsPermitted : StateMap → Last → Type 0
@@ -83,7 +94,7 @@ pub record Holds (course : Permissions) (m : StateMap) : Type 0 where
   pub batches : course.batches ≡ for_all_batches m
   pub transactions : course.transactions ≡ for_all_transactions m
   pub all : course.all ≡ for_all m
-  pub families : AreOwn m course.families.entries
+  pub families : AreKnown m course.families.entries
   pub last : IfSome course.last (IsPermitted m)
 
 -- the same, for any signer and behind any batches

@@ -1,9 +1,12 @@
 //! The policy of permissions: who may sign batches and transactions, by the policies and roles of the parent's state.
 
-ghost use Rattle.std.specs.Prelude.{◌≡◌, ℕ, None, option_map, string_bytes, IfOk, OnOk};
+ghost use Rattle.std.specs.Prelude.{◌≡◌, ℕ, None, option_map, string_bytes, IfOk, IfSome, OnOk};
+ghost use Rattle.std.specs.BTreeSet.{contains};
+ghost use Rattle.std.specs.Cmp.Lexicographic.{slice_cmp};
+ghost use Rattle.std.specs.Ordering.{nat_cmp};
 ghost use Rattle.saw_address.specs.Maps.{StateMap};
 ghost use Rattle.saw_identity.specs.Permissions.{denied_by, for_batches, fault_by};
-ghost use Rattle.saw_identity.specs.Standing.{Holds, Tells, answer, family_role, for_all, for_all_batches, for_all_transactions, is_as, own_ruling, tx_fault};
+ghost use Rattle.saw_identity.specs.Standing.{AreKnown, Holds, IsKnown, Tells, answer, family_role, for_all, for_all_batches, for_all_transactions, is_as, own_ruling, tx_fault};
 
 use crate::address::{policy_address, role_address};
 use crate::ruling::{
@@ -15,7 +18,7 @@ use saw_messages::{Tx, TxBatch};
 use saw_rules::BlockPolicy;
 use saw_wire::Text;
 use std::alloc::{AllocError, Global};
-use std::collections::BTreeMap;
+use std::collections::{BTreeMap, BTreeSet};
 
 /// The role that decides for signers of batches.
 const BATCH_SIGNER: &str = "transactor.batch_signer";
@@ -31,6 +34,24 @@ const TRANSACTOR: &str = "transactor";
 
 /// The policy that decides where no role does.
 const DEFAULT: &str = "default";
+
+/// What is known of a family.
+struct Known {
+    /// The ruling of role 1.
+    own: Option<Ruling>,
+    /// The signers that were permitted.
+    permitted: BTreeSet<Text>,
+}
+
+// One step of a proof wherever one ends.
+impl Drop for Known {
+    fn drop(self) {
+        let Known {
+            own: _own,
+            permitted: _permitted,
+        } = self;
+    }
+}
 
 /// The signer and the family of a transaction.
 #[derive(Drop)]
@@ -59,9 +80,9 @@ pub struct Permissions {
     transactions: Option<Ruling>,
     /// The first of 4 and 5 that stands.
     all: Option<Ruling>,
-    /// The rulings of role 1, for the families that occurred.
-    families: BTreeMap<Text, Option<Ruling>>,
-    /// Of the last transaction that was permitted.
+    /// What is known of the families that occurred.
+    families: BTreeMap<Text, Known>,
+    /// The signer and the family that were kept last.
     last: Option<Last>,
 }
 
@@ -94,6 +115,40 @@ fn told(found: Option<PolicyFault>) -> Judged
     match found {
         Some(fault) => Judged::Denied(fault),
         None => Judged::Permitted,
+    }
+}
+
+impl Known {
+    /// Whether the signer of a transaction was permitted before.
+    fn has(&self, tx: &Tx) -> bool
+        ensures { result ≡ contains (slice_cmp nat_cmp) self.now.permitted tx.now.header.signer_public_key }
+    {
+        self.permitted.contains(&tx.header.signer_public_key)
+    }
+
+    /// Keeps the signer of a transaction of the family, who is permitted.
+    fn add(&mut self, alloc: Global, tx: &Tx) -> Result<(), AllocError>
+        ensures ok { OnOk result ((m : StateMap) (t : ℕ) → IsKnown m tx.now.header.family_name self.old → tx_fault m t tx.now ≡ None
+            → IsKnown m tx.now.header.family_name self.new) }
+    {
+        let signer = tx.header.signer_public_key.try_clone(alloc)?;
+        self.permitted.insert(signer)?;
+        Ok(())
+    }
+}
+
+/// Keeps the signer of a transaction, who is permitted, where its family is known.
+fn add_signer(
+    alloc: Global,
+    families: &mut BTreeMap<Text, Known>,
+    tx: &Tx,
+) -> Result<(), AllocError>
+    ensures ok { OnOk result ((m : StateMap) (t : ℕ) → AreKnown m families.old.entries → tx_fault m t tx.now ≡ None
+        → AreKnown m families.new.entries) }
+{
+    match families.get_mut(&tx.header.family_name) {
+        Some(known) => known.add(alloc, tx),
+        None => Ok(()),
     }
 }
 
@@ -143,7 +198,7 @@ impl Permissions {
         )
     }
 
-    /// Whether the signer and the family are those of the last transaction that was permitted.
+    /// Whether the signer and the family are those that were kept last.
     fn is_as_last(&self, tx: &Tx) -> bool
         ensures { result ≡ is_as tx.now self.now.last }
     {
@@ -155,26 +210,38 @@ impl Permissions {
         }
     }
 
-    /// Keeps the ruling of the family of a transaction.
+    /// What is known of the family of a transaction.
+    fn known_of(&self, tx: &Tx) -> Option<&Known>
+        ensures { (m : StateMap) → Holds self.now m → IfSome result (λ known. IsKnown m tx.now.header.family_name known.now) }
+    {
+        self.families.get(&tx.header.family_name)
+    }
+
+    /// Keeps the ruling of the family of a transaction, of which no signer was permitted yet.
     fn keep(&mut self, alloc: Global, tx: &Tx, own: Option<Ruling>) -> Result<(), AllocError>
         ensures ok { OnOk result ((m : StateMap) → Holds self.old m → own ≡ own_ruling m tx.now.header.family_name → Holds self.new m) }
     {
         let family = tx.header.family_name.try_clone(alloc)?;
-        self.families.insert(family, own)?;
+        let known = Known {
+            own,
+            permitted: BTreeSet::new(alloc),
+        };
+        self.families.insert(family, known)?;
         Ok(())
     }
 
-    /// Keeps the signer and the family of a transaction that is permitted.
+    /// Keeps the signer of a transaction that is permitted, for its family and as the last one.
     fn permit(&mut self, alloc: Global, tx: &Tx) -> Result<(), AllocError>
         ensures ok { OnOk result ((m : StateMap) (t : ℕ) → Holds self.old m → tx_fault m t tx.now ≡ None → Holds self.new m) }
     {
+        add_signer(alloc, &mut self.families, tx)?;
         let signer = tx.header.signer_public_key.try_clone(alloc)?;
         let family = tx.header.family_name.try_clone(alloc)?;
         self.last = Some(Last { signer, family });
         Ok(())
     }
 
-    /// Where nothing was found, the transaction is permitted, and its signer and family are kept.
+    /// Where nothing was found, the transaction is permitted, and its signer is kept.
     fn noted(
         &mut self,
         alloc: Global,
@@ -201,10 +268,13 @@ impl Permissions {
         if self.is_as_last(tx) {
             return Ok(Judged::Permitted);
         }
-        let Some(own) = self.families.get(&tx.header.family_name) else {
+        let Some(known) = self.known_of(tx) else {
             return Ok(Judged::Unread);
         };
-        let found = self.tx_fault(own, t, tx)?;
+        if known.has(tx) {
+            return Ok(Judged::Permitted);
+        }
+        let found = self.tx_fault(&known.own, t, tx)?;
         Ok(told(self.noted(alloc, tx, found)?))
     }
 

@@ -78,6 +78,26 @@ fn a_role_without_its_policy_is_absent(rt: HostRuntime) -> Result<(), Fail> {
 }
 
 #[test]
+fn signers_and_families_come_again(rt: HostRuntime) -> Result<(), Fail> {
+    let alloc = rt.alloc();
+    let two: [(&str, Entries<'_>); 1] = [("default", &[(1, "K"), (1, "L"), (2, "*")])];
+    let parent = state(alloc, &two, &[])?;
+    let fine = [("a", "K"), ("a", "L"), ("b", "K"), ("a", "K"), ("b", "L")];
+    let last = [("a", "L"), ("b", "K"), ("b", "K"), ("a", "M")];
+    let mut batches = Vec::new(alloc);
+    batches.push(batch(alloc, "K", &fine)?)?;
+    batches.push(batch(alloc, "L", &last)?)?;
+    let found = first_fault::<Permissions, _>(alloc, &parent, "B", &batches)?;
+    let fault = PolicyFault::Denied {
+        t: Some(3),
+        role: 5,
+        entry: Some(2),
+    };
+    assert!(rt; found == Some(Placed { k: 1, fault }));
+    Ok(())
+}
+
+#[test]
 fn batches_are_judged_by_themselves(rt: HostRuntime) -> Result<(), Fail> {
     let alloc = rt.alloc();
     let only_k: [(&str, Entries<'_>); 1] = [("default", &[(1, "K")])];
