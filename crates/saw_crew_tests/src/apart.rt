@@ -15,8 +15,13 @@ const FAMILY: &str = "meeting";
 const FRONT: &str = "000000000000000000000000000000000000000000000000000000000000000000000";
 
 pub(crate) fn offers(alloc: Global) -> Result<Arc<Vec<Offer>>, AllocError> {
+    offers_of(alloc, FAMILY)
+}
+
+/// Offers of one family.
+pub(crate) fn offers_of(alloc: Global, family: &str) -> Result<Arc<Vec<Offer>>, AllocError> {
     let mut offers = Vec::new(alloc);
-    let family = Text::from_str(alloc, FAMILY)?;
+    let family = Text::from_str(alloc, family)?;
     let version = Text::from_str(alloc, "1.0")?;
     offers.push(Offer { family, version })?;
     Ok(Arc::new(alloc, offers)?)

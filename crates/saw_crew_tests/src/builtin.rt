@@ -1,9 +1,9 @@
-//! Transactions of a built-in family, run by workers, since another family is offered.
+//! Transactions of a built-in family, run by workers, since the family is offered, too.
 
 ghost use Rattle.std.specs.Prelude.{◌<◌, length};
 ghost use Rattle.saw_crew.specs.Desks.{HaveSameOffers};
 
-use crate::apart::offers;
+use crate::apart::offers_of;
 use crate::copies::Runs;
 use crate::reruns::desk;
 use crate::waits::{Waits, Watched};
@@ -140,7 +140,7 @@ pub(crate) fn are_applied(results: &[BatchResult]) -> bool {
 fn built_in_transactions_are_run_at_once(rt: HostRuntime) -> Result<(), Fail> {
     let alloc = rt.alloc();
     let base = base(alloc, &[("one", 1), ("other", 0)])?;
-    let (runs, offers) = (Runs::new(), offers(alloc)?);
+    let (runs, offers) = (Runs::new(), offers_of(alloc, "intkey")?);
     let mut desks = [desk(&runs, &offers)?, desk(&runs, &offers)?];
     let plan = apart(alloc, &["one", "other"])?;
     let results = results_at(&rt, alloc, plan, &base, &mut desks)?;
@@ -166,7 +166,7 @@ fn is_one_refused(results: &[BatchResult]) -> bool {
 fn a_built_in_transaction_is_run_again(rt: HostRuntime) -> Result<(), Fail> {
     let alloc = rt.alloc();
     let base = base(alloc, &[("set", 1), ("unset", 2), ("behind", 2)])?;
-    let (runs, offers) = (Runs::new(), offers(alloc)?);
+    let (runs, offers) = (Runs::new(), offers_of(alloc, "intkey")?);
     let mut desks = [desk(&runs, &offers)?, desk(&runs, &offers)?];
     let results = results_at(&rt, alloc, failing(alloc)?, &base, &mut desks)?;
     assert!(&rt; is_one_refused(results.batches.as_slice()));
