@@ -2,8 +2,10 @@
 
 ghost use Rattle.std.specs.Prelude.{◌≡◌, [], IfOk};
 
-use crate::apart::wide_plan;
+use crate::apart::{offers, wide_plan};
 use crate::builtin::{apart, are_applied, base, results_at};
+use crate::copies::Runs;
+use crate::reruns::desk;
 use saw_lanes::{gathered, lanes_of};
 use saw_plan::Plan;
 use saw_station::{Desk, NoStation};
@@ -55,6 +57,19 @@ fn lanes_run_at_once(rt: HostRuntime) -> Result<(), Fail> {
     let applied = are_applied(results.batches.as_slice());
     assert!(&rt; applied && results.batches.len() == NAMES.len());
     assert!(&rt; base.vain.load(Ordering::SeqCst) == 0);
+    Ok(())
+}
+
+// The same beside external processors that offer another family. In a schedule each read would be compared once more.
+#[test]
+fn lanes_run_beside_other_offers(rt: HostRuntime) -> Result<(), Fail> {
+    let alloc = rt.alloc();
+    let base = base(alloc, &[("n0", 1), ("n1", 0)])?;
+    let (runs, offers) = (Runs::new(), offers(alloc)?);
+    let mut desks = [desk(&runs, &offers)?, desk(&runs, &offers)?];
+    let results = results_at(&rt, alloc, apart(alloc, &NAMES)?, &base, &mut desks)?;
+    assert!(&rt; are_applied(results.batches.as_slice()));
+    assert!(&rt; base.vain.load(Ordering::SeqCst) == 0 && base.reads_of(0) == 1);
     Ok(())
 }
 
