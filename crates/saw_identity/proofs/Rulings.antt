@@ -132,23 +132,23 @@ is_key : (key q : List ℕ) → is_at (slice_cmp nat_cmp key) q ≡ true → key
 is_key key q e = (bytes_eq-Decides key q).0 (sym (is_eq-slice_cmp key q) ∙ e)
 
 -- where there are no signers, each is permitted
-pub none_permitted : (m : StateMap) (family : List ℕ) (signers : BTreeSet (List ℕ)) → signers.keys ≡ [] → ArePermitted m family signers
-none_permitted m family signers empty = λ signer has. absurd (go signers.keys empty signer has)
+pub none_permitted : (standings : List Standing) (signers : BTreeSet (List ℕ)) → signers.keys ≡ [] → ArePermitted standings signers
+none_permitted standings signers empty = λ signer has. absurd (go signers.keys empty signer has)
   where
     go : (keys : List (List ℕ)) → keys ≡ [] → (signer : List ℕ) → list_any (is_at (slice_cmp nat_cmp signer)) keys ≡ true → ⊥
     go [] e signer has = (cc)
     go (key ∷ keys) e signer has = (cc)
 
 -- one more signer that is permitted
-pub one_permitted : (m : StateMap) (family key : List ℕ) (old new : BTreeSet (List ℕ)) → denied_by key (for_transactions m family) ≡ None
-    → ArePermitted m family old
+pub one_permitted : (standings : List Standing) (key : List ℕ) (old new : BTreeSet (List ℕ)) → denied_by key standings ≡ None
+    → ArePermitted standings old
     → ((q : List ℕ) → contains (slice_cmp nat_cmp) new q ≡ cond (is_at (slice_cmp nat_cmp key) q) true (contains (slice_cmp nat_cmp) old q))
-    → ArePermitted m family new
-one_permitted m family key old new none are updates = λ q has. go q (is_at (slice_cmp nat_cmp key) q) refl (sym (updates q) ∙ has)
+    → ArePermitted standings new
+one_permitted standings key old new none are updates = λ q has. go q (is_at (slice_cmp nat_cmp key) q) refl (sym (updates q) ∙ has)
   where
     go : (q : List ℕ) (b : Bool) → is_at (slice_cmp nat_cmp key) q ≡ b → cond b true (contains (slice_cmp nat_cmp) old q) ≡ true
-        → denied_by q (for_transactions m family) ≡ None
-    go q true e has = subst (λ (signer : List ℕ). denied_by signer (for_transactions m family) ≡ None) (is_key key q e) none
+        → denied_by q standings ≡ None
+    go q true e has = subst (λ (signer : List ℕ). denied_by signer standings ≡ None) (is_key key q e) none
     go q false e has = are q has
 
 -- what is kept of one family is known

@@ -10,7 +10,7 @@ use Rattle.std.specs.Str.{bytes_eq}
 use Rattle.saw_address.specs.Maps.{StateMap}
 use Rattle.saw_checks.specs.declared.policy.PolicyFault.{PolicyFault}
 use Rattle.saw_messages.specs.TxShapes.{BatchShape, TxShape}
-use Rattle.saw_identity.specs.Permissions.{denied_by, denied_from, fault_by, for_transactions, policy_of, role_policy}
+use Rattle.saw_identity.specs.Permissions.{Standing, denied_by, denied_from, fault_by, for_batches, for_transactions, policy_of, role_policy}
 use Rattle.saw_identity.specs.declared.permissions.Judged.TheVariants as judged
 use Rattle.saw_identity.specs.declared.permissions.Judged.{Judged}
 use Rattle.saw_identity.specs.declared.permissions.Known.{Known}
@@ -67,14 +67,14 @@ tx_fault m t tx = option_map (fault_by (Some t)) (denied_by tx.header.signer_pub
 abbrev pub kept_for : List (List ℕ × Known) → List ℕ → Option Known
 kept_for families family = lookup (is_at (slice_cmp nat_cmp family)) families
 
--- each of these signers is permitted for transactions of the family
-abbrev pub ArePermitted : StateMap → List ℕ → BTreeSet (List ℕ) → Type 0
-ArePermitted m family signers = (signer : List ℕ) → contains (slice_cmp nat_cmp) signers signer ≡ true → denied_by signer (for_transactions m family) ≡ None
+-- each of these signers is permitted where these roles decide
+abbrev pub ArePermitted : List Standing → BTreeSet (List ℕ) → Type 0
+ArePermitted standings signers = (signer : List ℕ) → contains (slice_cmp nat_cmp) signers signer ≡ true → denied_by signer standings ≡ None
 
 -- its ruling is that of the family, and its signers are permitted
 pub record IsKnown (m : StateMap) (family : List ℕ) (known : Known) : Type 0 where
   pub own : known.own ≡ own_ruling m family
-  pub permitted : ArePermitted m family known.permitted
+  pub permitted : ArePermitted (for_transactions m family) known.permitted
 
 -- the same of each family that is kept
 abbrev pub AreKnown : StateMap → List (List ℕ × Known) → Type 0
@@ -95,6 +95,7 @@ pub record Holds (course : Permissions) (m : StateMap) : Type 0 where
   pub transactions : course.transactions ≡ for_all_transactions m
   pub all : course.all ≡ for_all m
   pub families : AreKnown m course.families.entries
+  pub batch_signers : ArePermitted (for_batches m) course.batch_signers
   pub last : IfSome course.last (IsPermitted m)
 
 -- the same, for any signer and behind any batches

@@ -82,6 +82,8 @@ pub struct Permissions {
     all: Option<Ruling>,
     /// What is known of the families that occurred.
     families: BTreeMap<Text, Known>,
+    /// The signers of batches that were permitted.
+    batch_signers: BTreeSet<Text>,
     /// The signer and the family that were kept last.
     last: Option<Last>,
 }
@@ -94,6 +96,7 @@ impl Drop for Permissions {
             transactions: _transactions,
             all: _all,
             families: _families,
+            batch_signers: _batch_signers,
             last: _last,
         } = self;
     }
@@ -168,6 +171,7 @@ impl Permissions {
             transactions,
             all,
             families: BTreeMap::new(alloc),
+            batch_signers: BTreeSet::new(alloc),
             last: None,
         }
     }
@@ -178,6 +182,35 @@ impl Permissions {
             → IfOk result (λ found. found ≡ option_map (fault_by None) (denied_by signer.now (for_batches m))) }
     {
         ruled(first_of(&self.batches, &self.all), None, signer)
+    }
+
+    /// Keeps the signer of a batch, who is permitted.
+    fn permit_batches(&mut self, alloc: Global, signer: &Text) -> Result<(), AllocError>
+        ensures ok { OnOk result ((m : StateMap) → Holds self.old m → denied_by signer.now (for_batches m) ≡ None → Holds self.new m) }
+    {
+        let signer = signer.try_clone(alloc)?;
+        self.batch_signers.insert(signer)?;
+        Ok(())
+    }
+
+    /// Judges the signer of a batch, unless it was permitted before.
+    fn judge_batch(
+        &mut self,
+        alloc: Global,
+        signer: &Text,
+    ) -> Result<Option<PolicyFault>, AllocError>
+        ensures fault { (m : StateMap) → Holds self.old m
+            → IfOk result (λ found. found ≡ option_map (fault_by None) (denied_by signer.now (for_batches m))) }
+        ensures ok { OnOk result ((m : StateMap) → Holds self.old m → Holds self.new m) }
+    {
+        if self.batch_signers.contains(signer) {
+            return Ok(None);
+        }
+        if let Some(fault) = self.batch_fault(signer.as_str())? {
+            return Ok(Some(fault));
+        }
+        self.permit_batches(alloc, signer)?;
+        Ok(None)
     }
 
     /// What is wrong with the signer of a transaction, by the ruling of its family.
@@ -330,7 +363,7 @@ impl BlockPolicy for Permissions {
         parent: &B,
         batch: &TxBatch,
     ) -> Result<Option<PolicyFault>, AllocError> {
-        if let Some(fault) = self.batch_fault(batch.signer.as_str())? {
+        if let Some(fault) = self.judge_batch(alloc, &batch.signer)? {
             return Ok(Some(fault));
         }
         let txs = batch.txs.as_slice();

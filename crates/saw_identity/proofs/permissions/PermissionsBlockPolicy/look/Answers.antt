@@ -11,10 +11,10 @@ returns-in-Denied-clause-fault g c = λ signer before stands.
     let raw = c.as_slice-txs.result.now in
     let far = c.loop-t.invariant stands in
     let told = rw c.in-Denied.is at (c.in_ok-judge_known.ensures.told m far.holds) in
-    fault_in_txs m signer before c.args.batch.now c.as_str.result.now (map arc_value raw) _
-    (c.as_str.ensures ∙ ap (λ (batch : BatchShape). batch.signer) c.batch.view_is)
+    fault_in_txs m signer before c.args.batch.now _ (map arc_value raw) _
+    (ap (λ (batch : BatchShape). batch.signer) c.batch.view_is)
     (ap (map arc_value) c.as_slice-txs.ensures ∙ ap (λ (batch : BatchShape). batch.txs) c.batch.view_is)
-    (sym (c.in_ok-fault.ensures m stands) ∙ c.in_default.is)
+    (sym (c.in_ok-fault.ensures.fault m stands) ∙ c.in_default.is)
     (denied_here m arc_value raw c.loop-t.t c.index-txs-t.result c.deref.result.now c.loop-t-test.true c.index-txs-t.is c.deref.ensures far.so_far
     c.in-Denied.fault told)
 
@@ -24,14 +24,14 @@ returns-in-Some-2-clause-fault g c = λ signer before stands.
     let raw = c.as_slice-txs.result.now in
     let far = c.loop-t.invariant stands in
     let own = family_ruling m _ _ _ c.role_address.result (option_copied c.get-found.result) c.in_ok-role-in-Unread.role c.in_ok-own-in-Unread.own
-    c.deref-in-Unread.result.now c.deref-in-Unread-2.result.now c.in_ok-name-in-Unread.ensures c.as_str-in-Unread.ensures.value
-    c.as_str-in-Unread-2.ensures.value c.role_address.ensures c.get-found.ensures c.in_ok-role-in-Unread.ensures
+    c.deref-in-Unread.result.now c.deref-in-Unread-2.result.now c.in_ok-name-in-Unread.ensures c.as_str.ensures.value
+    c.as_str-in-Unread.ensures.value c.role_address.ensures c.get-found.ensures c.in_ok-role-in-Unread.ensures
     (c.in_ok-own-in-Unread.ensures m (rw c.policy_at.ensures at c.get.ensures)) (c.deref-in-Unread.ensures ∙ sym c.deref-in-Unread-2.ensures) in
     let told = c.in_ok-fault-in-Unread.ensures.fault m (c.in_ok-judge_known.ensures.ok m far.holds) own in
-    fault_in_txs m signer before c.args.batch.now c.as_str.result.now (map arc_value raw) _
-    (c.as_str.ensures ∙ ap (λ (batch : BatchShape). batch.signer) c.batch.view_is)
+    fault_in_txs m signer before c.args.batch.now _ (map arc_value raw) _
+    (ap (λ (batch : BatchShape). batch.signer) c.batch.view_is)
     (ap (map arc_value) c.as_slice-txs.ensures ∙ ap (λ (batch : BatchShape). batch.txs) c.batch.view_is)
-    (sym (c.in_ok-fault.ensures m stands) ∙ c.in_default.is)
+    (sym (c.in_ok-fault.ensures.fault m stands) ∙ c.in_default.is)
     (denied_here m arc_value raw c.loop-t.t c.index-txs-t.result c.deref-in-Unread-2.result.now c.loop-t-test.true c.index-txs-t.is
     c.deref-in-Unread-2.ensures far.so_far c.in-Some-2.fault (sym told ∙ c.in-Some-2.is))
 
@@ -39,8 +39,8 @@ pub returns-in-Some-2-clause-stays : goal.returns-in-Some-2-clause-stays
 returns-in-Some-2-clause-stays g c = λ signer before stands.
     let m = g.B.Base.entry c.args.parent.now in
     let own = family_ruling m _ _ _ c.role_address.result (option_copied c.get-found.result) c.in_ok-role-in-Unread.role c.in_ok-own-in-Unread.own
-    c.deref-in-Unread.result.now c.deref-in-Unread-2.result.now c.in_ok-name-in-Unread.ensures c.as_str-in-Unread.ensures.value
-    c.as_str-in-Unread-2.ensures.value c.role_address.ensures c.get-found.ensures c.in_ok-role-in-Unread.ensures
+    c.deref-in-Unread.result.now c.deref-in-Unread-2.result.now c.in_ok-name-in-Unread.ensures c.as_str.ensures.value
+    c.as_str-in-Unread.ensures.value c.role_address.ensures c.get-found.ensures c.in_ok-role-in-Unread.ensures
     (c.in_ok-own-in-Unread.ensures m (rw c.policy_at.ensures at c.get.ensures)) (c.deref-in-Unread.ensures ∙ sym c.deref-in-Unread-2.ensures) in
     c.in_ok-fault-in-Unread.ensures.ok m (c.in_ok-judge_known.ensures.ok m (c.loop-t.invariant stands).holds) own
 
@@ -59,8 +59,8 @@ loop-t-preserved g c = λ stands.
           })
       | in-Unread+in_ok-name-in-Unread+in_ok-role-in-Unread+in_ok-own-in-Unread+in_ok-fault-in-Unread+in_default-2 w ↦
           (let own = family_ruling m _ _ _ w.role_address.result (option_copied w.get-found.result) w.in_ok-role-in-Unread.role w.in_ok-own-in-Unread.own
-          w.deref-in-Unread.result.now w.deref-in-Unread-2.result.now w.in_ok-name-in-Unread.ensures w.as_str-in-Unread.ensures.value
-          w.as_str-in-Unread-2.ensures.value w.role_address.ensures w.get-found.ensures w.in_ok-role-in-Unread.ensures
+          w.deref-in-Unread.result.now w.deref-in-Unread-2.result.now w.in_ok-name-in-Unread.ensures w.as_str.ensures.value
+          w.as_str-in-Unread.ensures.value w.role_address.ensures w.get-found.ensures w.in_ok-role-in-Unread.ensures
           (w.in_ok-own-in-Unread.ensures m (rw w.policy_at.ensures at w.get.ensures)) (w.deref-in-Unread.ensures ∙ sym w.deref-in-Unread-2.ensures) in
           let holds = c.in_ok-judge_known.ensures.ok m far.holds in
           record {
