@@ -1,11 +1,11 @@
 """Measures what on-chain rules cost: a block under ten rules and a list of families beside one without them.
 
-Run by hand, never by the gate, after `rt run` has built the program: python3 -B bench/onchain.py PROGRAM [TURNS]
+Run by hand, never by the gate, after `rt run` has built the program: python3 -B bench/onchain.py PROGRAM [TURNS [mixed]]
 
 Both streams have a first block that sets the keys that may change settings, and two settings more: those of the rules, or
 two that bind nothing. Behind it stands a block of 20,000 IntegerKey transactions, ten in a batch; `publish` makes one of the
 16,600 for which a candidate has room. Runs of both take turns; printed are the least seconds of processor and on the wall, by
-one worker and by four.
+one worker and by four. With `mixed` every second transaction is of XO.
 """
 
 import os
@@ -26,6 +26,10 @@ FAMILIES = '[{"family":"xo","version":"1.0"},{"family":"sawtooth_settings","vers
 RULES = (
     "NofX:20000,intkey; NofX:1,xo; NofX:100,sawtooth_settings; NofX:20000,other; XatY:intkey,0; XatY:intkey,-1;"
     "XatY:intkey,9999; local:0; local:1,2,3; local:16599"
+)
+MIXED = (
+    "NofX:20000,intkey; NofX:20000,xo; NofX:100,sawtooth_settings; NofX:20000,other; XatY:intkey,0; XatY:xo,-1;"
+    "XatY:xo,9999; local:0; local:1,2,3; local:16599"
 )
 SETTINGS = {
     "rules": ("sawtooth.validator.transaction_families", "sawtooth.validator.block_validation_rules"),
@@ -57,9 +61,13 @@ def listed(folder, nonce, texts):
     return path
 
 
-def first_batch(families, rules):
+def transaction(at, mixed):
+    return f"xo create g{at}" if mixed and at % 2 else f"intkey set n{at} 1"
+
+
+def first_batch(families, rules, mixed):
     keys = f"settings propose sawtooth.settings.vote.authorized_keys {batches.KEY}"
-    return f"{keys}; settings propose {families} '{FAMILIES}'; settings propose {rules} '{RULES}'"
+    return f"{keys}; settings propose {families} '{FAMILIES}'; settings propose {rules} '{MIXED if mixed else RULES}'"
 
 
 def block_of(front, made, listed, root):
@@ -82,15 +90,16 @@ def all_of(program, front, made, listed):
 
 def main():
     program, turns = sys.argv[1], int(sys.argv[2]) if len(sys.argv) > 2 else 7
+    mixed = sys.argv[3:] == ["mixed"]
     with tempfile.TemporaryDirectory() as folder:
-        sets = [[f"intkey set n{at + place} 1" for place in range(BATCH)] for at in range(0, TRANSACTIONS, BATCH)]
+        sets = [[transaction(at + place, mixed) for place in range(BATCH)] for at in range(0, TRANSACTIONS, BATCH)]
         texts = ["; ".join(batch) for batch in sets]
         many, roomy = listed(folder, "many", texts), listed(folder, "roomy", texts[: ROOM // BATCH])
         with open(many, "rb") as file:
             content = file.read()
         first, whole = {}, {}
         for name, keys in SETTINGS.items():
-            one = listed(folder, name, [first_batch(*keys)])
+            one = listed(folder, name, [first_batch(*keys, mixed)])
             _, _, first[name] = run([program, "publish", "--batches", one], b"")
             _, _, second = run([program, "publish", "--batches", roomy], first[name])
             whole[name] = all_of(program, first[name], second, content)
