@@ -26,7 +26,7 @@ nothing_read m no_families no_rules = (
 module _ (policy : Policy) (m : StateMap) (signer : List ℕ)
     (none : (before : List BatchShape) (batch : BatchShape) → policy.fault m signer before batch ≡ None)
     (none_at_end : (batches : List BatchShape) → policy.end_fault m batches ≡ None) where
-  none_behind : (before batches : List BatchShape) → first_behind policy.fault policy.end_fault m signer before batches ≡ None
+  pub none_behind : (before batches : List BatchShape) → first_behind policy.fault policy.end_fault m signer before batches ≡ None
   none_behind before [] = ap (λ found. first_or policy.fault policy.end_fault m signer found (length before) None) (none_at_end before)
   none_behind before (batch ∷ batches) =
       ap (λ found. first_or policy.fault policy.end_fault m signer found (length before) (first_behind policy.fault policy.end_fault m signer (before ++ batch ∷ []) batches)) (none before batch)
