@@ -1,10 +1,10 @@
 -- That the built-in processors tell their actions and refuse by their own reasons; and where all is told.
-use Rattle.std.proofs.Common.{◌≡◌, inl, inr, ℕ, Bool, true, false, List, [], ◌∷◌, map, Result, Ok, Err, refl, sym, subst}
+use Rattle.std.proofs.Common.{◌≡◌, inl, inr, ℕ, Bool, true, List, [], ◌∷◌, map, Result, Ok, Err, refl, sym, subst}
 use Rattle.std.proofs.lemmas.Bool.{and_from}
 use Rattle.std.specs.List.{list_all}
-use Rattle.std.specs.Prelude.{is_some}
 use Rattle.saw_context.specs.Outcome.{Processors}
 use Rattle.saw_crew.proofs.Telling.{batches_told}
+use Rattle.saw_identity.specs.Stations.{identity_offers, with_identity}
 use Rattle.saw_messages.specs.Blocks.{block}
 use Rattle.saw_messages.specs.TxShapes.{TxShape}
 use Rattle.saw_messages.specs.declared.batch.Batch.{Batch}
@@ -16,9 +16,7 @@ use Rattle.saw_messages.specs.declared.talk.Turn.{Turn}
 use Rattle.saw_plan.specs.BatchShapes.{txs_of}
 use Rattle.saw_receipts.specs.Shapes.{batch_in}
 use Rattle.saw_report.specs.declared.run_fault.RunFault.{RunFault}
-use Rattle.saw_station.proofs.Finished.{processors_own}
-use Rattle.saw_station.specs.Families.{family_of}
-use Rattle.saw_station.specs.Serving.{processors_at}
+use Rattle.saw_station.specs.CommonOffers.{common}
 use Rattle.saw_station.specs.declared.offer.Offer.{Offer}
 use Rattle.saw_top.specs.Answers.{Prepared}
 use Rattle.saw_top.specs.BuiltInLaws.{BuiltInTell}
@@ -26,22 +24,15 @@ use Rattle.saw_top.specs.Stream.{stream_of}
 use Rattle.saw_receipts.specs.Telling.{tell_batches, tell_block, tell_read}
 use Rattle.saw_top.specs.Telling.{IsTold}
 use Rattle.saw_top.specs.TellingLaws.{AllIsTold}
-use Rattle.saw_top.specs.World.{TellsAll}
+use Rattle.saw_top.specs.World.{TellsAll, processors_alone, processors_with}
 use Rattle.saw_top.proofs.Desks.{tells_all}
+use Rattle.saw_top.proofs.Served.{own_alone}
 use Rattle.saw_wire.specs.declared.fault.MessageFault.{MessageFault}
 
 pub built_in_tell : BuiltInTell
-built_in_tell = (tells_all (λ tx turns. actions.Invalid Remote) [], processors_own (λ tx turns. actions.Invalid Remote) (λ tx turns. refl) true [])
+built_in_tell = (tells_all (with_identity (λ tx turns. actions.Invalid Remote)) (identity_offers []), own_alone)
 
 -- ---- where all is told
-
--- where nothing is offered by an external processor
-none_offered : (next : TxShape → List Turn → Action) (tells : Bool) → TellsAll (processors_at next tells [])
-none_offered next tells family version = by_test (is_some (family_of family version)) refl
-  where
-    by_test : (own : Bool) → is_some (family_of family version) ≡ own → (processors_at next tells []).tells family version ≡ true
-    by_test true own = rw own refl
-    by_test false own = rw own refl
 
 module _ (processors : Processors) (tells : TellsAll processors) where
   batches_so : (batches : List Batch) → tell_batches processors batches ≡ true
@@ -59,10 +50,14 @@ module _ (processors : Processors) (tells : TellsAll processors) where
   told_so (Ok made) bytes = (frames_so (stream_of bytes).frames, batches_so made.waiting.batches)
   told_so (Err fault) bytes = tt
 
+told_with : (next : TxShape → List Turn → Action) (lists : List (List Offer)) → TellsAll (processors_with next true lists)
+told_with next [] = tells_all (with_identity (λ tx turns. actions.Invalid Remote)) (identity_offers [])
+told_with next (first ∷ others) = tells_all (with_identity next) (identity_offers (common (first ∷ others)))
+
 pub all_is_told : AllIsTold
-all_is_told next tells offers ready bytes (inl none) =
-    subst (λ (offers : List Offer). IsTold (processors_at next tells offers) ready bytes) (sym none)
-    (told_so (processors_at next tells []) (none_offered next tells) ready bytes)
-all_is_told next tells offers ready bytes (inr told) =
-    subst (λ (tells : Bool). IsTold (processors_at next tells offers) ready bytes) (sym told)
-    (told_so (processors_at next true offers) (tells_all next offers) ready bytes)
+all_is_told next tells lists ready bytes (inl none) =
+    subst (λ (lists : List (List Offer)). IsTold (processors_with next tells lists) ready bytes) (sym none)
+    (told_so processors_alone (told_with next []) ready bytes)
+all_is_told next tells lists ready bytes (inr told) =
+    subst (λ (tells : Bool). IsTold (processors_with next tells lists) ready bytes) (sym told)
+    (told_so (processors_with next true lists) (told_with next lists) ready bytes)

@@ -252,7 +252,7 @@ module _ (accepts : Accepts) (signing : Signing) (processors : Processors) (own 
 -- ---- external processors
 
 -- what was done with some of them, as done with all
-module _ (processors : Processors) (task : Task) (ready : Prepared) (before after : Outside) (olds news all_olds all_news : List ℕ)
+module _ (processors : Processors) (task : Task) (ready : Result Prepared RunFault) (before after : Outside) (olds news all_olds all_news : List ℕ)
     (rose : SomeRose olds news → SomeRose all_olds all_news) where
   abbrev some_before : Outside
   some_before = record before { remotes = olds }
@@ -269,26 +269,33 @@ module _ (processors : Processors) (task : Task) (ready : Prepared) (before afte
   still_so : some_after ≡ record some_before { shelf = after.shelf; remotes = news } → all_after ≡ record all_before { shelf = after.shelf; remotes = all_news }
   still_so is = ap (λ (o : Outside). record o { remotes = all_news }) is
 
-  cause_so : (came : Result ℕ RunFault) → HasCause processors task (Ok ready) some_before some_after came
-      → HasCause processors task (Ok ready) all_before all_after came
-  cause_so (Ok status) cause = cause
-  cause_so (Err runs.Words) cause = absurd cc
-  cause_so (Err runs.FileMissing) cause = absurd cc
-  cause_so (Err runs.FileTooLong) cause = absurd cc
-  cause_so (Err (runs.BadLine line)) cause = absurd cc
-  cause_so (Err runs.BadList) cause = absurd cc
-  cause_so (Err runs.FileFailed) cause = (cause.0, still_so cause.1)
-  cause_so (Err runs.Memory) cause = tt
-  cause_so (Err runs.Read) cause = cause
-  cause_so (Err runs.Write) cause = cause
-  cause_so (Err runs.Peer) cause = (inl (ready, refl), rose cause.1)
-  cause_so (Err (runs.Collision kept given)) cause = cause
-  cause_so (Err fault) cause = (ready, refl)
+  untouched_so : some_after ≡ record some_before { remotes = news } → all_after ≡ record all_before { remotes = all_news }
+  untouched_so is = ap (λ (o : Outside). record o { remotes = all_news }) is
 
-  pub does_so : (came : Result ℕ RunFault) → DoesTask processors task (Ok ready) some_before some_after came
-      → DoesTask processors task (Ok ready) all_before all_after came
-  does_so came does = record {
-    cause = cause_so came does.cause;
+  early_so : (Ready : Type 0) → Ready ⊎ (some_after ≡ record some_before { remotes = news }) → Ready ⊎ (all_after ≡ record all_before { remotes = all_news })
+  early_so Ready (inl is) = inl is
+  early_so Ready (inr is) = inr (untouched_so is)
+
+  cause_so : (came : Result ℕ RunFault) → (came ≡ Err runs.Words → ⊥) → HasCause processors task ready some_before some_after came
+      → HasCause processors task ready all_before all_after came
+  cause_so (Ok status) never cause = cause
+  cause_so (Err runs.Words) never cause = absurd (never refl)
+  cause_so (Err runs.FileMissing) never cause = (cause.0, still_so cause.1)
+  cause_so (Err runs.FileTooLong) never cause = (cause.0, still_so cause.1)
+  cause_so (Err (runs.BadLine line)) never cause = (cause.0, still_so cause.1)
+  cause_so (Err runs.BadList) never cause = (cause.0, still_so cause.1)
+  cause_so (Err runs.FileFailed) never cause = (cause.0, still_so cause.1)
+  cause_so (Err runs.Memory) never cause = tt
+  cause_so (Err runs.Read) never cause = cause
+  cause_so (Err runs.Write) never cause = cause
+  cause_so (Err runs.Peer) never cause = (early_so _ cause.0, rose cause.1)
+  cause_so (Err (runs.Collision kept given)) never cause = cause
+  cause_so (Err fault) never cause = cause
+
+  pub does_so : (came : Result ℕ RunFault) → (came ≡ Err runs.Words → ⊥) → DoesTask processors task ready some_before some_after came
+      → DoesTask processors task ready all_before all_after came
+  does_so came never does = record {
+    cause = cause_so came never does.cause;
     lines = does.lines;
     aside = does.aside;
     noted = does.noted;
@@ -298,6 +305,39 @@ module _ (processors : Processors) (task : Task) (ready : Prepared) (before afte
     shows = does.shows;
     told = does.told;
   }
+
+-- where words and files are ready no words were wrong
+pub never_wrong : (processors : Processors) (task : Task) (ready : Prepared) (before after : Outside) (came : Result ℕ RunFault)
+    → DoesTask processors task (Ok ready) before after came → came ≡ Err runs.Words → ⊥
+never_wrong processors task ready before after came does is =
+    let cause : HasCause processors task (Ok ready) before after (Err runs.Words) =
+    subst (HasCause processors task (Ok ready) before after) is does.cause in cc cause.0
+
+-- a job that was done with some of them was done with all
+pub job_so : (given : Files → World) (wish : Wish) (before after : Outside) (olds news all_olds all_news : List ℕ) → (SomeRose olds news → SomeRose all_olds all_news)
+    → AreLater all_olds all_news → (came : Result ℕ RunFault)
+    → DoesJob given (Some wish) (record before { remotes = olds }) (record after { remotes = news }) came
+    → DoesJob given (Some wish) (record before { remotes = all_olds }) (record after { remotes = all_news }) came
+job_so given wish before after olds news all_olds all_news rose later came done = record {
+  files = done.files;
+  held = done.held;
+  words = done.words;
+  named = done.named;
+  later = later;
+  does = does_so (given done.files).processors wish.task (prepared (given done.files) (Some wish)) before after olds news all_olds all_news rose came
+      (λ is. let none = done.words.0 is in cc none) done.does;
+}
+
+-- a job was done by processors that come to the same, and so many external processors that have failed as often
+pub same_job : (accepts : Accepts) (signing : Signing) (wish : Wish) (before after : Outside) (processors others : Processors) (olds all_olds news all_news : List ℕ)
+    (came : Result ℕ RunFault) → processors ≡ others → olds ≡ all_olds → news ≡ all_news
+    → DoesJob (world_with accepts signing processors) (Some wish) (record before { remotes = olds }) (record after { remotes = news }) came
+    → DoesJob (world_with accepts signing others) (Some wish) (record before { remotes = all_olds }) (record after { remotes = all_news }) came
+same_job accepts signing wish before after processors others olds all_olds news all_news came same same_olds same_news done =
+    subst (λ (p : Processors). DoesJob (world_with accepts signing p) (Some wish) (record before { remotes = all_olds }) (record after { remotes = all_news }) came) same
+    (subst (λ (l : List ℕ). DoesJob (world_with accepts signing processors) (Some wish) (record before { remotes = all_olds }) (record after { remotes = l }) came) same_news
+    (subst (λ (l : List ℕ). DoesJob (world_with accepts signing processors) (Some wish) (record before { remotes = l }) (record after { remotes = news }) came) same_olds
+    done))
 
 module _ (given : Files → World) (wish : Wish) (before : Outside) (counts : List ℕ) (later : AreLater before.remotes counts) where
   abbrev begun_at : Outside

@@ -35,6 +35,13 @@ later_count [] (new ∷ news) later = absurd later
 later_count (old ∷ olds) [] later = absurd later
 later_count (old ∷ olds) (new ∷ news) later = omega (arith, later_count olds news later.1)
 
+-- none rises where none is counted
+pub never_rose : {R : Type 0} (olds news : List R) → SomeRose (map (λ one. 0) olds) (map (λ one. 0) news) → ⊥
+never_rose [] news rose = rose
+never_rose (old ∷ olds) [] rose = rose
+never_rose (old ∷ olds) (new ∷ news) (inl rose) = omega (arith, rose)
+never_rose (old ∷ olds) (new ∷ news) (inr rose) = never_rose olds news rose
+
 -- ---- several lists of them
 
 pub later_both : (olds news more_olds more_news : List ℕ) → AreLater olds news → AreLater more_olds more_news

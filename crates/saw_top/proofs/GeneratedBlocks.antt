@@ -1,6 +1,7 @@
 -- The blocks of a vouched stream, judged one behind another.
 use Rattle.std.proofs.Common.{◌≡◌, ◌<◌, ◌≤◌, ◌||◌, ℕ, zero, suc, true, false, List, [], ◌∷◌, ◌++◌, length, map, Option, Some, None, Ok}
 use Rattle.std.proofs.Common.{refl, sym, ap, ap₂, subst, ◌∙◌, arith}
+use Rattle.std.specs.Option.{option_or}
 use Rattle.std.specs.Prelude.{option_and_then, option_map}
 use Rattle.std.specs.List.{flat_map, list_any, range_with_len}
 use Rattle.std.specs.Str.{bytes_eq}
@@ -13,6 +14,10 @@ use Rattle.saw_generate.proofs.FreshIds.{none_dropped}
 use Rattle.saw_generate.specs.Laws.{results_at}
 use Rattle.saw_generate.specs.Streams.{batches_at, block_at, content_at, map_after_blocks, parent_after, root_at}
 use Rattle.saw_generate.specs.declared.wish.GenerateWish.{GenerateWish}
+use Rattle.saw_identity.proofs.Kept.{nobody_denied}
+use Rattle.saw_identity.specs.Addresses.{policy_address, role_address}
+use Rattle.saw_identity.specs.Permissions.{fault, permissions}
+use Rattle.saw_identity.specs.Stations.{identity_offers, with_identity}
 use Rattle.saw_journal.proofs.Branching.{branch_of-new}
 use Rattle.saw_journal.proofs.Ids.{ids_push_block}
 use Rattle.saw_journal.proofs.Judging.{stands}
@@ -21,9 +26,13 @@ use Rattle.saw_journal.specs.BlockFaults.{first_in, ids_before, parent_of, place
 use Rattle.saw_journal.specs.BlockShapes.{Parts, parts_of}
 use Rattle.saw_journal.specs.Judgement.{Kept, kept_of}
 use Rattle.saw_journal.specs.Linked.{AreLinked, StandsBehind}
+use Rattle.saw_messages.specs.TxShapes.{BatchShape}
 use Rattle.saw_messages.specs.declared.batch.Batch.{Batch}
 use Rattle.saw_messages.specs.declared.block.BlockHeader.{BlockHeader}
+use Rattle.saw_messages.specs.declared.outcome.Reason.TheVariants.{Remote}
+use Rattle.saw_messages.specs.declared.talk.Action.TheVariants as actions
 use Rattle.saw_node.specs.Hashes.{first_half}
+use Rattle.saw_plan.specs.BatchShapes.{txs_of}
 use Rattle.saw_plan.specs.StaticRules.{Ids}
 use Rattle.saw_plan.specs.SortingSteps.{both}
 use Rattle.saw_publish.specs.Candidates.{Signing, header_of, header_with, number_behind, previous_of}
@@ -32,19 +41,23 @@ use Rattle.saw_receipts.specs.Heads.{as_parent, head_of, is_new_head}
 use Rattle.saw_receipts.specs.Running.{Runs}
 use Rattle.saw_receipts.specs.declared.block.BlockRecord.{BlockRecord}
 use Rattle.saw_receipts.specs.declared.block.Parent.{Parent}
-use Rattle.saw_rules.proofs.Unread.{unread_passes}
+use Rattle.saw_rules.proofs.Unread.{none_behind, nothing_read}
+use Rattle.saw_rules.specs.Policies.{first_fault}
 use Rattle.saw_rules.specs.OnChainRules.{families_key, on_chain, rules_key}
 use Rattle.saw_rules.specs.Families.{families_of}
 use Rattle.saw_rules.specs.RuleTexts.{rules_of}
+use Rattle.saw_context.specs.Serial.{left_after}
+use Rattle.saw_context.specs.declared.batch_result.BatchResult.{BatchResult}
 use Rattle.saw_schedule.specs.BatchResults.{first_failure}
 use Rattle.saw_settings.specs.Keys.{address_of}
 use Rattle.saw_settings.specs.Settings.{setting_of, value_by}
 use Rattle.saw_station.specs.Serving.{alone}
 use Rattle.saw_top.specs.GeneratedLaws.{IsVouchedFor, batch_ids_at, transaction_ids_at, alone_by}
 use Rattle.saw_top.specs.History.{judged_behind, map_behind, record_of, records_of}
-use Rattle.saw_top.specs.World.{Accepts, serially}
+use Rattle.saw_top.specs.World.{Accepts, governed, processors_alone, serially}
 use Rattle.saw_top.proofs.BehindHead.{IsHead, becomes_head, branch_is, head_is, ids_are, is_head, parent_is, placed}
 use Rattle.saw_top.proofs.Branching.{left_last}
+use Rattle.saw_top.proofs.BuiltInAlike.{generated_built_in, serial_same}
 use Rattle.saw_top.proofs.GeneratedIds.{kept_ids}
 use Rattle.saw_top.proofs.GeneratedSigned.{batches_differ, block_is_new, block_signed, id_at, transactions_differ}
 use Rattle.saw_top.proofs.NextBlocks.{IsFaultless, judged_over, judged_read}
@@ -62,11 +75,28 @@ none_set : (m : StateMap) (key : List ℕ) → ((tail : List ℕ) → value_at m
 unfolding setting_of address_of
 none_set m key none = ap (value_by key) (none _)
 
+none_kept : (m : StateMap) → ((tail : List ℕ) → value_at m (0 ∷ tail) ≡ None)
+    → ((name : List ℕ) → value_at m (role_address name) ≡ None) × ((name : List ℕ) → value_at m (policy_address name) ≡ None)
+unfolding role_address policy_address
+none_kept m none = (λ name. none _, λ name. none _)
+
+-- and no block is refused for what they say
+unset_passes : (m : StateMap) (signer : List ℕ) (batches : List BatchShape) → ((tail : List ℕ) → value_at m (0 ∷ tail) ≡ None)
+    → first_fault governed.fault governed.end_fault m signer batches ≡ None
+unfolding governed on_chain permissions
+unset_passes m signer batches none =
+    let read = nothing_read m (ap (option_and_then families_of) (none_set m families_key none)) (ap (option_and_then rules_of) (none_set m rules_key none)) in
+    let kept = none_kept m none in
+    none_behind governed m signer
+    (λ before batch. ap (λ found. option_or found (fault m signer before batch)) (read.0 signer before batch)
+    ∙ nobody_denied m kept.0 kept.1 signer before batch)
+    (λ batches. ap (λ found. option_or found None) (read.1 batches)) [] batches
+
 -- ---- what is kept of a stream
 
 module _ (accepts : Accepts) (signing : Signing) (wish : GenerateWish) where
   abbrev runs : Runs
-  runs = (serially (alone [])).candidate
+  runs = (serially processors_alone).candidate
 
   abbrev header_at : ℕ → BlockHeader
   header_at b = header_of signing.key (parent_after signing wish b) (batches_at signing wish b) (root_at signing wish b)
@@ -159,17 +189,22 @@ module _ (accepts : Accepts) (signing : Signing) (wish : GenerateWish) where
     unset : (tail : List ℕ) → value_at before (0 ∷ tail) ≡ None
     unset tail = no_setting signing wish vouched.key few narrow b low tail
 
-    faultless : IsFaultless first_half on_chain runs (records_after b) (map_after_blocks signing wish b) (ids_after b) (parts_at b)
+    -- its batches come to what they come to by the built-in processors alone
+    ran : runs before (txs_of (parts_at b).batches) ≡ results_at signing wish b
+    ran =
+        serial_same (with_identity (λ tx turns. actions.Invalid Remote)) (λ tx turns. actions.Invalid Remote) true true (identity_offers []) [] before
+        (txs_of (parts_at b).batches) (generated_built_in signing wish vouched.key few narrow b low)
+
+    faultless : IsFaultless first_half governed runs (records_after b) (map_after_blocks signing wish b) (ids_after b) (parts_at b)
         (map_after_blocks signing wish (suc b))
     unfolding map_after_blocks
     faultless = record {
       placed = well_placed;
       whole = none_dropped 0 (ids_after b) (batches_at signing wish b) (batches_free signing wish vouched.key few narrow b low)
           (batches_differ accepts signing wish vouched b low) (transactions_differ accepts signing wish vouched b low);
-      allowed = unread_passes before signing.key (parts_at b).batches (ap (option_and_then families_of) (none_set before families_key unset))
-          (ap (option_and_then rules_of) (none_set before rules_key unset));
-      valid = none_fails;
-      left_is = refl;
+      allowed = unset_passes before signing.key (parts_at b).batches unset;
+      valid = ap (first_failure 0) ran ∙ none_fails;
+      left_is = ap (left_after before) ran;
       states = refl;
     }
 
@@ -177,11 +212,12 @@ module _ (accepts : Accepts) (signing : Signing) (wish : GenerateWish) where
     pub judged_at : judged_behind (alone_by accepts) b (accepted_after b) (content_at signing wish b) ≡ Ok (kept_at b)
     judged_at =
         let good = block_good signing wish vouched.key few narrow accepts (block_signed accepts signing wish vouched) b low in
-        judged_read first_half accepts on_chain runs (map_behind (accepted_after b)) blocks (content_at signing wish b) (block_at signing wish b)
+        judged_read first_half accepts governed runs (map_behind (accepted_after b)) blocks (content_at signing wish b) (block_at signing wish b)
         (header_at b) good.2 good.0 good.1
-        ∙ judged_over first_half on_chain runs (map_behind (accepted_after b)) blocks (parts_at b) (map_after_blocks signing wish (suc b))
+        ∙ judged_over first_half governed runs (map_behind (accepted_after b)) blocks (parts_at b) (map_after_blocks signing wish (suc b))
         (map_after_blocks signing wish b) (ids_after b)
         (ap (map_behind (accepted_after b)) parent_found ∙ is.left) ids_found faultless
+        ∙ ap (λ (results : List BatchResult). Ok (kept_of first_half (parts_at b) before results)) ran
 
     -- and is the new head
     pub new_head : is_new_head (head_of (records_after b)) (kept_at b).block ≡ true

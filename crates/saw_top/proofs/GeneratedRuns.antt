@@ -18,13 +18,12 @@ use Rattle.saw_publish.specs.Candidates.{Signing}
 use Rattle.saw_receipts.specs.Heads.{as_parent, head_of}
 use Rattle.saw_receipts.specs.declared.verdict.Verdict.TheVariants.{Committed, Stored}
 use Rattle.saw_report.specs.declared.run_fault.RunFault.{RunFault}
-use Rattle.saw_station.specs.Serving.{alone}
 use Rattle.saw_top.specs.GeneratedLaws.{GeneratedStreamIsCommitted, IsCommitted, IsVouchedFor, alone_by, places}
 use Rattle.saw_top.specs.History.{History, Said, accepted_as, before, ended, goes_on, history, judged_behind, map_behind, records_of, some_refused}
 use Rattle.saw_top.specs.Limits.{max_blocks, max_length}
 use Rattle.saw_top.specs.Run.{end_by, fault_in, head_map, history_of, status_by}
 use Rattle.saw_top.specs.Stream.{Stream, stream_of}
-use Rattle.saw_top.specs.World.{Accepts, Judging, rules_with, serially}
+use Rattle.saw_top.specs.World.{Accepts, Judging, processors_alone, rules_with, serially}
 use Rattle.saw_top.specs.declared.task.Ending.TheVariants.{Head}
 use Rattle.saw_top.proofs.Frames.{frames_are_read}
 use Rattle.saw_top.proofs.GeneratedBlocks.{IsBehind, accepted_after, all_behind, judged_at, kept_at, new_head}
@@ -45,7 +44,7 @@ module _ (accepts : Accepts) (signing : Signing) (wish : GenerateWish) (few : wi
   judging = alone_by accepts
 
   abbrev rules : Rules
-  rules = rules_with first_half accepts (serially (alone [])).candidate
+  rules = rules_with first_half accepts (serially processors_alone).candidate
 
   -- the accepted blocks behind so many, and what is kept of the next one
   abbrev accepted : ℕ → List Kept

@@ -6,6 +6,7 @@ pub mod BehindHead
 pub mod Steps
 pub mod Elements
 pub mod OwnReasons
+pub mod Served
 pub mod OneAnswer
 pub mod SerialBranches
 pub mod Streams
@@ -25,11 +26,13 @@ pub mod Prepares
 pub mod Seating
 pub mod Counting
 pub mod Seated
+pub mod Wrapped
 pub mod Carrying
 pub mod Endings
 pub mod Frames
 pub mod NextBlocks
 pub mod Candidates
+pub mod BuiltInAlike
 pub mod GeneratedSigned
 pub mod GeneratedIds
 pub mod GeneratedBlocks

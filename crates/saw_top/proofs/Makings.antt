@@ -20,7 +20,7 @@ use Rattle.saw_receipts.specs.Running.{Runs}
 use Rattle.saw_receipts.specs.declared.block.Parent.{Parent}
 use Rattle.saw_receipts.specs.declared.loss.Loss.{Loss}
 use Rattle.saw_report.specs.declared.run_fault.RunFault.TheVariants.{Collision}
-use Rattle.saw_rules.specs.OnChainRules.{on_chain}
+use Rattle.saw_top.specs.World.{governed}
 use Rattle.saw_rules.specs.declared.policy.Placed.{Placed}
 use Rattle.saw_top.specs.Ends.{publication_in}
 use Rattle.saw_top.specs.Making.{Makes}
@@ -34,17 +34,17 @@ module _ (processors : Processors) (accepts : Accepts) (waiting : Waiting) (ledg
     (same : states ≡ ledger.states) (is : parent ≡ parent_at ledger.blocks) where
   abbrev Built : Result Candidate PublishFault → Type 0
   Built result =
-      Builds first_half on_chain waiting.signing states parent processors accepts (ids_in (head_branch ledger.blocks)) waiting.batches result
+      Builds first_half governed waiting.signing states parent processors accepts (ids_in (head_branch ledger.blocks)) waiting.batches result
 
   abbrev Here : Result Candidate PublishFault → Type 0
   Here result =
-      Builds first_half on_chain waiting.signing ledger.states (parent_at ledger.blocks) processors accepts (ids_in (head_branch ledger.blocks))
+      Builds first_half governed waiting.signing ledger.states (parent_at ledger.blocks) processors accepts (ids_in (head_branch ledger.blocks))
       waiting.batches result
 
   here : (result : Result Candidate PublishFault) → Built result → Here result
   here result built =
-      subst (λ (p : Option Parent). Builds first_half on_chain waiting.signing ledger.states p processors accepts (ids_in (head_branch ledger.blocks)) waiting.batches result) is
-      (subst (λ (s : States). Builds first_half on_chain waiting.signing s parent processors accepts (ids_in (head_branch ledger.blocks)) waiting.batches result) same built)
+      subst (λ (p : Option Parent). Builds first_half governed waiting.signing ledger.states p processors accepts (ids_in (head_branch ledger.blocks)) waiting.batches result) is
+      (subst (λ (s : States). Builds first_half governed waiting.signing s parent processors accepts (ids_in (head_branch ledger.blocks)) waiting.batches result) same built)
 
   -- what comes of the batches, by how they are run
   abbrev made_by : Runs → Publication
@@ -54,7 +54,7 @@ module _ (processors : Processors) (accepts : Accepts) (waiting : Waiting) (ledg
   content_by runs = content_of first_half waiting.signing (parent_at ledger.blocks) (made_by runs).draft
 
   abbrev fault_by : Runs → Option Placed
-  fault_by runs = block_fault on_chain waiting.signing.key (map_before ledger.states (parent_at ledger.blocks)) (made_by runs).draft
+  fault_by runs = block_fault governed waiting.signing.key (map_before ledger.states (parent_at ledger.blocks)) (made_by runs).draft
 
   -- the refusal, by whether a batch is applied
   refused_as : (runs : Runs) (nothing : Bool) → is_nothing (made_by runs).draft ≡ nothing

@@ -12,7 +12,7 @@ use Rattle.saw_publish.proofs.Told.{draft_told}
 use Rattle.saw_receipts.specs.Branches.{ids_in}
 use Rattle.saw_receipts.specs.Heads.{head_branch, head_of}
 use Rattle.saw_report.specs.declared.run_fault.RunFault.{RunFault}
-use Rattle.saw_rules.specs.OnChainRules.{on_chain}
+use Rattle.saw_top.specs.World.{governed}
 use Rattle.saw_top.specs.Answers.{Prepared, answer_for}
 use Rattle.saw_top.specs.Headline.{WritesAnswer, WritesAnswerOf, TellsFirst}
 use Rattle.saw_top.specs.History.{History, history, map_behind, maps_of, records_of, some_refused, tried}
@@ -61,16 +61,16 @@ module _ (processors : Processors) (ways : Ways) (may : AreWays processors ways)
       → history judging 0 frames [] ≡ history one_by_one 0 frames []
   history_told frames told =
       history_same accepts ways.blocks (serially processors).blocks frames 0
-      (λ n content is below kepts. judged_told processors (ways.blocks (0 + n)) (may.blocks (0 + n)) first_half accepts on_chain (map_behind kepts) (records_of kepts) content
+      (λ n content is below kepts. judged_told processors (ways.blocks (0 + n)) (may.blocks (0 + n)) first_half accepts governed (map_behind kepts) (records_of kepts) content
       (all_at (tell_block processors) frames n content told is)) []
 
   tried_told : (frames : List (List ℕ)) → list_all (tell_block processors) frames ≡ true
       → tried judging 0 frames [] ≡ tried one_by_one 0 frames []
   tried_told frames told =
       tried_same accepts ways.blocks (serially processors).blocks frames 0
-      (λ n content is below kepts. judged_told processors (ways.blocks (0 + n)) (may.blocks (0 + n)) first_half accepts on_chain (map_behind kepts) (records_of kepts) content
+      (λ n content is below kepts. judged_told processors (ways.blocks (0 + n)) (may.blocks (0 + n)) first_half accepts governed (map_behind kepts) (records_of kepts) content
       (all_at (tell_block processors) frames n content told is))
-      (λ n content is kepts. left_told processors (ways.blocks (0 + n)) (may.blocks (0 + n)) first_half accepts on_chain (map_behind kepts) (records_of kepts) content
+      (λ n content is kepts. left_told processors (ways.blocks (0 + n)) (may.blocks (0 + n)) first_half accepts governed (map_behind kepts) (records_of kepts) content
       (all_at (tell_block processors) frames n content told is)) []
 
   module _ (waiting : Waiting) (told : tell_batches processors waiting.batches ≡ true) where
@@ -89,7 +89,7 @@ module _ (processors : Processors) (ways : Ways) (may : AreWays processors ways)
           status = candidate_status (some_refused run.said) made;
           made = map_left made;
         }) (ap (publication_by last waiting.signing.key before)
-        (draft_told processors ways.candidate may.candidate accepts on_chain waiting.signing.key before (ids_in (head_branch blocks)) waiting.batches told))
+        (draft_told processors ways.candidate may.candidate accepts governed waiting.signing.key before (ids_in (head_branch blocks)) waiting.batches told))
 
     answer_told : (task : Task) (bytes : List ℕ) → tell_stream processors bytes ≡ true
         → task_answer judging last waiting task bytes ≡ task_answer one_by_one last_serial waiting task bytes

@@ -10,7 +10,7 @@ use Rattle.saw_top.specs.Outside.{AreLater, SomeRose, counts_of}
 use Rattle.saw_top.specs.Seats.{HaveOffers, remotes_at}
 use Rattle.saw_top.proofs.Counting.{first_last, later_back, later_both, later_count, later_same, rose_back, rose_last}
 
-map_back : {X Y : Type 0} (f : X → Y) (xs : List X) → map f (reverse xs) ≡ reverse (map f xs)
+pub map_back : {X Y : Type 0} (f : X → Y) (xs : List X) → map f (reverse xs) ≡ reverse (map f xs)
 map_back f [] = refl
 map_back f (x ∷ xs) =
     ap (map f) (first_last x xs) ∙ map-append f (reverse xs) (x ∷ []) ∙ ap (λ l. l ++ f x ∷ []) (map_back f xs) ∙ sym (first_last (f x) (map f xs))

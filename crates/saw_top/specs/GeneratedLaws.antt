@@ -10,19 +10,18 @@ use Rattle.saw_messages.specs.declared.batch.Batch.{Batch}
 use Rattle.saw_publish.specs.Candidates.{Signing}
 use Rattle.saw_receipts.specs.Heads.{as_parent, head_of}
 use Rattle.saw_receipts.specs.declared.verdict.Verdict.TheVariants.{Committed}
-use Rattle.saw_station.specs.Serving.{alone}
 use Rattle.saw_top.specs.History.{records_of}
 use Rattle.saw_top.specs.Answers.{answer_for}
 use Rattle.saw_top.specs.Publishing.{Waiting}
 use Rattle.saw_top.specs.Run.{fault_of, head_map, run_of}
 use Rattle.saw_top.specs.Stream.{stream_of}
-use Rattle.saw_top.specs.World.{Accepts, Judging, judging_by, serially}
+use Rattle.saw_top.specs.World.{Accepts, Judging, judging_by, processors_alone, serially}
 use Rattle.saw_top.specs.declared.task.Ending.TheVariants.{Head}
 use Rattle.saw_top.specs.declared.task.Lines.TheVariants.{All}
 
 -- blocks are judged by the built-in processors alone, their batches one after another
 abbrev pub alone_by : Accepts → Judging
-alone_by accepts = judging_by accepts (serially (alone []))
+alone_by accepts = judging_by accepts (serially processors_alone)
 
 module _ (signing : Signing) (wish : GenerateWish) where
   -- the places of the blocks
@@ -66,7 +65,7 @@ module _ (signing : Signing) (wish : GenerateWish) where
     pub left : head_map (run_of (alone_by accepts) (stream signing wish))
         ≡ map_after_blocks signing wish wish.blocks
     pub status : (waiting : Waiting)
-        → (answer_for (serially (alone [])) (record { lines = All; ending = Head })
+        → (answer_for (serially processors_alone) (record { lines = All; ending = Head })
         (Ok (record { accepts = accepts; waiting = waiting })) (stream signing wish)).status ≡ 0
 
 -- a generated stream is committed by whoever accepts its signatures

@@ -18,6 +18,7 @@ pub mod Answers
 pub mod Telling
 pub mod Outside
 pub mod Seats
+pub mod Wrapping
 pub mod StreamJudging
 pub mod Vouching
 pub mod Headline

@@ -4,13 +4,13 @@ use Rattle.saw_messages.specs.TxShapes.{TxShape}
 use Rattle.saw_messages.specs.declared.talk.Action.{Action}
 use Rattle.saw_messages.specs.declared.talk.Turn.{Turn}
 use Rattle.saw_report.specs.declared.run_fault.RunFault.{RunFault}
-use Rattle.saw_station.specs.Serving.{processors_at}
 use Rattle.saw_station.specs.declared.offer.Offer.{Offer}
 use Rattle.saw_top.specs.Answers.{Prepared}
 use Rattle.saw_top.specs.Telling.{IsTold}
+use Rattle.saw_top.specs.World.{processors_with}
 
--- where nothing is offered by an external processor, or the external processors tell their actions, all is told, whatever is asked for
+-- where there are no external processors, or they tell their actions, all is told, whatever is asked for
 abbrev pub AllIsTold : Type 0
 AllIsTold =
-    (next : TxShape → List Turn → Action) (tells : Bool) (offers : List Offer) (ready : Result Prepared RunFault) (bytes : List ℕ)
-    → (offers ≡ []) ⊎ (tells ≡ true) → IsTold (processors_at next tells offers) ready bytes
+    (next : TxShape → List Turn → Action) (tells : Bool) (offers : List (List Offer)) (ready : Result Prepared RunFault) (bytes : List ℕ)
+    → (offers ≡ []) ⊎ (tells ≡ true) → IsTold (processors_with next tells offers) ready bytes

@@ -14,13 +14,13 @@ ghost use Rattle.saw_top.specs.Clashing.{ClashesBy, LeavesUnjudged};
 ghost use Rattle.saw_top.specs.Reports.{line_of, said_of};
 ghost use Rattle.saw_top.specs.World.{rules_with};
 
+use crate::governing::Governed;
 use crate::task::Lines;
 use saw_io::{Sink, write_all};
 use saw_journal::{Journal, JournalFault};
 use saw_node::Sha512Half;
 use saw_receipts::{BlockRecord, Verdict};
 use saw_report::{RunFault, verdict_line};
-use saw_rules::OnChainRules;
 use saw_station::{Desk, Station};
 use saw_verify::Verifier;
 use std::alloc::Global;
@@ -55,7 +55,7 @@ pub(crate) fn judge<T: Threads + Wait + Sync, R: Station, V: Verifier>(
     ensures desks { KeepsDesks R.faults R.offered desks.old desks.new }
     ensures cause { IsErrOf result RunFault.Peer → Failed R.faults desks.old desks.new }
 {
-    match journal.accept::<OnChainRules, T, V, R>(rt, content, verifier, desks) {
+    match journal.accept::<Governed, T, V, R>(rt, content, verifier, desks) {
         Ok(verdict) => Ok(verdict),
         Err(JournalFault::Full) => Err(RunFault::Blocks),
         Err(JournalFault::Collision { kept, given }) => Err(RunFault::Collision { kept, given }),

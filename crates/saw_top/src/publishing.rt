@@ -17,6 +17,7 @@ ghost use Rattle.saw_top.specs.Publishing.{Waiting, refusal_text};
 ghost use Rattle.saw_top.specs.declared.task.Ending.TheVariants.{Candidate};
 
 use crate::Status;
+use crate::governing::Governed;
 use crate::line::write_lines;
 use saw_io::{Sink, write_all, write_frame};
 use saw_journal::Journal;
@@ -25,7 +26,7 @@ use saw_node::Sha512Half;
 use saw_publish::{PublishFault, build};
 use saw_receipts::Loss;
 use saw_report::{RunFault, candidate_line};
-use saw_rules::{OnChainRules, Placed};
+use saw_rules::Placed;
 use saw_station::{Desk, Station};
 use saw_verify::{Signer, Verifier};
 use saw_wire::Items;
@@ -70,7 +71,7 @@ fn make<T: Threads + Wait + Sync, V: Verifier, G: Signer, R: Station>(
     few(journal);
     let parent = journal.parent()?;
     let known = journal.known()?;
-    match build::<OnChainRules, Sha512Half, T, V, G, R>(
+    match build::<Governed, Sha512Half, T, V, G, R>(
         rt,
         alloc,
         parent.as_ref(),

@@ -45,8 +45,8 @@ pub(crate) fn begin_each<R: Station>(alloc: Global, remotes: &mut [R]) -> Result
     Ok(())
 }
 
-// One more, for which there is room.
-fn put<X: Drop>(list: &mut Vec<X>, one: X)
+/// One more, for which there is room.
+pub(crate) fn put<X: Drop>(list: &mut Vec<X>, one: X)
     requires { vec_len list.old < vec_capacity list.old }
     ensures more { list.new.items ≡ list.old.items ++ one ∷ [] }
     ensures room { vec_capacity list.old ≤ vec_capacity list.new }
@@ -74,25 +74,6 @@ fn shares(
     Ok(shared)
 }
 
-// So many desks without remotes.
-fn lone<R: Station>(
-    alloc: Global,
-    offers: Vec<Offer>,
-    count: u64,
-) -> Result<Vec<Desk<R>>, AllocError>
-    requires { offers.items ≡ [] }
-    ensures count { IfOk result (λ desks. length desks.items ≡ count) }
-    ensures offers { IfOk result (λ desks. HaveOffers offers.items desks.items) }
-    ensures none { IfOk result (λ desks. remotes_at desks.items ≡ []) }
-{
-    let first = Arc::new(alloc, offers)?;
-    let mut desks = Vec::new(alloc);
-    for _ in 0..count {
-        desks.push(Desk::new(None, first.clone()?))?;
-    }
-    Ok(desks)
-}
-
 // Moves the last remotes into desks, one for each share of the offers.
 fn fill<R: Station>(desks: &mut Vec<Desk<R>>, remotes: &mut Vec<R>, shared: Vec<Arc<Vec<Offer>>>)
     requires none { desks.old.items ≡ [] }
@@ -115,8 +96,8 @@ fn fill<R: Station>(desks: &mut Vec<Desk<R>>, remotes: &mut Vec<R>, shared: Vec<
     }
 }
 
-/// Desks with these offers, at least one: without remotes one for each worker; else one for each of the last remotes, as many as both
-/// allow. What moves them back takes no memory.
+/// Desks with these offers, at least one: one for each of the last remotes, as many as there are workers. What moves them back
+/// takes no memory.
 pub(crate) fn seat<R: Station>(
     alloc: Global,
     workers: u64,
@@ -124,7 +105,7 @@ pub(crate) fn seat<R: Station>(
     offers: Vec<Offer>,
 ) -> Result<Vec<Desk<R>>, AllocError>
     requires begun { All (λ remote. R.begun remote ≡ true) remotes.old.items }
-    requires alone { remotes.old.items ≡ [] → offers.items ≡ [] }
+    requires some { 0 < length remotes.old.items }
     ensures some { IfOk result (λ desks. 0 < length desks.items) }
     ensures offers { IfOk result (λ desks. HaveOffers offers.items desks.items) }
     ensures seated { IfOk result (λ desks.
@@ -134,11 +115,7 @@ pub(crate) fn seat<R: Station>(
     ensures begun { All (λ remote. R.begun remote ≡ true) remotes.new.items }
     ensures err { OnErr result (remotes.new.items ≡ remotes.old.items) }
 {
-    let workers = workers.max(1);
-    if remotes.is_empty() {
-        return lone(alloc, offers, workers);
-    }
-    let count = usize::try_from(workers)
+    let count = usize::try_from(workers.max(1))
         .unwrap_or(usize::MAX)
         .min(remotes.len());
     let shared = shares(alloc, offers, count)?;

@@ -1,16 +1,16 @@
 //! The top call.
 
-ghost use Rattle.std.specs.Prelude.{◌≡◌, ◌⊎◌, ◌≤◌, true, false, Some, All, map, string_bytes};
+ghost use Rattle.std.specs.Prelude.{◌≡◌, ◌⊎◌, ◌≤◌, ◌<◌, [], true, false, Some, All, length, map, string_bytes};
 ghost use Rattle.saw_generate.specs.Streams.{stream};
 ghost use Rattle.saw_publish.specs.Candidates.{Signing};
 ghost use Rattle.saw_station.specs.CommonOffers.{common};
 ghost use Rattle.saw_station.specs.Serving.{processors_at};
 ghost use Rattle.saw_top.specs.Command.{asked_of};
 ghost use Rattle.saw_top.specs.Headline.{DoesAsked, DoesJob, HasEnded, IsAnswered, WritesBy, asks_external};
-ghost use Rattle.saw_top.specs.Outside.{outside, sink_end};
+ghost use Rattle.saw_top.specs.Outside.{outside, outside_with, shelf_end, sink_end};
 ghost use Rattle.saw_top.specs.Seats.{FailsEarly, HaveBegun};
 ghost use Rattle.saw_top.specs.Wishes.{wish_in};
-ghost use Rattle.saw_top.specs.World.{world_with};
+ghost use Rattle.saw_top.specs.World.{processors_alone, processors_beside, processors_with, world_with};
 
 use crate::Status;
 use crate::command::{Command, Job, read_command};
@@ -18,16 +18,17 @@ use crate::notes::tell;
 use crate::prepare::prepare;
 use crate::seats::{begin_each, seat, unseat};
 use crate::tasks::do_task;
+use crate::wrapping::{nobody, unwrap, wrap};
 use saw_generate::{GenerateFault, GenerateWish, generate};
 use saw_io::{Shelf, Sink, Source};
 use saw_report::RunFault;
-use saw_station::{Offer, Station, common_offers};
+use saw_station::{Station, common_offers};
 use saw_verify::{Signer, Verifier};
 use std::alloc::Global;
 use std::sync::Wait;
 use std::thread::Threads;
 
-// Does a job with the blocks of the input, with external processors that have begun and have these offers in common.
+// Does a job with the blocks of the input, by stations that have begun.
 fn judge_begun<
     T: Threads + Wait + Sync,
     S: Source,
@@ -48,10 +49,9 @@ fn judge_begun<
     verifier: &V,
     signer: &G,
     remotes: &mut Vec<R>,
-    offers: Vec<Offer>,
 ) -> Result<Status, RunFault>
+    requires some { 0 < length remotes.old.items }
     requires begun { All (λ remote. R.begun remote ≡ true) remotes.old.items }
-    requires offers { offers.items ≡ common (map R.offered remotes.old.items) }
     ensures carries { let signing : Signing = record { key = G.key_text signer.now; signature = G.signature signer.now } in
         let world = outside S.Source O.Sink N.Sink F.Shelf R.faults in
         let processors = processors_at R.next R.tells (common (map R.offered remotes.new.items)) in
@@ -67,6 +67,7 @@ fn judge_begun<
         batches,
     } = job;
     let ready = prepare(alloc, attest, batches, shelf, verifier)?;
+    let offers = common_offers(alloc, remotes)?;
     let mut desks = seat(alloc, workers, remotes, offers)?;
     let came = do_task(
         rt,
@@ -82,6 +83,96 @@ fn judge_begun<
     );
     unseat(desks, remotes);
     came
+}
+
+// Does a job with the blocks of the input, by stations that have begun and serve the identity family besides.
+fn judge_beside<
+    T: Threads + Wait + Sync,
+    S: Source,
+    O: Sink,
+    N: Sink,
+    F: Shelf,
+    V: Verifier,
+    G: Signer,
+    R: Station,
+>(
+    rt: &T,
+    alloc: Global,
+    job: Job<'_>,
+    input: &mut S,
+    output: &mut O,
+    notes: &mut N,
+    shelf: &mut F,
+    verifier: &V,
+    signer: &G,
+    stations: &mut Vec<R>,
+) -> Result<Status, RunFault>
+    requires some { 0 < length stations.old.items }
+    requires begun { All (λ station. R.begun station ≡ true) stations.old.items }
+    ensures carries { let signing : Signing = record { key = G.key_text signer.now; signature = G.signature signer.now } in
+        let world = outside S.Source O.Sink N.Sink F.Shelf R.faults in
+        let processors = processors_beside R.next R.tells (map R.offered stations.new.items) in
+        DoesJob (world_with (V.accepts verifier.now) signing processors) (Some (wish_in job.entry))
+        (world input.old output.old notes.old shelf.old stations.old.items)
+        (world input.new output.new notes.new shelf.new stations.new.items) result }
+    ensures count { length stations.new.items ≡ length stations.old.items }
+    ensures begun { All (λ station. R.begun station ≡ true) stations.new.items }
+{
+    let mut wrapped = wrap(alloc, stations)?;
+    let came = judge_begun(
+        rt,
+        alloc,
+        job,
+        input,
+        output,
+        notes,
+        shelf,
+        verifier,
+        signer,
+        &mut wrapped,
+    );
+    unwrap(wrapped, stations);
+    came
+}
+
+// Does a job with the blocks of the input, without external processors.
+fn judge_alone<
+    T: Threads + Wait + Sync,
+    S: Source,
+    O: Sink,
+    N: Sink,
+    F: Shelf,
+    V: Verifier,
+    G: Signer,
+>(
+    rt: &T,
+    alloc: Global,
+    job: Job<'_>,
+    input: &mut S,
+    output: &mut O,
+    notes: &mut N,
+    shelf: &mut F,
+    verifier: &V,
+    signer: &G,
+) -> Result<Status, RunFault>
+    ensures carries { let signing : Signing = record { key = G.key_text signer.now; signature = G.signature signer.now } in
+        DoesJob (world_with (V.accepts verifier.now) signing processors_alone) (Some (wish_in job.entry))
+        (outside_with S.Source O.Sink N.Sink input.old output.old notes.old (shelf_end F.Shelf shelf.old) [])
+        (outside_with S.Source O.Sink N.Sink input.new output.new notes.new (shelf_end F.Shelf shelf.new) []) result }
+{
+    let mut stations = nobody(alloc, job.workers)?;
+    judge_beside(
+        rt,
+        alloc,
+        job,
+        input,
+        output,
+        notes,
+        shelf,
+        verifier,
+        signer,
+        &mut stations,
+    )
 }
 
 // Does a job with the blocks of the input.
@@ -109,7 +200,7 @@ fn judge<
     requires unbegun { All (λ remote. R.begun remote ≡ false) remotes.old.items }
     ensures carries { let signing : Signing = record { key = G.key_text signer.now; signature = G.signature signer.now } in
         let world = outside S.Source O.Sink N.Sink F.Shelf R.faults in
-        let processors = processors_at R.next R.tells (common (map R.offered remotes.new.items)) in
+        let processors = processors_with R.next R.tells (map R.offered remotes.new.items) in
         DoesJob (world_with (V.accepts verifier.now) signing processors) (Some (wish_in job.entry))
         (world input.old output.old notes.old shelf.old remotes.old.items)
         (world input.new output.new notes.new shelf.new remotes.new.items) result }
@@ -117,9 +208,13 @@ fn judge<
         × (output.new ≡ output.old) × (shelf.new ≡ shelf.old) × FailsEarly result) }
 {
     begin_each(alloc, remotes)?;
-    let offers = common_offers(alloc, remotes)?;
-    judge_begun(
-        rt, alloc, job, input, output, notes, shelf, verifier, signer, remotes, offers,
+    if remotes.is_empty() {
+        return judge_alone(
+            rt, alloc, job, input, output, notes, shelf, verifier, signer,
+        );
+    }
+    judge_beside(
+        rt, alloc, job, input, output, notes, shelf, verifier, signer, remotes,
     )
 }
 
@@ -168,7 +263,7 @@ fn carry_out<
     requires unbegun { All (λ remote. R.begun remote ≡ false) remotes.old.items }
     ensures carries { let signing : Signing = record { key = G.key_text signer.now; signature = G.signature signer.now } in
         let world = outside S.Source O.Sink N.Sink F.Shelf R.faults in
-        let processors = processors_at R.next R.tells (common (map R.offered remotes.new.items)) in
+        let processors = processors_with R.next R.tells (map R.offered remotes.new.items) in
         DoesAsked (world_with (V.accepts verifier.now) signing processors) (asked_of (map string_bytes words.now))
         (world input.old output.old notes.old shelf.old remotes.old.items)
         (world input.new output.new notes.new shelf.new remotes.new.items) result }
@@ -207,7 +302,11 @@ fn carry_out<
 ///
 /// Each external processor in `remotes` begins before any file is fetched, but for `generate` and for invalid arguments. As
 /// many of them as there are workers are used, or all, each at a desk of its own, and behind the run all are in their places
-/// again. What they all offer is theirs, but for the built-in families. The status is 6 where one of them failed.
+/// again. What they all offer is theirs, but for the built-in families and the identity family, which are served here. The
+/// status is 6 where one of them failed.
+///
+/// A block, and a candidate, is judged by what the state of its parent sets: which families may transact, by which rules, and
+/// whose signatures are permitted.
 pub fn run<
     T: Threads + Wait + Sync,
     S: Source,
@@ -238,14 +337,14 @@ pub fn run<
     // the input tells.
     ensures answered { let signing : Signing = record { key = G.key_text signer.now; signature = G.signature signer.now } in
         let world = outside S.Source O.Sink N.Sink F.Shelf R.faults in
-        let processors = processors_at R.next R.tells (common (map R.offered remotes.new.items)) in
+        let processors = processors_with R.next R.tells (map R.offered remotes.new.items) in
         IsAnswered (world_with (V.accepts verifier.now) signing processors) (map string_bytes words.now)
         (world input.old output.old notes.old shelf.old remotes.old.items)
         (world input.new output.new notes.new shelf.new remotes.new.items) result }
     // However it ended: a front of the answer, each line in time, and on the notes why.
     ensures ended { let signing : Signing = record { key = G.key_text signer.now; signature = G.signature signer.now } in
         let world = outside S.Source O.Sink N.Sink F.Shelf R.faults in
-        let processors = processors_at R.next R.tells (common (map R.offered remotes.new.items)) in
+        let processors = processors_with R.next R.tells (map R.offered remotes.new.items) in
         HasEnded (world_with (V.accepts verifier.now) signing processors) (map string_bytes words.now)
         (world input.old output.old notes.old shelf.old remotes.old.items)
         (world input.new output.new notes.new shelf.new remotes.new.items) result }

@@ -3,6 +3,8 @@ use Rattle.std.proofs.lemmas.Result.{err_from_is_err_and}
 use Rattle.saw_crew.proofs.Leaving.{keep_all}
 use Rattle.saw_crew.specs.Desks.{offers_at}
 use Rattle.saw_rules.specs.OnChainRules.{on_chain}
+use Rattle.saw_identity.specs.Permissions.{permissions}
+use Rattle.saw_top.specs.World.{governed}
 use Rattle.saw_station.specs.Serving.{processors_at}
 use Rattle.saw_top.proofs.Makings.{makes_block, makes_none, makes_refusal, meets_clash}
 use Rattle.saw_top.proofs.publishing.make.Goals as goal
@@ -24,7 +26,7 @@ pub returns-in_err-known-clause-desks : goal.returns-in_err-known-clause-desks
 returns-in_err-known-clause-desks g c = keep_all g.R.Station.faults g.R.Station.offered c.args.desks.now
 
 pub returns-in-Ok-clause-makes : goal.returns-in-Ok-clause-makes
-unfolding on_chain
+unfolding governed on_chain permissions
 returns-in-Ok-clause-makes g c =
     makes_block (processors_at g.R.Station.next g.R.Station.tells (offers_at c.args.desks.now)) (g.V.Verifier.accepts c.args.verifier.now)
     (record {
@@ -34,7 +36,7 @@ returns-in-Ok-clause-makes g c =
     c.in-Ok.made (c.in-Ok.ensures.builds _ c.in_ok-known.ensures)
 
 pub returns-in-Err-NothingValid-clause-makes : goal.returns-in-Err-NothingValid-clause-makes
-unfolding on_chain
+unfolding governed on_chain permissions
 returns-in-Err-NothingValid-clause-makes g c =
     let e = rw (c.in-Err-NothingValid.is, c.in-Err-NothingValid.field-0-is) at c.build.ensures.builds in
     makes_none (processors_at g.R.Station.next g.R.Station.tells (offers_at c.args.desks.now)) (g.V.Verifier.accepts c.args.verifier.now)
@@ -45,7 +47,7 @@ returns-in-Err-NothingValid-clause-makes g c =
     c.in-Err-NothingValid.dropped (e _ c.in_ok-known.ensures)
 
 pub returns-in-Err-Policy-clause-makes : goal.returns-in-Err-Policy-clause-makes
-unfolding on_chain
+unfolding governed on_chain permissions
 returns-in-Err-Policy-clause-makes g c =
     let e = rw (c.in-Err-Policy.is, c.in-Err-Policy.field-0-is) at c.build.ensures.builds in
     makes_refusal (processors_at g.R.Station.next g.R.Station.tells (offers_at c.args.desks.now)) (g.V.Verifier.accepts c.args.verifier.now)
@@ -59,7 +61,7 @@ pub returns-in-Err-PeerFailed-clause-makes : goal.returns-in-Err-PeerFailed-clau
 returns-in-Err-PeerFailed-clause-makes g c = tt
 
 pub returns-in-Err-Collision-clause-makes : goal.returns-in-Err-Collision-clause-makes
-unfolding on_chain
+unfolding governed on_chain permissions
 returns-in-Err-Collision-clause-makes g c =
     let e = rw (c.in-Err-Collision.is, c.in-Err-Collision.field-0-is) at c.build.ensures.builds in
     meets_clash (processors_at g.R.Station.next g.R.Station.tells (offers_at c.args.desks.now)) (g.V.Verifier.accepts c.args.verifier.now)

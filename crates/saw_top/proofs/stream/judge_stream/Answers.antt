@@ -1,4 +1,4 @@
-use Rattle.std.proofs.Common.{◌≡◌, true, inl, [], ◌++◌, Err, refl, ap, arith}
+use Rattle.std.proofs.Common.{◌≡◌, inl, [], ◌++◌, Err, refl, ap, arith}
 use Rattle.std.proofs.KnownBytes.{Appends-nil, Appends-trans}
 use Rattle.std.specs.Prelude.{◌||◌, not}
 use Rattle.std.proofs.lemmas.Result.{err_from_is_err_and}

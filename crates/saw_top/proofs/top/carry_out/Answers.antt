@@ -1,13 +1,11 @@
 use Rattle.std.proofs.Common.{◌≡◌, true, false, inr, map, refl, sym, ap, ◌∙◌}
 use Rattle.std.proofs.lemmas.Result.{err_from_is_err_and}
-use Rattle.saw_station.specs.CommonOffers.{common}
-use Rattle.saw_station.proofs.Finished.{processors_own}
-use Rattle.saw_station.specs.Serving.{processors_at}
 use Rattle.saw_top.specs.Headline.{asks_external}
 use Rattle.saw_top.specs.Outside.{outside}
-use Rattle.saw_top.specs.World.{world_with}
+use Rattle.saw_top.specs.World.{processors_with, world_with}
 use Rattle.saw_top.proofs.Beginning.{none_asked}
 use Rattle.saw_top.proofs.Carrying.{generated, judged, signs, unasked, unread}
+use Rattle.saw_top.proofs.Served.{own_with}
 use Rattle.saw_top.proofs.top.carry_out.Goals as goal
 
 pub returns-in_err-command : goal.returns-in_err-command
@@ -17,8 +15,8 @@ returns-in_err-command g c =
     let p = err_from_is_err_and c.from_residual.result c.from_residual.ensures.1 in
     record {
       carries = rw (p.1, p.2)
-          (unread (g.V.Verifier.accepts c.args.verifier.now) signing (processors_at g.R.Station.next g.R.Station.tells (common (map g.R.Station.offered c.args.remotes.now.items)))
-          (processors_own g.R.Station.next laws.own_reasons g.R.Station.tells (common (map g.R.Station.offered c.args.remotes.now.items))) _
+          (unread (g.V.Verifier.accepts c.args.verifier.now) signing (processors_with g.R.Station.next g.R.Station.tells (map g.R.Station.offered c.args.remotes.now.items))
+          (own_with g.R.Station.next laws.own_reasons g.R.Station.tells (map g.R.Station.offered c.args.remotes.now.items)) _
           (outside g.S.Source g.O.Sink g.N.Sink g.F.Shelf g.R.Station.faults c.args.input.now c.args.output.now c.args.notes.now c.args.shelf.now
           c.args.remotes.now.items)
           c.in_err-command.ensures.memory);
@@ -32,8 +30,8 @@ returns-in-None g c =
     let signing = signs (g.G.Signer.key_text c.args.signer.now) (g.G.Signer.signature c.args.signer.now) in
     let none = rw c.in-None.is at c.in_ok-command.ensures.ok in
     record {
-      carries = unasked (g.V.Verifier.accepts c.args.verifier.now) signing (processors_at g.R.Station.next g.R.Station.tells (common (map g.R.Station.offered c.args.remotes.now.items)))
-          (processors_own g.R.Station.next laws.own_reasons g.R.Station.tells (common (map g.R.Station.offered c.args.remotes.now.items))) _
+      carries = unasked (g.V.Verifier.accepts c.args.verifier.now) signing (processors_with g.R.Station.next g.R.Station.tells (map g.R.Station.offered c.args.remotes.now.items))
+          (own_with g.R.Station.next laws.own_reasons g.R.Station.tells (map g.R.Station.offered c.args.remotes.now.items)) _
           (outside g.S.Source g.O.Sink g.N.Sink g.F.Shelf g.R.Station.faults c.args.input.now c.args.output.now c.args.notes.now c.args.shelf.now
           c.args.remotes.now.items) (sym none);
       unasked = λ is. refl;
@@ -54,7 +52,7 @@ returns-in-Some-Generate g c =
     let signing = signs (g.G.Signer.key_text c.args.signer.now) (g.G.Signer.signature c.args.signer.now) in
     let asked = rw (c.in-Some-Generate.is, c.in-Some-Generate.field-0-is) at c.in_ok-command.ensures.ok in
     record {
-      carries = generated (world_with (g.V.Verifier.accepts c.args.verifier.now) signing (processors_at g.R.Station.next g.R.Station.tells (common (map g.R.Station.offered c.args.remotes.now.items)))) _ _
+      carries = generated (world_with (g.V.Verifier.accepts c.args.verifier.now) signing (processors_with g.R.Station.next g.R.Station.tells (map g.R.Station.offered c.args.remotes.now.items))) _ _
           (outside g.S.Source g.O.Sink g.N.Sink g.F.Shelf g.R.Station.faults c.args.input.now c.args.output.now c.args.notes.now c.args.shelf.now
           c.args.remotes.now.items)
           (outside g.S.Source g.O.Sink g.N.Sink g.F.Shelf g.R.Station.faults c.args.input.now c.write_stream.new.output c.args.notes.now c.args.shelf.now

@@ -1,4 +1,4 @@
-use Rattle.std.proofs.Common.{◌<◌, List, [], ◌++◌, drop, length, map, reverse, Some, refl, sym, ap, subst, ◌∙◌, arith}
+use Rattle.std.proofs.Common.{◌<◌, List, [], ◌++◌, drop, length, map, reverse, Some, Ok, refl, sym, ap, subst, ◌∙◌, arith}
 use Rattle.std.proofs.lemmas.Result.{err_from_is_err_and}
 use Rattle.std.specs.Prelude.{option_map}
 use Rattle.saw_crew.specs.Desks.{offers_at}
@@ -12,7 +12,7 @@ use Rattle.saw_top.specs.Outside.{AreLater, SomeRose, counts_of, outside, outsid
 use Rattle.saw_top.specs.Seats.{HaveOffers, remotes_at}
 use Rattle.saw_top.specs.Wishes.{wish_in}
 use Rattle.saw_top.specs.World.{world_with}
-use Rattle.saw_top.proofs.Carrying.{deskless, does_so, signs, unprepared, with_ready}
+use Rattle.saw_top.proofs.Carrying.{deskless, does_so, never_wrong, signs, unprepared, with_ready}
 use Rattle.saw_top.proofs.Seated.{all_later, all_offers, all_rose, are_alike, as_many, as_many_desks, offers_are, written_back}
 use Rattle.saw_top.proofs.top.judge_begun.Goals as goal
 
@@ -31,6 +31,24 @@ returns-in_err-ready g c =
           (outside g.S.Source g.O.Sink g.N.Sink g.F.Shelf g.R.Station.faults c.args.input.now c.args.output.now c.args.notes.now c.args.shelf.now
           c.args.remotes.now.items)
           (shelf_end g.F.Shelf c.prepare.new.shelf) c.in_err-ready.field-0.0 (c.in_err-ready.ensures.prepares signing));
+      begun = c.requires.begun;
+    }
+
+pub returns-in_err-offers : goal.returns-in_err-offers
+returns-in_err-offers g c =
+    let laws = g.met.R.Station g.world.𝓛 g.world.𝓜 g.world.𝓡 ((λ s x. x), (λ x. x), (λ x. x), λ x. x) in
+    let signing = signs (g.G.Signer.key_text c.args.signer.now) (g.G.Signer.signature c.args.signer.now) in
+    let p = err_from_is_err_and c.from_residual-in_err-offers.result c.from_residual-in_err-offers.ensures.1 in
+    let job = c.args.job in
+    record {
+      carries = rw (p.1, p.2)
+          (deskless (g.V.Verifier.accepts c.args.verifier.now) signing
+          (processors_at g.R.Station.next g.R.Station.tells (common (map g.R.Station.offered c.args.remotes.now.items)))
+          (processors_own g.R.Station.next laws.own_reasons g.R.Station.tells (common (map g.R.Station.offered c.args.remotes.now.items))) job.workers job.task
+          (option_map (λ name. name.now) job.attest) (option_map (λ name. name.now) job.batches)
+          (outside g.S.Source g.O.Sink g.N.Sink g.F.Shelf g.R.Station.faults c.args.input.now c.args.output.now c.args.notes.now c.args.shelf.now
+          c.args.remotes.now.items)
+          (shelf_end g.F.Shelf c.prepare.new.shelf) _ (c.in_ok-ready.ensures.prepares signing));
       begun = c.requires.begun;
     }
 
@@ -87,9 +105,9 @@ returns g c =
     let moved = c.in_ok-desks.ensures.seated ∙ ap (λ (l : List (Place _)). left ++ reverse (remotes_at l)) (sym value) in
     let returned = c.unseat.ensures.seated ∙ ap (λ (l : List (Place _)). left ++ reverse (remotes_at l)) back in
     let some = subst (λ (l : List (Place _)). 0 < length l) (sym value) c.in_ok-desks.ensures.some in
-    let have = subst (HaveOffers c.args.offers.items) (sym value) c.in_ok-desks.ensures.offers in
-    let offers = offers_are c.args.offers.items olds some have ∙ c.requires.offers
-    ∙ ap (λ (l : List _). common (map offered l)) moved ∙ ap common (sym (all_offers faults offered left olds news keeps))
+    let have = subst (HaveOffers c.in_ok-offers.offers.items) (sym value) c.in_ok-desks.ensures.offers in
+    let offers = offers_are c.in_ok-offers.offers.items olds some have ∙ c.in_ok-offers.ensures
+    ∙ ap (λ (l : List _). common (map offered l)) (c.deref.ensures.value ∙ moved) ∙ ap common (sym (all_offers faults offered left olds news keeps))
     ∙ ap (λ (l : List _). common (map offered l)) (sym returned) in
     let later = subst (λ (l : List _). AreLater (map faults l) (map faults last)) (sym moved)
     (subst (λ (l : List _). AreLater (map faults (left ++ reverse (remotes_at olds))) (map faults l)) (sym returned)
@@ -110,11 +128,14 @@ returns g c =
           (shelf_end g.F.Shelf c.prepare.new.shelf) _ (c.in_ok-ready.ensures.prepares signing)
           (outside g.S.Source g.O.Sink g.N.Sink g.F.Shelf faults c.do_task-came.new.input c.do_task-came.new.output c.do_task-came.new.notes
           c.prepare.new.shelf last) c.do_task-came.result refl later
-          (λ from to. does_so (processors_at g.R.Station.next g.R.Station.tells (offers_at olds)) job.task _
-          (outside_with g.S.Source g.O.Sink g.N.Sink c.args.input.now c.args.output.now c.args.notes.now from [])
-          (outside_with g.S.Source g.O.Sink g.N.Sink c.do_task-came.new.input c.do_task-came.new.output c.do_task-came.new.notes to [])
-          (counts_of faults olds) (counts_of faults news) (map faults first) (map faults last) rose c.do_task-came.result
-          (rw c.as_slice.ensures at (c.do_task-came.ensures.does from to))));
+          (λ from to.
+          let before = outside_with g.S.Source g.O.Sink g.N.Sink c.args.input.now c.args.output.now c.args.notes.now from (counts_of faults olds) in
+          let after = outside_with g.S.Source g.O.Sink g.N.Sink c.do_task-came.new.input c.do_task-came.new.output c.do_task-came.new.notes to
+          (counts_of faults news) in
+          let does = rw c.as_slice.ensures at (c.do_task-came.ensures.does from to) in
+          does_so (processors_at g.R.Station.next g.R.Station.tells (offers_at olds)) job.task (Ok _) before after (counts_of faults olds) (counts_of faults news)
+          (map faults first) (map faults last) rose c.do_task-came.result
+          (never_wrong (processors_at g.R.Station.next g.R.Station.tells (offers_at olds)) job.task _ before after c.do_task-came.result does) does));
       begun = c.unseat.ensures.begun c.in_ok-desks.ensures.begun;
     }
 
@@ -125,5 +146,5 @@ do_task-came-requires-clause-some g c = λ κs alive.
 pub do_task-came-requires-clause-alike : goal.do_task-came-requires-clause-alike
 do_task-came-requires-clause-alike g c = λ κs alive.
     let value = sym c.deref_mut.ensures.value in
-    are_alike c.args.offers.items c.deref_mut.result.now (subst (λ (l : List (Place _)). 0 < length l) value c.in_ok-desks.ensures.some)
-    (subst (HaveOffers c.args.offers.items) value c.in_ok-desks.ensures.offers)
+    are_alike c.in_ok-offers.offers.items c.deref_mut.result.now (subst (λ (l : List (Place _)). 0 < length l) value c.in_ok-desks.ensures.some)
+    (subst (HaveOffers c.in_ok-offers.offers.items) value c.in_ok-desks.ensures.offers)
