@@ -1,4 +1,5 @@
-"""Makes cases of saw_cases: games, settings, batches that come again, odd bytes of messages and of CBOR, and a name with `=`.
+"""Makes cases of saw_cases: games, settings, batches that come again, signers that are denied, odd bytes of messages
+and of CBOR, and a name with `=`.
 
 What is expected comes from the model below of the families and the ledger, and never from the validator. Of refusals
 the model knows those that the cases meet. Each case states its verdict too, and the two must agree.
@@ -588,6 +589,20 @@ def repeated_cases():
     refused("child-repeats-batch", "13 Static 1 1", [batch], [other, batch])
 
 
+# A case of permissions.
+
+
+def identity_cases():
+    """A candidate behind a case from outside, whose role of all transactors denies the second key; its notes are by hand."""
+    case, denied = "identity-publish-denied", counter_set()
+    denied.signer = SECOND
+    batches = [written_batch(batch)[1] for batch in ([denied], [counter_set(), denied])]
+    notes = "batch 0 dropped policy 3 batch 4 0\nbatch 1 dropped policy 3 1 4 0\n"
+    words = ["publish", "--batches", "list"]
+    put(case, words, outside("identity-policy-and-role", "stdin"), notes=notes, status=1)
+    put_file(os.path.join(counters.FOLDER, case, "files", "list"), b"".join(record(1, batch) for batch in batches))
+
+
 # The cases of messages.
 
 
@@ -660,6 +675,7 @@ def main():
     settings_wide_numbers()
     counter_cases()
     repeated_cases()
+    identity_cases()
     message_cases()
     word_cases()
 
