@@ -10,6 +10,9 @@ between two `'` or two `"` is part of one word, spaces and `;` too. The words ar
     xo take GAME SPACE            takes a space, from 1 to 9, of a game
     settings propose KEY VALUE [NONCE]
     settings vote PROPOSAL KEY accept|reject
+    identity policy NAME permit|deny KEY [permit|deny KEY ..]
+                                  sets a policy: its entries in order, each with 66 hex digits for KEY, or with `*` for all
+    identity role NAME POLICY     sets a role to a policy that is there
     names claim NAME              of the family that demo/names.py serves: takes a name that nobody has; with `drop` for
                                   `claim` gives it up
     names give NAME KEY           gives a name of the signer's to another key
@@ -46,12 +49,16 @@ import sys
 import counters
 from applied import values
 from counters import record, sha512
-from families import ACCEPT, KEYS, PROPOSALS, PROPOSE, REJECT, THRESHOLD, VOTE
-from families import WAY, Transaction, act, is_number, keys_in, last, move, number, proposed, sha256, written_batch
+from families import ACCEPT, KEYS, PROPOSALS, PROPOSE, REJECT, THRESHOLD, VOTE, WAY
+from families import Transaction, act, is_number, keys_in, last, move, number, policy_address, proposed, role_address
+from families import setting_address, sha256, written_batch
 
 KEY = "02" + "0" * 64
 LONGEST_NAME = 20
 CHOICES = {"accept": ACCEPT, "reject": REJECT}
+ALLOWED = "sawtooth.identity.allowed_keys"
+POLICY, ROLE = 1, 2
+RULINGS = {"permit": 1, "deny": 2}
 
 
 class Wrong(Exception):
@@ -70,6 +77,10 @@ def is_utf8(word):
     except UnicodeEncodeError:
         return False
     return True
+
+
+def is_key(word):
+    return re.fullmatch("[0-9a-f]{66}", word)
 
 
 # Transactions of each family. What is refused here the family refuses in every state.
@@ -105,9 +116,34 @@ def vote(signer, _, proposal, key, choice):
     return act(signer, number(1, VOTE) + record(2, data), key)
 
 
+def identity(signer, kind, item, own, *read):
+    """A transaction that sets a policy or a role at its own address, and reads further ones."""
+    payload = number(1, kind) + record(2, item)
+    return Transaction("sawtooth_identity", signer, payload, [setting_address(ALLOWED), own, *read], [own])
+
+
+def entry(ruling, key):
+    demand(ruling in RULINGS, f"entry {ruling!r} is neither permit nor deny")
+    demand(key == "*" or is_key(key), f"key {key!r} is neither * nor 66 hex digits")
+    return record(2, number(1, RULINGS[ruling]) + record(2, key))
+
+
+def policy(signer, _, name, *words):
+    demand(name, "a policy has no name")
+    demand(len(words) % 2 == 0, f"entry {words[-1]!r} has no key")
+    entries = b"".join(map(entry, words[::2], words[1::2]))
+    return identity(signer, POLICY, record(1, name) + entries, policy_address(name))
+
+
+def role(signer, _, name, its_policy):
+    demand(name and its_policy, "a role or its policy has no name")
+    item = record(1, name) + record(2, its_policy)
+    return identity(signer, ROLE, item, role_address(name), policy_address(its_policy))
+
+
 def name_of(signer, verb, name, key=""):
     demand(len(name.split()) == 1, f"name {name!r} is no word")
-    demand(verb != "give" or re.fullmatch("[0-9a-f]{66}", key), f"key {key!r} is not 66 hex digits")
+    demand(verb != "give" or is_key(key), f"key {key!r} is not 66 hex digits")
     own = [sha512(b"names")[:6] + sha512(name.encode())[:64]]
     return Transaction("names", signer, " ".join([verb, name, key]).rstrip().encode(), own, own)
 
@@ -122,6 +158,8 @@ FORMS = {
     "xo delete": (game, "GAME"),
     "settings propose": (propose, "KEY VALUE [NONCE]"),
     "settings vote": (vote, "PROPOSAL KEY accept|reject"),
+    "identity policy": (policy, "NAME permit|deny KEY [permit|deny KEY ..]"),
+    "identity role": (role, "NAME POLICY"),
     "names claim": (name_of, "NAME"),
     "names give": (name_of, "NAME KEY"),
     "names drop": (name_of, "NAME"),
@@ -135,6 +173,7 @@ def transaction(signer, words):
     demand(name in FORMS, f"{name!r} is none of: {', '.join(FORMS)}")
     make, form = FORMS[name]
     most, least = len(form.split()), len(re.sub(r"\[.*\]", "", form).split())
+    most = len(rest) if ".." in form else most
     demand(least <= len(rest) <= most, f"{name} wants {form}, and has {len(rest)} words behind it")
     return make(signer, words[1], *rest)
 
@@ -188,7 +227,7 @@ def proposal_line(tx):
 
 def batch_list(key, nonce, texts):
     """The list of these batches, and the lines of its proposals."""
-    demand(re.fullmatch("[0-9a-f]{66}", key), f"key {key!r} is not 66 hex digits")
+    demand(is_key(key), f"key {key!r} is not 66 hex digits")
     demand(is_utf8(nonce), f"nonce {nonce!r} is not UTF-8")
     batches = [batch(key, nonce, place, text) for place, text in enumerate(texts)]
     lines = "".join(proposal_line(tx) for made in batches for tx in made)

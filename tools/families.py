@@ -234,6 +234,15 @@ def setting_address(key):
     return "000000" + "".join(sha256(part.encode())[:16] for part in parts)
 
 
+def policy_address(name):
+    return "00001d00" + sha256(name.encode())[:62]
+
+
+def role_address(name):
+    parts = setting_address(name)[6:]
+    return "00001d01" + parts[:14] + parts[16:]
+
+
 def fields(message, texts, reason):
     """The last value of each field. A number that is cut, or a text that is not UTF-8, is refused for the reason."""
     try:

@@ -15,6 +15,7 @@ FOLDER = sys.argv[1]
 sys.argv[1:] = []
 sys.path.insert(0, os.path.dirname(os.path.abspath(__file__)))
 from counters import address, head, node, record, sha512, text, varint  # noqa: E402
+from families import policy_address, role_address, setting_address  # noqa: E402
 from schedules import schedules  # noqa: E402
 from trees import trees  # noqa: E402
 
@@ -109,12 +110,6 @@ SETTING = "sawtooth.settings.vote."
 def setting(key, value):
     """The bytes under the address of a setting with one entry."""
     return record(1, record(1, key) + record(2, value))
-
-
-def setting_address(key):
-    """Four parts, each by SHA-256."""
-    parts = (key.split(".", 3) + [""] * 4)[:4]
-    return "000000" + "".join(hashlib.sha256(part.encode()).hexdigest()[:16] for part in parts)
 
 
 def families(name, family, rows):
@@ -245,15 +240,6 @@ def policy(name, *entries):
 
 def role(name, its_policy):
     return record(1, name) + record(2, its_policy)
-
-
-def policy_address(name):
-    return "00001d00" + hashlib.sha256(name.encode()).hexdigest()[:62]
-
-
-def role_address(name):
-    parts = setting_address(name)[6:]
-    return "00001d01" + parts[:14] + parts[16:]
 
 
 def identities():
