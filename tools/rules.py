@@ -86,8 +86,8 @@ def ruled():
         kind = "batch" if part.startswith("Checks of a batch") else "fault"
         yield from ((kind, *it) for it in re.findall(r"^\| (\d+) `([A-Z]\w+)`", part, re.M) if it[1] not in ("Batch", "Static"))
         yield from (("cause", *it) for it in re.findall(r"^\| Cause (\d+) `(\w+)`", part, re.M))
-        family = re.match(r"(IntegerKey|XO|Settings), checks", part)
-        yield from (("reason", it, "") for it in re.findall(r"\b([1-3][01]\d)\b", part if family else ""))
+        family = re.match(r"(IntegerKey|XO|Settings|Identity), checks", part)
+        yield from (("reason", it, "") for it in re.findall(r"\b([1-4][01]\d)\b", part if family else ""))
         yield from (("reason", it, "") for it in re.findall(r"[Rr]eason (\d)\b", part))
 
 
