@@ -88,21 +88,24 @@ def all_of(program, front, made, listed):
     return block_of(front, made, listed, root)
 
 
-def main():
-    program, turns = sys.argv[1], int(sys.argv[2]) if len(sys.argv) > 2 else 7
-    mixed = sys.argv[3:] == ["mixed"]
+def streams_of(program, folder, firsts, texts):
+    """By the names of the first batches: the streams of a first block, and those with the block of these batches behind it."""
+    many, roomy = listed(folder, "many", texts), listed(folder, "roomy", texts[: ROOM // BATCH])
+    with open(many, "rb") as file:
+        content = file.read()
+    first, whole = {}, {}
+    for name, batch in firsts.items():
+        _, _, first[name] = run([program, "publish", "--batches", listed(folder, name, [batch])], b"")
+        _, _, second = run([program, "publish", "--batches", roomy], first[name])
+        whole[name] = all_of(program, first[name], second, content)
+    return first, whole, roomy
+
+
+def compare(program, turns, firsts, transactions):
+    """Prints what a block of these transactions takes behind the first of two first batches beside the second, `none`."""
+    texts = ["; ".join(transactions[at : at + BATCH]) for at in range(0, len(transactions), BATCH)]
     with tempfile.TemporaryDirectory() as folder:
-        sets = [[transaction(at + place, mixed) for place in range(BATCH)] for at in range(0, TRANSACTIONS, BATCH)]
-        texts = ["; ".join(batch) for batch in sets]
-        many, roomy = listed(folder, "many", texts), listed(folder, "roomy", texts[: ROOM // BATCH])
-        with open(many, "rb") as file:
-            content = file.read()
-        first, whole = {}, {}
-        for name, keys in SETTINGS.items():
-            one = listed(folder, name, [first_batch(*keys, mixed)])
-            _, _, first[name] = run([program, "publish", "--batches", one], b"")
-            _, _, second = run([program, "publish", "--batches", roomy], first[name])
-            whole[name] = all_of(program, first[name], second, content)
+        first, whole, roomy = streams_of(program, folder, firsts, texts)
         for told, words, streams in (
             ("apply, 1 worker", ["apply", "--workers", "1"], whole),
             ("apply, 4 workers", ["apply", "--workers", "4"], whole),
@@ -110,12 +113,18 @@ def main():
         ):
             ran = [{name: run([program, *words], stream)[:2] for name, stream in streams.items()} for _ in range(turns)]
             least = {name: [min(turn[name][at] for turn in ran) for at in (0, 1)] for name in streams}
-            ratios = [rules / none for rules, none in zip(least["rules"], least["none"])]
-            (cpu, wall), (cpu_none, wall_none) = least["rules"], least["none"]
+            (cpu, wall), (cpu_none, wall_none) = least.values()
             print(
-                f"{told}: processor {cpu:.3f} s beside {cpu_none:.3f}, {ratios[0]:.3f} times;"
-                f" wall {wall:.3f} s beside {wall_none:.3f}, {ratios[1]:.3f} times"
+                f"{told}: processor {cpu:.3f} s beside {cpu_none:.3f}, {cpu / cpu_none:.3f} times;"
+                f" wall {wall:.3f} s beside {wall_none:.3f}, {wall / wall_none:.3f} times"
             )
+
+
+def main():
+    program, turns = sys.argv[1], int(sys.argv[2]) if len(sys.argv) > 2 else 7
+    mixed = sys.argv[3:] == ["mixed"]
+    firsts = {name: first_batch(*keys, mixed) for name, keys in SETTINGS.items()}
+    compare(program, turns, firsts, [transaction(at, mixed) for at in range(TRANSACTIONS)])
 
 
 if __name__ == "__main__":
