@@ -12,12 +12,13 @@ use Rattle.saw_report.specs.declared.run_fault.RunFault.TheVariants as runs
 use Rattle.saw_top.specs.Answers.{Prepared, answer_for, prepared}
 use Rattle.saw_generate.specs.Streams.{stream}
 use Rattle.saw_generate.specs.declared.wish.GenerateWish.{GenerateWish}
-use Rattle.saw_top.specs.Command.{Asked, Generate, Judge, Wish}
-use Rattle.saw_top.specs.Headline.{DoesAsked, DoesJob, DoesTask, EndsBy, LinesInTime, HasCause, HasFault, WritesAnswer, TellsFirst, WritesBy}
+use Rattle.saw_top.specs.Command.{Asked, Check, Claim, Generate, Judge, Wish}
+use Rattle.saw_top.specs.Headline.{ChecksClaim, DoesAsked, DoesJob, DoesTask, EndsBy, LinesInTime, HasCause, HasFault, WritesAnswer, TellsFirst, WritesBy}
 use Rattle.saw_top.specs.History.{ended, history}
 use Rattle.saw_top.specs.Outside.{AreLater, End, Outside, SomeRose, sides, sides_of}
 use Rattle.saw_top.specs.Run.{faulty, noted_by, written_by}
-use Rattle.saw_top.specs.Vouching.{ComesBy, Prepares, prepared_in}
+use Rattle.saw_top.specs.Fetching.{ComesBy}
+use Rattle.saw_top.specs.Vouching.{Prepares, prepared_in}
 use Rattle.saw_top.specs.World.{Accepts, Ways, World, serially, world_with}
 use Rattle.saw_top.specs.declared.task.Lines.{Lines}
 use Rattle.saw_top.specs.declared.task.Lines.TheVariants.{All, Refused}
@@ -122,6 +123,11 @@ unasked accepts signing processors own asked before none =
     })
 
 -- memory was refused while the words were read
+-- the file of a name
+named : (held : Option Files) (files : Files) (name : List ℕ) → IfSome held (λ told. files ≡ told) → IfSome held (λ told. told name ≡ files name)
+named None files name is = tt
+named (Some told) files name is = ap (λ (all : Files). all name) (sym is)
+
 pub unread : (accepts : Accepts) (signing : Signing) (processors : Processors) → HasOwnReasons processors → (asked : Option Asked) (before : Outside) → IsSome asked
     → DoesAsked (world_with accepts signing processors) asked before before (Err runs.Memory)
 unread accepts signing processors own None before some = absurd cc
@@ -138,6 +144,21 @@ unread accepts signing processors own (Some (Judge wish)) before some =
     }
 unread accepts signing processors own (Some (Generate wish)) before some =
     λ files. record { still = refl; wrote = no_front (stream signing wish) before.output.tells }
+unread accepts signing processors own (Some (Check claim)) before some =
+    let at = files_in before.shelf.tells in
+    record {
+      still = refl;
+      checks = record {
+        file = at.0 claim.proof;
+        told = named before.shelf.tells at.0 claim.proof at.1;
+        by = inr (runs.Memory, refl, refl, tt);
+      };
+    }
+
+-- a claim was checked
+pub claimed : (given : Files → World) (asked : Option Asked) (claim : Claim) (before after : Outside) (came : Result ℕ RunFault) → Some (Check claim) ≡ asked
+    → ChecksClaim claim before after came → DoesAsked given asked before after came
+claimed given asked claim before after came is checks = subst (λ (a : Option Asked). DoesAsked given a before after came) is checks
 
 -- a job was done
 pub judged : (given : Files → World) (asked : Option Asked) (wish : Wish) (before after : Outside) (came : Result ℕ RunFault) → Some (Judge wish) ≡ asked

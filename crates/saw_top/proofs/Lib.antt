@@ -22,7 +22,10 @@ pub mod OptionWords
 pub mod OptionOrder
 pub mod Prefixes
 pub mod BuiltIn
+pub mod Fetched
 pub mod Prepares
+pub mod NodeLines
+pub mod Claimed
 pub mod Seating
 pub mod Counting
 pub mod Seated

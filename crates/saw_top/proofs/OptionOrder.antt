@@ -10,8 +10,9 @@ use Rattle.std.proofs.lemmas.Slice.Eq.{bytes_eq-Decides}
 use mathlib.Core.Path.{fun_ext}
 use Rattle.saw_messages.specs.Distinct.{are_distinct}
 use Rattle.saw_words.specs.Given.{Given, are_of, is_known, names_of, value_of}
-use Rattle.saw_top.specs.Command.{Values, apply_by, asked_with, attest, batch, batches, blocks, conflicts, generate_by, listen, of_names, prefix, publish_by}
-use Rattle.saw_top.specs.Command.{receipts_by, remotes, start, state_by, status_by, workers}
+use Rattle.saw_top.specs.Command.{Values, asked_by, asked_with, of_names}
+use Rattle.saw_top.specs.Table.{options_of}
+use Rattle.saw_top.specs.declared.table.Kind.{Kind}
 
 -- two tests in either order
 or_swapped : (a b c : Bool) → (a || (b || c)) ≡ (b || (a || c))
@@ -80,14 +81,6 @@ made_swapped {A} names made before after one other =
     split true b same values = rw (← same) (values refl)
     split false b same values = rw (← same) refl
 
-pub order_of_options_does_not_show : (word : List ℕ) (before after : List Given) (one other : Given)
-    → asked_with word (Some (before ++ one ∷ other ∷ after)) ≡ asked_with word (Some (before ++ other ∷ one ∷ after))
-order_of_options_does_not_show word before after one other =
-    rw (
-      made_swapped (workers ∷ attest ∷ listen ∷ remotes ∷ []) apply_by before after one other,
-      made_swapped (workers ∷ attest ∷ listen ∷ remotes ∷ prefix ∷ []) state_by before after one other,
-      made_swapped (workers ∷ attest ∷ listen ∷ remotes ∷ batches ∷ []) publish_by before after one other,
-      made_swapped (workers ∷ attest ∷ listen ∷ remotes ∷ []) receipts_by before after one other,
-      made_swapped (workers ∷ attest ∷ listen ∷ remotes ∷ batch ∷ []) status_by before after one other,
-      made_swapped (start ∷ blocks ∷ batches ∷ conflicts ∷ []) generate_by before after one other,
-    ) refl
+pub order_of_options_does_not_show : (kind : Kind) (before after : List Given) (one other : Given)
+    → asked_with kind (before ++ one ∷ other ∷ after) ≡ asked_with kind (before ++ other ∷ one ∷ after)
+order_of_options_does_not_show kind before after one other = made_swapped (options_of kind) (asked_by kind) before after one other

@@ -1,10 +1,9 @@
 -- Who vouches and what may be published, by what the shelf gave.
-use Rattle.std.proofs.Common.{◌≡◌, ℕ, zero, suc, ◌<◌, ◌≤◌, true, false, List, [], ◌∷◌, length, cond, Option, Some, None, Result, Ok, Err}
+use Rattle.std.proofs.Common.{◌≡◌, ℕ, ◌<◌, ◌≤◌, true, false, List, [], length, cond, Option, Some, None, Result, Ok, Err}
 use Rattle.std.proofs.Common.{refl, sym, ap, subst, ◌∙◌, arith}
-use Rattle.std.specs.Prelude.{IfOk, IfSome, is_some, nat_lt, option_map, unwrap_or}
+use Rattle.std.specs.Prelude.{IfSome, is_some, option_map, unwrap_or}
 use Rattle.std.specs.Global.{Vec}
 use Rattle.std.specs.Str.{bytes_eq}
-use Rattle.std.proofs.lemmas.Bool.Decides.{nat_tests}
 use Rattle.std.proofs.lemmas.Slice.Eq.{bytes_eq-Decides}
 use Rattle.std.proofs.Math.Path.{fun_ext}
 use Rattle.saw_faults.specs.Counts.{Rose}
@@ -22,53 +21,15 @@ use Rattle.saw_verify.specs.declared.attest.AttestFault.TheVariants as lists
 use Rattle.saw_top.specs.Answers.{attested, batches_of, batches_with, listed, prepared_by, ready_by, ready_with}
 use Rattle.saw_top.specs.Limits.{max_batches, max_list}
 use Rattle.saw_top.specs.Outside.{End}
-use Rattle.saw_top.specs.Vouching.{ComesBy, FetchesBy, File, HoldsKnown, IsOf, NamedBy, Prepares, ReadsBy}
+use Rattle.saw_top.specs.Fetching.{ComesBy, FetchesBy, ReadsBy}
+use Rattle.saw_top.specs.Vouching.{File, HoldsKnown, IsOf, NamedBy, Prepares}
 use Rattle.saw_top.specs.World.{Accepts}
-
--- ---- what came of it
-
--- a fault of a part is that of the whole
-passed : {A B : Type 0} (f : Result A RunFault → Result B RunFault) → ((fault : RunFault) → f (Err fault) ≡ Err fault)
-    → (failed other : Type 0) → (failed → other) → (right : Result A RunFault) (fault : RunFault)
-    → ComesBy failed right (Err fault) → ComesBy other (f right) (Err fault)
-passed f passes failed other may right runs.FileFailed by = may by
-passed f passes failed other may right runs.Memory by = tt
-passed f passes failed other may right runs.FileMissing by = (ap f by.0 ∙ passes runs.FileMissing, refl)
-passed f passes failed other may right runs.FileTooLong by = (ap f by.0 ∙ passes runs.FileTooLong, refl)
-passed f passes failed other may right (runs.BadLine line) by = (ap f by.0 ∙ passes (runs.BadLine line), refl)
-passed f passes failed other may right runs.BadList by = (ap f by.0 ∙ passes runs.BadList, refl)
-passed f passes failed other may right fault by = absurd cc
-
--- where no fetch fails, whatever a failed one says
-widened : {A : Type 0} (other : Type 0) (right came : Result A RunFault) → ComesBy ⊥ right came → ComesBy other right came
-widened other right (Ok made) by = by
-widened other right (Err fault) by = passed (λ r. r) (λ fault. refl) ⊥ other (λ none. absurd none) right fault by
+use Rattle.saw_top.proofs.Fetched.{file_at, not_over, over, passed, unfetched, widened}
 
 -- ---- files that are told, or some
 
--- a list of any length
-some_list : (n : ℕ) → (list : List ℕ) × (length list ≡ n)
-some_list zero = ([], refl)
-some_list (suc n) = (0 ∷ (some_list n).0, ap suc (some_list n).1)
-
--- some file of which a fetch answers so
-some_file : (max : ℕ) (result : Result (Vec ℕ) ShelfFault) → IfOk result (λ list. length list.items ≤ max)
-    → (file : Option (List ℕ)) × FileGives max file result
-some_file max (Ok list) within = (Some list.items, (refl, within))
-some_file max (Err shelves.Missing) within = (None, refl)
-some_file max (Err shelves.TooLong) within = (Some (some_list (suc max)).0, ((some_list (suc max)).0, refl, rw (some_list (suc max)).1 (omega arith)))
-some_file max (Err shelves.Failed) within = (None, tt)
-some_file max (Err shelves.OutOfMemory) within = (Some [], ([], refl, omega arith))
-
--- the file of a name, where it is told, or else some file
-file_at : (result : Result (Vec ℕ) ShelfFault) (held : Option Files) (name : List ℕ) (max : ℕ) → IfOk result (λ list. length list.items ≤ max)
-    → Fetches held name max result
-    → (file : Option (List ℕ)) × IfSome held (λ told. told name ≡ file) × FileGives max file result
-file_at result None name max within fetched = let file = some_file max result within in (file.0, tt, file.1)
-file_at result (Some files) name max within fetched = (files name, refl, fetched)
-
 -- all of them
-all_files : (held : Option Files) (name : List ℕ) (file : Option (List ℕ)) → IfSome held (λ told. told name ≡ file)
+pub all_files : (held : Option Files) (name : List ℕ) (file : Option (List ℕ)) → IfSome held (λ told. told name ≡ file)
     → (files : Files) × IfSome held (λ told. files ≡ told) × (files name ≡ file)
 all_files None name file is = (λ any. file, tt, refl)
 all_files (Some files) name file is = (files, refl, is)
@@ -105,12 +66,6 @@ files_of (Some told) known has = (told, refl, has)
 
 -- ---- what the file of a list prepares
 
-not_over : (n max : ℕ) → n ≤ max → nat_lt max n ≡ false
-not_over n max fits = grind (arith, nat_tests)
-
-over : (n max : ℕ) → max < n → nat_lt max n ≡ true
-over n max more = grind (arith, nat_tests)
-
 list_is : (file : Option (List ℕ)) (list : List ℕ) → file ≡ Some list → length list ≤ max_list → listed file ≡ attested list (first_bad_line list)
 list_is file list is within = ap listed is ∙ fits
   where
@@ -120,7 +75,7 @@ list_is file list is within = ap listed is ∙ fits
 long_list : (list : List ℕ) → max_list < length list → listed (Some list) ≡ Err runs.FileTooLong
 long_list list more = rw (over (length list) max_list more) refl
 
-long_batches : (list : List ℕ) → max_batches < length list → batches_of (Some list) ≡ Err runs.FileTooLong
+pub long_batches : (list : List ℕ) → max_batches < length list → batches_of (Some list) ≡ Err runs.FileTooLong
 long_batches list more = rw (over (length list) max_batches more) refl
 
 -- two verifiers that answer alike are one
@@ -128,39 +83,7 @@ same_verifier : (accepts others : Accepts) → ((key message signature : List �
     → accepts ≡ others
 same_verifier accepts others same = fun_ext (λ key. fun_ext (λ message. fun_ext (λ signature. same key message signature)))
 
--- a fetch had a fault
-unfetched : {A : Type 0} (of : Option (List ℕ) → Result A RunFault) (max : ℕ) → of None ≡ Err runs.FileMissing
-    → ((list : List ℕ) → max < length list → of (Some list) ≡ Err runs.FileTooLong)
-    → (failed : Type 0) (e : ShelfFault) (file : Option (List ℕ)) → FileGives max file (Err e) → (e ≡ shelves.Failed → failed)
-    → ComesBy failed (of file) (Err (fault_of_shelf e))
-unfetched of max missing long failed shelves.Missing file gives cause = (ap of gives ∙ missing, refl)
-unfetched of max missing long failed shelves.TooLong file gives cause = (ap of gives.1 ∙ long gives.0 gives.2, refl)
-unfetched of max missing long failed shelves.Failed file gives cause = cause refl
-unfetched of max missing long failed shelves.OutOfMemory file gives cause = tt
-
 -- ---- the batches
-
-module _ (name : List ℕ) (before after : End Files) where
-  pub no_batches : (e : ShelfFault) → Fetches before.tells name max_batches (Err e) → (e ≡ shelves.Failed → Rose before.faults after.faults)
-      → FetchesBy batches_of name before after (Err (fault_of_shelf e))
-  no_batches e fetched failed =
-      let at = file_at (Err e) before.tells name max_batches tt fetched in
-      record {
-        file = at.0;
-        held = at.1;
-        by = unfetched batches_of max_batches refl long_batches (Rose before.faults after.faults) e at.0 at.2 failed;
-      }
-
-  pub batches_read : (list : Vec ℕ) → Fetches before.tells name max_batches (Ok list) → length list.items ≤ max_batches
-      → (came : Result (List Batch) RunFault) → ReadsBy batches_of list.items came → FetchesBy batches_of name before after came
-  batches_read list fetched within came reads =
-      let at = file_at (Ok list) before.tells name max_batches within fetched in
-      record {
-        file = at.0;
-        held = at.1;
-        by = widened (Rose before.faults after.faults) (batches_of at.0) came
-            (subst (λ (file : Option (List ℕ)). ComesBy ⊥ (batches_of file) came) (sym at.2.0) reads);
-      }
 
 module _ (known : Option File) (before after : End Files) (has : HoldsKnown before known) where
   -- no list is named

@@ -1,20 +1,24 @@
 -- What a run answers to words, files and a stream.
-use Rattle.std.specs.Prelude.{ℕ, List, [], length, Option, Some, None, Result, Ok, Err, nat_lt, if◌then◌else◌}
+use Rattle.std.specs.Prelude.{◌≡◌, ℕ, List, [], length, Option, Some, None, Result, Ok, Err, nat_lt, if◌then◌else◌}
 use Rattle.saw_io.specs.Shelf.{Files}
 use Rattle.saw_messages.specs.Batches.{batch_list}
 use Rattle.saw_messages.specs.declared.batch.Batch.{Batch}
 use Rattle.saw_messages.specs.declared.batch.BatchList.{BatchList}
 use Rattle.saw_node.specs.Hashes.{first_half}
+use Rattle.saw_proofs.specs.Checking.{IsChecked}
+use Rattle.saw_proofs.specs.declared.fault.ProofFault.{ProofFault}
+use Rattle.saw_proofs.specs.declared.found.Found.{Found}
 use Rattle.saw_publish.specs.Candidates.{Signing}
 use Rattle.saw_report.specs.declared.run_fault.RunFault.{RunFault}
 use Rattle.saw_report.specs.declared.run_fault.RunFault.TheVariants.{Words, FileMissing, FileTooLong, BadLine, BadList}
 use Rattle.saw_verify.specs.Lists.{attests, first_bad_line}
 use Rattle.saw_wire.specs.declared.fault.MessageFault.{MessageFault}
 use Rattle.saw_generate.specs.Streams.{stream}
-use Rattle.saw_top.specs.Command.{Asked, Generate, Judge, Wish, asked_of}
+use Rattle.saw_top.specs.Claims.{checked_line, checked_status, nodes_of}
+use Rattle.saw_top.specs.Command.{Asked, Check, Claim, Generate, Judge, Wish, asked_of}
 use Rattle.saw_top.specs.Limits.{max_batches, max_list}
 use Rattle.saw_top.specs.Publishing.{Waiting}
-use Rattle.saw_top.specs.Run.{Answer, faulty, task_answer, whole}
+use Rattle.saw_top.specs.Run.{Answer, faulty, task_answer, written}
 use Rattle.saw_top.specs.World.{Accepts, Ways, World, judging_by, rules_with}
 use Rattle.saw_top.specs.declared.task.Ending.TheVariants.{Head}
 use Rattle.saw_top.specs.declared.task.Lines.TheVariants.{All}
@@ -74,6 +78,13 @@ prepared world None = Err Words
 prepared world (Some wish) =
     prepared_by world.signing (batches_with world.files wish.batches) (vouching_with world.accepts world.files wish.list)
 
+-- the answer to a claim: what its proof shows, or the fault of its file
+abbrev pub IsAnswerTo : Claim → Result (List (List ℕ)) RunFault → Answer → Type 0
+IsAnswerTo claim (Ok nodes) answer =
+    (found : Result Found ProofFault) × IsChecked first_half claim.root claim.address nodes found
+    × (answer ≡ written (checked_line found) (checked_status found))
+IsAnswerTo claim (Err fault) answer = answer ≡ faulty fault
+
 -- invalid arguments ask for nothing
 abbrev pub task_by : Option Wish → Task
 task_by None = record { lines = All; ending = Head }
@@ -90,12 +101,14 @@ module _ (ways : Ways) where
   abbrev pub answer_to : World → Option Wish → List ℕ → Answer
   answer_to world wish bytes = answer_for (task_by wish) (prepared world wish) bytes
 
-  -- a new stream is written whatever files and stream are
-  abbrev pub answer_by : World → Option Asked → List ℕ → Answer
-  answer_by world None bytes = answer_to world None bytes
-  answer_by world (Some (Judge wish)) bytes = answer_to world (Some wish) bytes
-  answer_by world (Some (Generate wish)) bytes = whole (stream world.signing wish)
+  -- What is an answer to what was asked. A new stream is written whatever files and stream are, and a proof is checked
+  -- whatever the stream is.
+  abbrev pub IsAnswerBy : World → Option Asked → List ℕ → Answer → Type 0
+  IsAnswerBy world None bytes answer = answer ≡ answer_to world None bytes
+  IsAnswerBy world (Some (Judge wish)) bytes answer = answer ≡ answer_to world (Some wish) bytes
+  IsAnswerBy world (Some (Generate wish)) bytes answer = answer ≡ written (stream world.signing wish) 0
+  IsAnswerBy world (Some (Check claim)) bytes answer = IsAnswerTo claim (nodes_of (world.files claim.proof)) answer
 
-  -- the answer to words, files and a stream
-  abbrev pub answer_of : World → List (List ℕ) → List ℕ → Answer
-  answer_of world words bytes = answer_by world (asked_of words) bytes
+  -- and to words
+  abbrev pub IsAnswerOf : World → List (List ℕ) → List ℕ → Answer → Type 0
+  IsAnswerOf world words bytes answer = IsAnswerBy world (asked_of words) bytes answer

@@ -14,9 +14,10 @@ use Rattle.saw_report.specs.declared.run_fault.RunFault.TheVariants.{Words, Trun
 use Rattle.saw_publish.specs.Candidates.{Signing}
 use Rattle.saw_generate.specs.Streams.{stream}
 use Rattle.saw_generate.specs.declared.wish.GenerateWish.{GenerateWish}
-use Rattle.saw_top.specs.Answers.{Prepared, answer_for, answer_of, prepared, task_by}
+use Rattle.saw_top.specs.Answers.{IsAnswerOf, Prepared, answer_for, prepared, task_by}
+use Rattle.saw_top.specs.Claims.{Checks}
 use Rattle.saw_top.specs.Clashing.{AreAlike, ClashIn}
-use Rattle.saw_top.specs.Command.{Asked, Generate, Judge, Wish, asked_of}
+use Rattle.saw_top.specs.Command.{Asked, Check, Claim, Generate, Judge, Wish, asked_of}
 use Rattle.saw_top.specs.EndingFaults.{is_told}
 use Rattle.saw_top.specs.StreamJudging.{StopsAtLength, TakesNext}
 use Rattle.saw_top.specs.Limits.{max_frames}
@@ -26,7 +27,7 @@ use Rattle.saw_top.specs.Stream.{Reads}
 use Rattle.saw_top.specs.Telling.{IsTold}
 use Rattle.saw_top.specs.World.{AreWays, Ways, World, serially}
 use Rattle.saw_top.specs.declared.task.Ending.{Ending}
-use Rattle.saw_top.specs.declared.task.Ending.TheVariants.{Batch, Candidate, Head, Entries, Receipts}
+use Rattle.saw_top.specs.declared.task.Ending.TheVariants.{Batch, Candidate, Head, Entries, Proof, Receipts}
 use Rattle.saw_top.specs.declared.task.Lines.{Lines}
 use Rattle.saw_top.specs.declared.task.Lines.TheVariants.{All, Refused}
 use Rattle.saw_top.specs.declared.task.Task.{Task}
@@ -137,6 +138,7 @@ IsDone Head status = (status ≡ 0) ⊎ (status ≡ 1)
 IsDone (Entries prefix) status = (status ≡ 0) ⊎ (status ≡ 8)
 IsDone Receipts status = (status ≡ 0) ⊎ (status ≡ 8)
 IsDone (Batch id) status = (status ≡ 0) ⊎ (status ≡ 8)
+IsDone (Proof at) status = (status ≡ 0) ⊎ (status ≡ 8)
 IsDone Candidate status = (status ≡ 0) ⊎ (status ≡ 1)
 
 module _ (processors : Processors) (task : Task) (ready : Result Prepared RunFault) (before after : Outside) where
@@ -222,6 +224,13 @@ pub record Generates (signing : Signing) (wish : GenerateWish) (before after : O
   pub still : after ≡ record before { output = after.output }
   pub wrote : WritesBy (stream signing wish) before.output after.output came
 
+-- ---- a claim
+
+-- A proof was checked, and nothing but the output and the shelf was touched.
+pub record ChecksClaim (claim : Claim) (before after : Outside) (came : Result ℕ RunFault) : Type 0 where
+  pub still : after ≡ record before { output = after.output; shelf = after.shelf }
+  pub checks : Checks claim.root claim.address claim.proof before.output after.output before.shelf after.shelf came
+
 -- ---- what was asked
 
 -- what was done of what was asked; a new stream is the same whatever the files are
@@ -230,25 +239,29 @@ DoesAsked given None before after came = DoesJob given None before after came
 DoesAsked given (Some (Judge wish)) before after came = DoesJob given (Some wish) before after came
 DoesAsked given (Some (Generate wish)) before after came =
     (files : Files) → Generates (given files).signing wish before after came
+DoesAsked given (Some (Check claim)) before after came = ChecksClaim claim before after came
 
--- What holds for the bytes that are unread, where they are told. A new stream is written whatever they are.
+-- What holds for the bytes that are unread, where they are told. For a new stream and a claim it holds whatever they are.
 abbrev pub WhereRead : Option Asked → Option (List ℕ) → (List ℕ → Type 0) → Type 0
 WhereRead None told holds = IfSome told holds
 WhereRead (Some (Judge wish)) told holds = IfSome told holds
 WhereRead (Some (Generate wish)) told holds = (bytes : List ℕ) → holds bytes
+WhereRead (Some (Check claim)) told holds = (bytes : List ℕ) → holds bytes
 
--- What was asked is told where each transaction that it names goes to a processor that tells its actions. A new stream and
--- invalid arguments go to nobody.
+-- What was asked is told where each transaction that it names goes to a processor that tells its actions. A new stream, a
+-- claim and invalid arguments go to nobody.
 abbrev pub IsToldFor : World → Option Asked → List ℕ → Type 0
 IsToldFor world None bytes = Unit {0}
 IsToldFor world (Some (Judge wish)) bytes = IsTold world.processors (prepared world (Some wish)) bytes
 IsToldFor world (Some (Generate wish)) bytes = Unit {0}
+IsToldFor world (Some (Check claim)) bytes = Unit {0}
 
 -- whether external processors are asked at all
 abbrev pub asks_external : Option Asked → Bool
 asks_external None = false
 asks_external (Some (Judge wish)) = true
 asks_external (Some (Generate wish)) = false
+asks_external (Some (Check claim)) = false
 
 -- ---- what is told of it
 
@@ -285,7 +298,8 @@ module _ (given : Files → World) (words : List (List ℕ)) (before after : Out
   -- no call failed
   abbrev pub Answers : World → Ways → List ℕ → Type 0
   Answers world ways bytes = (status ≡ 7) ⊎ ((status ≡ 9)
-      ⊎ (SomeFailed before after ⊎ IsWritten (answer_of ways world words bytes) (sides_of before after) status))
+      ⊎ (SomeFailed before after
+      ⊎ ((answer : Answer) × IsAnswerOf ways world words bytes answer × IsWritten answer (sides_of before after) status)))
 
   -- Where all is told, it is the answer of batches that are run one after another. Else it is that of some ways to run the
   -- batches of each block, and those that are published, of which each may come of their processors. It is so for some files,

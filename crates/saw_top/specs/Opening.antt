@@ -1,42 +1,48 @@
 -- What is to be opened before a run.
-use Rattle.std.specs.Prelude.{ℕ, List, [], ◌∷◌, Option, Some, None, codes, if◌then◌else◌}
-use Rattle.std.specs.Str.{bytes_eq}
-use Rattle.saw_words.specs.Given.{Given, are_of, given_in, value_of}
-use Rattle.saw_top.specs.Command as commands
-use Rattle.saw_top.specs.Command.{listen, remotes, wish_with}
+use Rattle.std.specs.Prelude.{ℕ, List, [], ◌∷◌, Option, Some, None, option_map, unwrap_or}
+use Rattle.std.specs.Option.{option_and_then}
+use Rattle.saw_words.specs.Given.{Given, given_in}
+use Rattle.saw_top.specs.Command.{Asked, Check, Generate, Judge, Values, asked_by, of_names}
 use Rattle.saw_top.specs.Listening.{listening_in}
 use Rattle.saw_top.specs.Numbers.{required}
+use Rattle.saw_top.specs.Table.{connect, kind_of, listen, options_of, remotes}
 use Rattle.saw_top.specs.declared.listening.Listening.{Listening}
 use Rattle.saw_top.specs.declared.opening.Wish.{Wish}
 use Rattle.saw_top.specs.declared.opening.Wish.TheVariants.{Plain, Listen, Connect}
+use Rattle.saw_top.specs.declared.table.Kind.{Kind}
+use Rattle.saw_top.specs.declared.table.Kind.TheVariants as kinds
 
-abbrev pub connect : List ℕ
-connect = codes "--connect"
+abbrev pub listening_by : Values → Option (Option Listening)
+listening_by value = listening_in (value listen) (value remotes)
 
 abbrev pub by_listening : Option (Option Listening) → Wish
 by_listening None = Plain
 by_listening (Some None) = Plain
 by_listening (Some (Some at)) = Listen at.port at.remotes
 
--- by the options of a command on blocks
-abbrev pub listened_by : Option commands.Wish → Option (List Given) → Wish
-listened_by None given = Plain
-listened_by (Some wish) None = Plain
-listened_by (Some wish) (Some given) = by_listening (listening_in (value_of listen given) (value_of remotes given))
-
 abbrev pub by_port : Option ℕ → Wish
 by_port None = Plain
 by_port (Some port) = Connect port
 
 -- by the options of a processor
-abbrev pub connected_by : Option (List Given) → Wish
-connected_by None = Plain
-connected_by (Some given) = if are_of (connect ∷ []) given then by_port (required 1 65535 (value_of connect given)) else Plain
+abbrev pub connected_by : Values → Wish
+connected_by value = by_port (required 1 65535 (value connect))
 
-abbrev pub opened_with : List ℕ → Option (List Given) → Wish
-opened_with word given = if bytes_eq word (codes "tp") then connected_by given else listened_by (wish_with word given) given
+-- by the options of a command on blocks
+abbrev pub listened_by : Option Asked → Values → Wish
+listened_by None value = Plain
+listened_by (Some (Judge wish)) value = by_listening (listening_by value)
+listened_by (Some (Generate wish)) value = Plain
+listened_by (Some (Check claim)) value = Plain
+
+abbrev pub opened_by : Kind → Values → Wish
+opened_by kinds.Tp value = connected_by value
+opened_by kind value = listened_by (asked_by kind value) value
+
+abbrev pub opened_with : Kind → Option (List Given) → Wish
+opened_with kind given = unwrap_or (option_and_then (of_names (options_of kind) (λ value. Some (opened_by kind value))) given) Plain
 
 -- what the words ask to open; where they are invalid nothing is
 abbrev pub opened_of : List (List ℕ) → Wish
 opened_of [] = Plain
-opened_of (word ∷ words) = opened_with word (given_in None words)
+opened_of (word ∷ words) = unwrap_or (option_map (λ kind. opened_with kind (given_in None words)) (kind_of word)) Plain

@@ -1,13 +1,13 @@
 -- Who vouches for signatures and what may be published, and how it was prepared.
-use Rattle.std.specs.Prelude.{◌≡◌, ◌||◌, ℕ, Bool, true, false, List, is_some, Option, Some, option_map, Result, Ok, Err, IfSome}
+use Rattle.std.specs.Prelude.{◌≡◌, ◌||◌, ℕ, true, List, is_some, Option, Some, option_map, Result, IfSome}
 use Rattle.saw_faults.specs.Counts.{Rose}
 use Rattle.saw_io.specs.Shelf.{Files}
 use Rattle.saw_messages.specs.declared.batch.Batch.{Batch}
 use Rattle.saw_publish.specs.Candidates.{Signing}
 use Rattle.saw_report.specs.declared.run_fault.RunFault.{RunFault}
-use Rattle.saw_report.specs.declared.run_fault.RunFault.TheVariants.{Memory, FileMissing, FileTooLong, FileFailed, BadLine, BadList}
 use Rattle.saw_verify.specs.declared.attest.AttestVerifier.{AttestVerifier}
 use Rattle.saw_top.specs.Answers.{Prepared, batches_with, prepared_by, vouching_with}
+use Rattle.saw_top.specs.Fetching.{ComesBy}
 use Rattle.saw_top.specs.Outside.{End}
 use Rattle.saw_top.specs.World.{Accepts}
 use Rattle.saw_top.specs.declared.prepare.Known.{Known}
@@ -18,32 +18,6 @@ use Rattle.saw_top.specs.declared.vouching.Vouching.TheVariants.{Given, Listed}
 abbrev pub vouches : {V : Type 0} → (V → Accepts) → (AttestVerifier → Accepts) → Vouching V → Accepts
 vouches accepts attests (Given verifier) = accepts verifier.now
 vouches accepts attests (Listed list) = attests list
-
--- a fault that a file has
-abbrev pub is_of_file : RunFault → Bool
-is_of_file FileMissing = true
-is_of_file FileTooLong = true
-is_of_file (BadLine line) = true
-is_of_file BadList = true
-is_of_file fault = false
-
--- what came of it, by what a failed fetch says: what is right, the fault that a file has, a failed fetch, or want of memory
-abbrev pub ComesBy : {A : Type 0} → Type 0 → Result A RunFault → Result A RunFault → Type 0
-ComesBy failed right (Ok made) = right ≡ Ok made
-ComesBy failed right (Err FileFailed) = failed
-ComesBy failed right (Err Memory) = Unit {0}
-ComesBy failed right (Err fault) = (right ≡ Err fault) × (is_of_file fault ≡ true)
-
-module _ {A : Type 0} (of : Option (List ℕ) → Result A RunFault) where
-  -- what came of the bytes of a file
-  abbrev pub ReadsBy : List ℕ → Result A RunFault → Type 0
-  ReadsBy bytes came = ComesBy ⊥ (of (Some bytes)) came
-
-  -- what came of the file of a name; a file that is not told is some file
-  pub record FetchesBy (name : List ℕ) (before after : End Files) (came : Result A RunFault) : Type 0 where
-    pub file : Option (List ℕ)
-    pub held : IfSome before.tells (λ told. told name ≡ file)
-    pub by : ComesBy (Rose before.faults after.faults) (of file) came
 
 -- ---- a file that is known
 

@@ -5,12 +5,14 @@ ghost use Rattle.std.specs.Io.KnownBytes.{Appends};
 ghost use Rattle.std.specs.List.{flat_map};
 ghost use Rattle.saw_faults.specs.Counts.{Rose};
 ghost use Rattle.saw_report.specs.Lines.{listed_line, loss_line, receipt_line};
+ghost use Rattle.saw_report.specs.Proofs.{node_line};
 
 use saw_io::{Sink, write_all};
 use saw_merkle::Listed;
 use saw_messages::Receipt;
 use saw_receipts::Loss;
-use saw_report::{RunFault, listed_line, loss_line, receipt_line};
+use saw_report::{RunFault, listed_line, loss_line, node_line, receipt_line};
+use saw_wire::Bytes;
 use std::alloc::{AllocError, Global};
 
 /// What has a line.
@@ -44,6 +46,15 @@ impl Lined for Receipt {
 
     fn line(&self, alloc: Global) -> Result<Vec<u8>, AllocError> {
         receipt_line(alloc, self)
+    }
+}
+
+/// A node of a proof, by its encoding.
+impl Lined for Bytes {
+    ghost line_of = { node_line };
+
+    fn line(&self, alloc: Global) -> Result<Vec<u8>, AllocError> {
+        node_line(alloc, self)
     }
 }
 

@@ -1,12 +1,14 @@
 //! What is to be opened before a run.
 
-ghost use Rattle.std.specs.Prelude.{◌≡◌, is_some, map, string_bytes};
+ghost use Rattle.std.specs.Prelude.{◌≡◌, map, string_bytes};
 ghost use Rattle.saw_words.specs.Given.{options_in};
-ghost use Rattle.saw_top.specs.Command.{wish_with};
-ghost use Rattle.saw_top.specs.Opening.{connected_by, listened_by, opened_of};
+ghost use Rattle.saw_top.specs.Opening.{by_listening, listening_by, connected_by, opened_by, opened_of, opened_with};
 
-use crate::options::{is_plain, is_publish, is_state, is_status, listening_of, port_of};
-use saw_words::are_of;
+use crate::given::{Given, form_of};
+use crate::numbers::required;
+use crate::options::{listening_by, said_by};
+use crate::said::Said;
+use crate::table::{Kind, kind_of};
 
 /// What is to be opened before a run.
 #[derive(Clone, Copy, Debug, PartialEq, Eq)]
@@ -19,28 +21,11 @@ pub enum Wish {
     Connect { port: u16 },
 }
 
-// Whether a command asks for something to be done with blocks, and its options are of a form.
-fn is_job(command: &str, options: &[String]) -> bool
-    ensures { result ≡ is_some (wish_with command.now (options_in options.now)) }
-{
-    match command {
-        "apply" => is_plain(options),
-        "state" => is_state(options),
-        "publish" => is_publish(options),
-        "receipts" => is_plain(options),
-        "status" => is_status(options),
-        _ => false,
-    }
-}
-
 // What a command on blocks asks to open.
-fn listened_by(command: &str, options: &[String]) -> Wish
-    ensures { result ≡ listened_by (wish_with command.now (options_in options.now)) (options_in options.now) }
+fn listened_by<'a, G: Given<'a>>(given: &G) -> Wish
+    ensures { result ≡ by_listening (listening_by (G.value given.now)) }
 {
-    if !is_job(command, options) {
-        return Wish::Plain;
-    }
-    match listening_of(options) {
+    match listening_by(given) {
         None => Wish::Plain,
         Some(None) => Wish::Plain,
         Some(Some(at)) => Wish::Listen {
@@ -51,14 +36,33 @@ fn listened_by(command: &str, options: &[String]) -> Wish
 }
 
 // What a processor asks to open.
-fn connected_by(options: &[String]) -> Wish
-    ensures { result ≡ connected_by (options_in options.now) }
+fn connected_by<'a, G: Given<'a>>(given: &G) -> Wish
+    ensures { result ≡ connected_by (G.value given.now) }
 {
-    if !are_of(options, &["--connect"]) {
-        return Wish::Plain;
-    }
-    match port_of(options) {
+    match required(1, 65_535, given.of("--connect")) {
         Some(port) => Wish::Connect { port: port as u16 },
+        None => Wish::Plain,
+    }
+}
+
+fn opened_by<'a, G: Given<'a>>(kind: Kind, given: &G) -> Wish
+    ensures { result ≡ opened_by kind (G.value given.now) }
+{
+    if let Kind::Tp = kind {
+        return connected_by(given);
+    }
+    match said_by(kind, given) {
+        Some(Said::Judge(_)) => listened_by(given),
+        _ => Wish::Plain,
+    }
+}
+
+// The same of words.
+fn opened_with(kind: Kind, options: &[String]) -> Wish
+    ensures { result ≡ opened_with kind (options_in options.now) }
+{
+    match form_of(options, kind.row().options) {
+        Some(form) => opened_by(kind, &form),
         None => Wish::Plain,
     }
 }
@@ -68,11 +72,11 @@ fn connected_by(options: &[String]) -> Wish
 pub fn listen_wish(words: &[String]) -> Wish
     ensures { result ≡ opened_of (map string_bytes words.now) }
 {
-    let Some((command, options)) = words.split_first() else {
+    let Some((word, options)) = words.split_first() else {
         return Wish::Plain;
     };
-    if command.as_str() == "tp" {
-        return connected_by(options);
+    match kind_of(word.as_str()) {
+        Some(kind) => opened_with(kind, options),
+        None => Wish::Plain,
     }
-    listened_by(command.as_str(), options)
 }

@@ -1,73 +1,21 @@
-//! The options of each command: their form, and what they ask for. What their values are is read by clap.
+//! What the options of each command say.
 
-ghost use Rattle.std.specs.Prelude.{◌≡◌, ◌≤◌, IfOk, IfSome, IsSome, OnErr, is_some, option_map};
-ghost use Rattle.std.specs.Option.{option_and_then};
-ghost use Rattle.saw_words.specs.Given.{options_in, value_of};
-ghost use Rattle.saw_words.specs.Options.{told_by};
-ghost use Rattle.saw_top.specs.Command.{
-  apply_by,
-  apply_with,
-  common_by,
-  common_in,
-  generate_by,
-  generate_with,
-  listen,
-  publish_by,
-  publish_with,
-  receipts_by,
-  receipts_with,
-  remotes,
-  state_by,
-  state_with,
-  status_by,
-  status_with,
-};
+ghost use Rattle.std.specs.Prelude.{◌≡◌, ◌≤◌, IfSome, option_map};
+ghost use Rattle.saw_top.specs.Command.{Check, apply_by, asked_by, check_by, common_by, generate_by, hex_in, prove_by, publish_by, receipts_by, state_by, status_by};
 ghost use Rattle.saw_top.specs.Listening.{listening_in};
-ghost use Rattle.saw_top.specs.Opening.{connect};
-ghost use Rattle.saw_top.specs.Numbers.{conflicts_in, required, workers_in};
-ghost use Rattle.saw_top.specs.Wishes.{wish_in};
+ghost use Rattle.saw_top.specs.Opening.{listening_by};
+ghost use Rattle.saw_top.specs.Plans.{IsSmall, asked_said, plan_wish};
+ghost use Rattle.saw_top.specs.declared.said.Said.TheVariants.{Judge};
 
-use crate::command::Job;
+use crate::given::Given;
 use crate::listening::Listening;
-use crate::task::{Ending, Lines, Task};
-use saw_address::{Prefix, is_hex_text};
+use crate::numbers::{conflicts_in, required, workers_in};
+use crate::said::{Claim, Plan, Said, Wanted};
+use crate::table::Kind;
+use saw_address::{Address, Prefix, is_hex_text};
 use saw_generate::GenerateWish;
-use saw_wire::Text;
-use saw_words::{Values, are_of, number_in, read_options, value_of};
-use std::alloc::{AllocError, Global};
-
-// ---- numbers
-
-fn workers_in(text: Option<&str>) -> Option<u64>
-    ensures { result ≡ workers_in (option_map (λ text. text.now) text.entry) }
-{
-    match text {
-        Some(text) => number_in(1, 64, text),
-        None => Some(4),
-    }
-}
-
-// A number that an option must have.
-fn required(first: u64, last: u64, text: Option<&str>) -> Option<u64>
-    ensures value { result ≡ required first last (option_map (λ text. text.now) text.entry) }
-    ensures between { IfSome result (λ n. (first ≤ n) × (n ≤ last)) }
-{
-    match text {
-        Some(text) => number_in(first, last, text),
-        None => None,
-    }
-}
-
-// How many of a hundred second transactions change the same name.
-fn conflicts_in(text: Option<&str>) -> Option<u64>
-    ensures value { result ≡ conflicts_in (option_map (λ text. text.now) text.entry) }
-    ensures few { IfSome result (λ n. n ≤ 100) }
-{
-    match text {
-        Some(text) => number_in(0, 100, text),
-        None => Some(10),
-    }
-}
+use saw_node::NodeHash;
+use saw_words::number_in;
 
 // Where external processors connect, and how many do: both are given, or neither.
 fn listening_in(listen: Option<&str>, remotes: Option<&str>) -> Option<Option<Listening>>
@@ -86,244 +34,137 @@ fn listening_in(listen: Option<&str>, remotes: Option<&str>) -> Option<Option<Li
     }
 }
 
-// How many workers there are, where all options that commands on blocks have in common are of a form.
-fn common_in(workers: Option<&str>, listen: Option<&str>, remotes: Option<&str>) -> Option<u64>
-    ensures { result ≡ common_in (option_map (λ text. text.now) workers.entry) (option_map (λ text. text.now) listen.entry)
-        (option_map (λ text. text.now) remotes.entry) }
+/// Where external processors connect.
+pub(crate) fn listening_by<'a, G: Given<'a>>(given: &G) -> Option<Option<Listening>>
+    ensures value { result ≡ listening_by (G.value given.now) }
+    ensures port { IfSome result (λ at. IfSome at (λ at. at.port ≤ 65535)) }
+    ensures few { IfSome result (λ at. IfSome at (λ at. at.remotes ≤ 64)) }
 {
-    match listening_in(listen, remotes) {
-        Some(_) => workers_in(workers),
+    listening_in(given.of("--listen"), given.of("--remotes"))
+}
+
+// How many workers there are, where all options that commands on blocks have in common are of a form.
+fn common_by<'a, G: Given<'a>>(given: &G) -> Option<u64>
+    ensures { result ≡ common_by (G.value given.now) }
+{
+    match listening_by(given) {
+        Some(_) => workers_in(given.of("--workers")),
         None => None,
     }
 }
 
-// ---- the form of options
-
-// The same of words.
-fn common_of(words: &[String]) -> Option<u64>
-    ensures { IfSome (options_in words.now) (λ given. result ≡ common_by (λ name. value_of name given)) }
+fn apply_by<'a, G: Given<'a>>(given: &G) -> Option<Plan<'a>>
+    ensures { option_map plan_wish result ≡ apply_by (G.value given.now) }
 {
-    common_in(
-        value_of(words, "--workers"),
-        value_of(words, "--listen"),
-        value_of(words, "--remotes"),
-    )
-}
-
-/// Where external processors connect, by the words.
-pub(crate) fn listening_of(words: &[String]) -> Option<Option<Listening>>
-    ensures value { IfSome (options_in words.now) (λ given. result ≡ listening_in (value_of listen given) (value_of remotes given)) }
-    ensures port { IfSome result (λ at. IfSome at (λ at. at.port ≤ 65535)) }
-    ensures few { IfSome result (λ at. IfSome at (λ at. at.remotes ≤ 64)) }
-{
-    listening_in(value_of(words, "--listen"), value_of(words, "--remotes"))
-}
-
-/// The port to which words have a processor connect.
-pub(crate) fn port_of(words: &[String]) -> Option<u64>
-    ensures value { IfSome (options_in words.now) (λ given. result ≡ required 1 65535 (value_of connect given)) }
-    ensures port { IfSome result (λ n. n ≤ 65535) }
-{
-    required(1, 65_535, value_of(words, "--connect"))
-}
-
-/// Whether words are options of `apply`, and of `receipts`.
-pub(crate) fn is_plain(words: &[String]) -> bool
-    ensures apply { result ≡ is_some (option_and_then apply_with (options_in words.now)) }
-    ensures receipts { result ≡ is_some (option_and_then receipts_with (options_in words.now)) }
-{
-    if !are_of(words, &["--workers", "--attest", "--listen", "--remotes"]) {
-        return false;
-    }
-    common_of(words).is_some()
-}
-
-/// The same of `state`.
-pub(crate) fn is_state(words: &[String]) -> bool
-    ensures { result ≡ is_some (option_and_then state_with (options_in words.now)) }
-{
-    if !are_of(
-        words,
-        &["--workers", "--attest", "--listen", "--remotes", "--prefix"],
-    ) {
-        return false;
-    }
-    if common_of(words).is_none() {
-        return false;
-    }
-    Prefix::parse(value_of(words, "--prefix").unwrap_or("")).is_some()
-}
-
-/// The same of `status`.
-pub(crate) fn is_status(words: &[String]) -> bool
-    ensures { result ≡ is_some (option_and_then status_with (options_in words.now)) }
-{
-    if !are_of(
-        words,
-        &["--workers", "--attest", "--listen", "--remotes", "--batch"],
-    ) {
-        return false;
-    }
-    if common_of(words).is_none() {
-        return false;
-    }
-    match value_of(words, "--batch") {
-        Some(id) => is_hex_text(128, id),
-        None => false,
-    }
-}
-
-/// The same of `publish`.
-pub(crate) fn is_publish(words: &[String]) -> bool
-    ensures { result ≡ is_some (option_and_then publish_with (options_in words.now)) }
-{
-    if !are_of(
-        words,
-        &[
-            "--workers",
-            "--attest",
-            "--listen",
-            "--remotes",
-            "--batches",
-        ],
-    ) {
-        return false;
-    }
-    if common_of(words).is_none() {
-        return false;
-    }
-    value_of(words, "--batches").is_some()
-}
-
-fn is_generate(words: &[String]) -> bool
-    ensures { result ≡ is_some (option_and_then generate_with (options_in words.now)) }
-{
-    if !are_of(words, &["--start", "--blocks", "--batches", "--conflicts"]) {
-        return false;
-    }
-    if required(0, u64::MAX, value_of(words, "--start")).is_none() {
-        return false;
-    }
-    if required(1, 1000, value_of(words, "--blocks")).is_none() {
-        return false;
-    }
-    if required(1, 5000, value_of(words, "--batches")).is_none() {
-        return false;
-    }
-    conflicts_in(value_of(words, "--conflicts")).is_some()
-}
-
-// ---- what their values ask for
-
-fn common_by(values: &Values<'_>) -> Option<u64>
-    ensures { result ≡ common_by (told_by values.now) }
-{
-    common_in(
-        values.of("--workers"),
-        values.of("--listen"),
-        values.of("--remotes"),
-    )
-}
-
-fn apply_by<'a>(values: &Values<'a>) -> Option<Job<'a>>
-    ensures { option_map wish_in result ≡ apply_by (told_by values.now) }
-{
-    let workers = common_by(values)?;
-    let task = Task {
-        lines: Lines::All,
-        ending: Ending::Head,
-    };
-    Some(Job {
+    let workers = common_by(given)?;
+    Some(Plan {
         workers,
-        task,
-        attest: values.of("--attest"),
-        batches: None,
+        attest: given.of("--attest"),
+        wanted: Wanted::Head,
     })
 }
 
-fn state_by<'a>(values: &Values<'a>) -> Option<Job<'a>>
-    ensures { option_map wish_in result ≡ state_by (told_by values.now) }
+fn state_by<'a, G: Given<'a>>(given: &G) -> Option<Plan<'a>>
+    ensures { option_map plan_wish result ≡ state_by (G.value given.now) }
 {
-    let workers = common_by(values)?;
-    let prefix = Prefix::parse(values.of("--prefix").unwrap_or(""))?;
-    let task = Task {
-        lines: Lines::Refused,
-        ending: Ending::Entries { prefix },
-    };
-    Some(Job {
+    let workers = common_by(given)?;
+    let prefix = Prefix::parse(given.of("--prefix").unwrap_or(""))?;
+    Some(Plan {
         workers,
-        task,
-        attest: values.of("--attest"),
-        batches: None,
+        attest: given.of("--attest"),
+        wanted: Wanted::Entries { prefix },
     })
 }
 
-fn receipts_by<'a>(values: &Values<'a>) -> Option<Job<'a>>
-    ensures { option_map wish_in result ≡ receipts_by (told_by values.now) }
+fn receipts_by<'a, G: Given<'a>>(given: &G) -> Option<Plan<'a>>
+    ensures { option_map plan_wish result ≡ receipts_by (G.value given.now) }
 {
-    let workers = common_by(values)?;
-    let task = Task {
-        lines: Lines::Refused,
-        ending: Ending::Receipts,
-    };
-    Some(Job {
+    let workers = common_by(given)?;
+    Some(Plan {
         workers,
-        task,
-        attest: values.of("--attest"),
-        batches: None,
+        attest: given.of("--attest"),
+        wanted: Wanted::Receipts,
     })
 }
 
-fn status_by<'a>(alloc: Global, values: &Values<'a>) -> Result<Option<Job<'a>>, AllocError>
-    ensures { IfOk result (λ job. option_map wish_in job ≡ status_by (told_by values.now)) }
+fn status_by<'a, G: Given<'a>>(given: &G) -> Option<Plan<'a>>
+    ensures { option_map plan_wish result ≡ status_by (G.value given.now) }
 {
-    let Some(workers) = common_by(values) else {
-        return Ok(None);
-    };
-    let Some(batch) = values.of("--batch") else {
-        return Ok(None);
-    };
-    if !is_hex_text(128, batch) {
-        return Ok(None);
+    let workers = common_by(given)?;
+    let id = given.of("--batch")?;
+    if !is_hex_text(128, id) {
+        return None;
     }
-    let id = Text::from_str(alloc, batch)?;
-    let task = Task {
-        lines: Lines::Refused,
-        ending: Ending::Batch { id },
-    };
-    Ok(Some(Job {
+    Some(Plan {
         workers,
-        task,
-        attest: values.of("--attest"),
-        batches: None,
-    }))
-}
-
-fn publish_by<'a>(values: &Values<'a>) -> Option<Job<'a>>
-    ensures { option_map wish_in result ≡ publish_by (told_by values.now) }
-{
-    let workers = common_by(values)?;
-    let batches = values.of("--batches")?;
-    let task = Task {
-        lines: Lines::Refused,
-        ending: Ending::Candidate,
-    };
-    Some(Job {
-        workers,
-        task,
-        attest: values.of("--attest"),
-        batches: Some(batches),
+        attest: given.of("--attest"),
+        wanted: Wanted::Batch { id },
     })
 }
 
-fn generate_by(values: &Values<'_>) -> Option<GenerateWish>
-    ensures wish { result ≡ generate_by (told_by values.now) }
+fn publish_by<'a, G: Given<'a>>(given: &G) -> Option<Plan<'a>>
+    ensures { option_map plan_wish result ≡ publish_by (G.value given.now) }
+{
+    let workers = common_by(given)?;
+    let list = given.of("--batches")?;
+    Some(Plan {
+        workers,
+        attest: given.of("--attest"),
+        wanted: Wanted::Candidate { list },
+    })
+}
+
+fn address_in(text: &str) -> Option<Address>
+    ensures { result ≡ hex_in 70 text.now }
+{
+    Address::parse(text)
+}
+
+fn prove_by<'a, G: Given<'a>>(given: &G) -> Option<Plan<'a>>
+    ensures { option_map plan_wish result ≡ prove_by (G.value given.now) }
+{
+    let workers = common_by(given)?;
+    let at = address_in(given.of("--address")?)?;
+    Some(Plan {
+        workers,
+        attest: given.of("--attest"),
+        wanted: Wanted::Proof { at },
+    })
+}
+
+fn hash_in(text: &str) -> Option<NodeHash>
+    ensures { result ≡ hex_in 64 text.now }
+{
+    if !is_hex_text(64, text) {
+        return None;
+    }
+    let digits = Prefix::parse(text)?;
+    let mut bytes = [0; 32];
+    bytes.copy_from_slice(digits.as_slice());
+    Some(NodeHash::new(bytes))
+}
+
+fn check_by<'a, G: Given<'a>>(given: &G) -> Option<Said<'a>>
+    ensures said { option_map asked_said result ≡ option_map Check (check_by (G.value given.now)) }
+    ensures sized { IfSome result IsSmall }
+{
+    let root = hash_in(given.of("--root")?)?;
+    let at = address_in(given.of("--address")?)?;
+    let proof = given.of("--proof")?;
+    Some(Said::Check {
+        claim: Claim { root, at },
+        proof,
+    })
+}
+
+fn generate_by<'a, G: Given<'a>>(given: &G) -> Option<GenerateWish>
+    ensures wish { result ≡ generate_by (G.value given.now) }
     ensures sized { IfSome result (λ wish. (wish.blocks ≤ 1000) × (wish.batches ≤ 5000)) }
 {
-    let start = required(0, u64::MAX, values.of("--start"))?;
-    let blocks = required(1, 1000, values.of("--blocks"))?;
-    let batches = required(1, 5000, values.of("--batches"))?;
-    let conflicts = conflicts_in(values.of("--conflicts"))?;
+    let start = required(0, u64::MAX, given.of("--start"))?;
+    let blocks = required(1, 1000, given.of("--blocks"))?;
+    let batches = required(1, 5000, given.of("--batches"))?;
+    let conflicts = conflicts_in(given.of("--conflicts"))?;
     Some(GenerateWish {
         start,
         blocks: blocks as u32,
@@ -332,125 +173,27 @@ fn generate_by(values: &Values<'_>) -> Option<GenerateWish>
     })
 }
 
-// ---- what options ask for
-
-/// What the options of `apply` ask for. `None`: they are invalid; before that is known no memory is asked for.
-pub(crate) fn apply_with<'a>(
-    alloc: Global,
-    words: &'a [String],
-) -> Result<Option<Job<'a>>, AllocError>
-    ensures ok { IfOk result (λ job. option_map wish_in job ≡ option_and_then apply_with (options_in words.now)) }
-    ensures memory { OnErr result (IsSome (option_and_then apply_with (options_in words.now))) }
+// A command on blocks.
+fn job(plan: Option<Plan<'_>>) -> Option<Said<'_>>
+    ensures { result ≡ option_map Judge plan.entry }
 {
-    if !is_plain(words) {
-        return Ok(None);
-    }
-    let values = read_options(
-        alloc,
-        &["--workers", "--attest", "--listen", "--remotes"],
-        words,
-    )?;
-    Ok(apply_by(&values))
+    Some(Said::Judge(plan?))
 }
 
-/// The same of `state`.
-pub(crate) fn state_with<'a>(
-    alloc: Global,
-    words: &'a [String],
-) -> Result<Option<Job<'a>>, AllocError>
-    ensures ok { IfOk result (λ job. option_map wish_in job ≡ option_and_then state_with (options_in words.now)) }
-    ensures memory { OnErr result (IsSome (option_and_then state_with (options_in words.now))) }
+/// What the options of a command say. `None`: they are invalid, or it is no command of a run.
+pub(crate) fn said_by<'a, G: Given<'a>>(kind: Kind, given: &G) -> Option<Said<'a>>
+    ensures said { option_map asked_said result ≡ asked_by kind (G.value given.now) }
+    ensures sized { IfSome result IsSmall }
 {
-    if !is_state(words) {
-        return Ok(None);
+    match kind {
+        Kind::Apply => job(apply_by(given)),
+        Kind::State => job(state_by(given)),
+        Kind::Receipts => job(receipts_by(given)),
+        Kind::Status => job(status_by(given)),
+        Kind::Publish => job(publish_by(given)),
+        Kind::Prove => job(prove_by(given)),
+        Kind::Check => check_by(given),
+        Kind::Generate => Some(Said::Generate(generate_by(given)?)),
+        Kind::Tp => None,
     }
-    let values = read_options(
-        alloc,
-        &["--workers", "--attest", "--listen", "--remotes", "--prefix"],
-        words,
-    )?;
-    Ok(state_by(&values))
-}
-
-/// The same of `receipts`.
-pub(crate) fn receipts_with<'a>(
-    alloc: Global,
-    words: &'a [String],
-) -> Result<Option<Job<'a>>, AllocError>
-    ensures ok { IfOk result (λ job. option_map wish_in job ≡ option_and_then receipts_with (options_in words.now)) }
-    ensures memory { OnErr result (IsSome (option_and_then receipts_with (options_in words.now))) }
-{
-    if !is_plain(words) {
-        return Ok(None);
-    }
-    let values = read_options(
-        alloc,
-        &["--workers", "--attest", "--listen", "--remotes"],
-        words,
-    )?;
-    Ok(receipts_by(&values))
-}
-
-/// The same of `status`.
-pub(crate) fn status_with<'a>(
-    alloc: Global,
-    words: &'a [String],
-) -> Result<Option<Job<'a>>, AllocError>
-    ensures ok { IfOk result (λ job. option_map wish_in job ≡ option_and_then status_with (options_in words.now)) }
-    ensures memory { OnErr result (IsSome (option_and_then status_with (options_in words.now))) }
-{
-    if !is_status(words) {
-        return Ok(None);
-    }
-    let values = read_options(
-        alloc,
-        &["--workers", "--attest", "--listen", "--remotes", "--batch"],
-        words,
-    )?;
-    status_by(alloc, &values)
-}
-
-/// The same of `publish`.
-pub(crate) fn publish_with<'a>(
-    alloc: Global,
-    words: &'a [String],
-) -> Result<Option<Job<'a>>, AllocError>
-    ensures ok { IfOk result (λ job. option_map wish_in job ≡ option_and_then publish_with (options_in words.now)) }
-    ensures memory { OnErr result (IsSome (option_and_then publish_with (options_in words.now))) }
-{
-    if !is_publish(words) {
-        return Ok(None);
-    }
-    let values = read_options(
-        alloc,
-        &[
-            "--workers",
-            "--attest",
-            "--listen",
-            "--remotes",
-            "--batches",
-        ],
-        words,
-    )?;
-    Ok(publish_by(&values))
-}
-
-/// The stream that the options of `generate` ask for.
-pub(crate) fn generate_with(
-    alloc: Global,
-    words: &[String],
-) -> Result<Option<GenerateWish>, AllocError>
-    ensures ok { IfOk result (λ wish. wish ≡ option_and_then generate_with (options_in words.now)) }
-    ensures sized { IfOk result (λ wish. IfSome wish (λ wish. (wish.blocks ≤ 1000) × (wish.batches ≤ 5000))) }
-    ensures memory { OnErr result (IsSome (option_and_then generate_with (options_in words.now))) }
-{
-    if !is_generate(words) {
-        return Ok(None);
-    }
-    let values = read_options(
-        alloc,
-        &["--start", "--blocks", "--batches", "--conflicts"],
-        words,
-    )?;
-    Ok(generate_by(&values))
 }

@@ -4,7 +4,8 @@ ghost use Rattle.std.specs.Prelude.{Ok, Err, MatchResult, IfSome, option_map};
 ghost use Rattle.saw_publish.specs.Candidates.{Signing};
 ghost use Rattle.saw_top.specs.Answers.{batches_of, ready_with};
 ghost use Rattle.saw_top.specs.Outside.{shelf_end};
-ghost use Rattle.saw_top.specs.Vouching.{FetchesBy, HoldsKnown, NamedBy, Prepares, ReadsBy, known_in, vouches};
+ghost use Rattle.saw_top.specs.Fetching.{FetchesBy, ReadsBy};
+ghost use Rattle.saw_top.specs.Vouching.{HoldsKnown, NamedBy, Prepares, known_in, vouches};
 
 use crate::vouching::Vouching;
 use saw_io::Shelf;

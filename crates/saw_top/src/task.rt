@@ -1,6 +1,6 @@
 //! What is done with the blocks of a stream.
 
-use saw_address::Prefix;
+use saw_address::{Address, Prefix};
 use saw_wire::Text;
 
 /// Which blocks have a line: all on the output, or the refused ones on the notes.
@@ -21,6 +21,8 @@ pub(crate) enum Ending {
     Receipts,
     /// Which block of the head's branch holds the batch of this id.
     Batch { id: Text },
+    /// The proof of what the head's state has at an address.
+    Proof { at: Address },
     /// A new block of waiting batches; those that it leaves out on the notes.
     Candidate,
 }

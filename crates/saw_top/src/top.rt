@@ -13,6 +13,7 @@ ghost use Rattle.saw_top.specs.Wishes.{wish_in};
 ghost use Rattle.saw_top.specs.World.{processors_alone, processors_beside, processors_with, world_with};
 
 use crate::Status;
+use crate::claim::check_claim;
 use crate::command::{Command, Job, read_command};
 use crate::notes::tell;
 use crate::prepare::prepare;
@@ -280,6 +281,7 @@ fn carry_out<
             rt, alloc, job, input, output, notes, shelf, verifier, signer, remotes,
         ),
         Some(Command::Generate(wish)) => write_stream(rt, alloc, &wish, output, signer),
+        Some(Command::Check { claim, proof }) => check_claim(alloc, &claim, proof, output, shelf),
     }
 }
 
@@ -293,14 +295,16 @@ fn carry_out<
 /// 64; 4 where none is given), which shows in no answer, and `--attest NAME`; `state` takes `--prefix P`. The attestation
 /// list is fetched before the batch list, and a file that both name once. `generate --start N --blocks N --batches N` and
 /// `--conflicts N` (0 to 100; 10 where none is given) reads and fetches nothing, and writes a new stream of blocks, all of
-/// whose batches apply.
+/// whose batches apply. `prove --address A` writes the proof of what the head's state has at an address, a line for each node,
+/// and `check --root R --address A --proof NAME` reads no stream and tells what the proof in that file shows of a state of
+/// which only the root is known.
 ///
 /// The status is 0 where all was done, and of `apply` and `publish` 1 where a block was refused, of `publish` also where no
-/// batch is applied; 2 for invalid arguments; 3 for a stream that is none; 4 where reading failed, 5 where writing failed, 7
-/// where memory was refused; 8 where there is nothing to list, or no block that holds the batch; 9 where two different nodes
-/// of one hash were met; 10 where no more blocks can be accepted; 11 for a list that is missing, too long, not read or bad.
+/// batch is applied, and of `check` where the proof is rejected; 2 for invalid arguments; 3 for a stream that is none; 4 where reading failed, 5 where writing failed, 7
+/// where memory was refused; 8 where there is nothing to list, no block that holds the batch, or no head; 9 where two different nodes
+/// of one hash were met; 10 where no more blocks can be accepted; 11 for a file that is missing, too long, not read or bad.
 ///
-/// Each external processor in `remotes` begins before any file is fetched, but for `generate` and for invalid arguments. As
+/// Each external processor in `remotes` begins before any file is fetched, but for `generate`, `check` and invalid arguments. As
 /// many of them as there are workers are used, or all, each at a desk of its own, and behind the run all are in their places
 /// again. What they all offer is theirs, but for the built-in families and the identity family, which are served here. The
 /// status is 6 where one of them failed.
@@ -333,8 +337,8 @@ pub fn run<
     // notes and status are the answer, where input and output tell their bytes and verifier and signer are functions, as
     // their traits say. It is the answer of batches that are run one after another where each transaction goes to a
     // processor that tells its actions, and else that of some ways to run them, of which each may come of their
-    // processors. It rests on nothing more. Files that are not told are some files. A new stream is the answer whatever
-    // the input tells.
+    // processors. It rests on nothing more. Files that are not told are some files. A new stream, and what a proof
+    // shows, is the answer whatever the input tells.
     ensures answered { let signing : Signing = record { key = G.key_text signer.now; signature = G.signature signer.now } in
         let world = outside S.Source O.Sink N.Sink F.Shelf R.faults in
         let processors = processors_with R.next R.tells (map R.offered remotes.new.items) in
@@ -348,7 +352,7 @@ pub fn run<
         HasEnded (world_with (V.accepts verifier.now) signing processors) (map string_bytes words.now)
         (world input.old output.old notes.old shelf.old remotes.old.items)
         (world input.new output.new notes.new shelf.new remotes.new.items) result }
-    // Invalid arguments and a new stream ask nothing of external processors.
+    // Invalid arguments, a new stream and a claim ask nothing of external processors.
     ensures unasked { asks_external (asked_of (map string_bytes words.now)) ≡ false
         → remotes.new.items ≡ remotes.old.items }
     // Else all of them have begun, in order and before a file is fetched or a byte is read or written, unless the status is 6

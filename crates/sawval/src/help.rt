@@ -2,6 +2,7 @@
 
 use clap::error::ErrorKind;
 use clap::{Arg, ArgAction, Command, Error};
+use saw_top::KINDS;
 use std::alloc::{AllocError, Global};
 use std::process::ExitCode;
 
@@ -13,40 +14,8 @@ const WRITE: u8 = 5;
 
 const MEMORY: u8 = 7;
 
-/// Each command, and what it does.
-const COMMANDS: [(&str, &str); 7] = [
-    (
-        "apply",
-        "Judge each block of the stream, and write a line for each [COMMON]",
-    ),
-    (
-        "state",
-        "List the entries of the head's state [--prefix, COMMON]",
-    ),
-    (
-        "receipts",
-        "List the receipts of the head's branch [COMMON]",
-    ),
-    (
-        "status",
-        "Tell which block of the head's branch holds a batch [--batch, COMMON]",
-    ),
-    (
-        "publish",
-        "Make the next block of a list of batches [--batches, COMMON]",
-    ),
-    (
-        "generate",
-        "Make a stream of blocks to try [--start, --blocks, --batches, --conflicts]",
-    ),
-    (
-        "tp",
-        "Serve transactions of the built-in families to a program that listens [--connect]",
-    ),
-];
-
 /// Each option, the name of its value, and what it says.
-const OPTIONS: [(&str, &str, &str); 11] = [
+const OPTIONS: [(&str, &str, &str); 14] = [
     (
         "workers",
         "N",
@@ -66,6 +35,9 @@ const OPTIONS: [(&str, &str, &str); 11] = [
     ("connect", "PORT", "The port of 127.0.0.1 that listens"),
     ("prefix", "P", "Only entries whose address begins with this"),
     ("batch", "ID", "A batch, by its header signature"),
+    ("address", "A", "An address of the state: 70 hex digits"),
+    ("root", "R", "The root of a state: 64 hex digits"),
+    ("proof", "NAME", "A file with a proof, as `prove` writes it"),
     (
         "batches",
         "NAME",
@@ -90,8 +62,9 @@ pub(crate) fn asks_about(words: &[String]) -> bool {
 
 fn with_commands<'a>(alloc: Global, command: Command<'a>) -> Result<Command<'a>, AllocError> {
     let mut command = command;
-    for (name, text) in COMMANDS {
-        command = command.subcommand(Command::new(alloc, name).about(text))?;
+    for kind in KINDS {
+        let row = kind.row();
+        command = command.subcommand(Command::new(alloc, row.name).about(row.about))?;
     }
     Ok(command)
 }

@@ -3,7 +3,7 @@ use Rattle.saw_top.proofs.Prefixes.{decoded, text_or}
 use Rattle.saw_top.proofs.options.state_by.Goals as goal
 
 pub returns : goal.returns
-returns c =
+returns g c =
     let fine = c.in_ok-prefix.ensures.valid.0 refl in
     let bytes = decoded c.in_ok-prefix.prefix c.unwrap_or.result.now c.in_ok-prefix.ensures.value fine in
     rw (

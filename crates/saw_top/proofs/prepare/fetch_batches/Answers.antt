@@ -1,9 +1,11 @@
-use Rattle.std.proofs.Common.{ap, subst, ℕ, List, Err}
+use Rattle.std.proofs.Common.{ap, subst, ℕ, List, Err, refl}
 use Rattle.std.proofs.lemmas.Result.{err_from_is_err_and}
 use Rattle.saw_top.specs.Answers.{batches_of}
 use Rattle.saw_top.specs.Outside.{shelf_end}
-use Rattle.saw_top.specs.Vouching.{ReadsBy}
-use Rattle.saw_top.proofs.Prepares.{batches_read, no_batches}
+use Rattle.saw_top.specs.Fetching.{ReadsBy}
+use Rattle.saw_top.specs.Limits.{max_batches}
+use Rattle.saw_top.proofs.Fetched.{file_read, no_file}
+use Rattle.saw_top.proofs.Prepares.{long_batches}
 use Rattle.saw_top.proofs.prepare.fetch_batches.Goals as goal
 
 pub returns-in_err-bytes : goal.returns-in_err-bytes
@@ -11,15 +13,15 @@ returns-in_err-bytes g c =
     let p = err_from_is_err_and c.from_residual.result c.from_residual.ensures.1 in
     let e = c.in_err-bytes.ensures in
     record {
-      fetches = rw (p.1, p.2) (no_batches c.args.name.now (shelf_end g.F.Shelf c.args.shelf.now) (shelf_end g.F.Shelf c.fetch.new.self)
-          c.in_err-bytes.field-0.0 e.told (λ is. e.cause (ap Err is)));
+      fetches = rw (p.1, p.2) (no_file batches_of max_batches c.args.name.now (shelf_end g.F.Shelf c.args.shelf.now) (shelf_end g.F.Shelf c.fetch.new.self)
+          refl long_batches c.in_err-bytes.field-0.0 e.told (λ is. e.cause (ap Err is)));
     }
 
 pub returns : goal.returns
 returns g c =
     let e = c.in_ok-bytes.ensures in
     record {
-      fetches = batches_read c.args.name.now (shelf_end g.F.Shelf c.args.shelf.now) (shelf_end g.F.Shelf c.fetch.new.self)
+      fetches = file_read batches_of max_batches c.args.name.now (shelf_end g.F.Shelf c.args.shelf.now) (shelf_end g.F.Shelf c.fetch.new.self)
           c.in_ok-bytes.bytes e.told e.within c.read_batches.result
           (subst (λ (l : List ℕ). ReadsBy batches_of l c.read_batches.result) c.deref.ensures.value c.read_batches.ensures.reads);
     }

@@ -4,7 +4,7 @@ use Rattle.saw_top.specs.Headline.{asks_external}
 use Rattle.saw_top.specs.Outside.{outside}
 use Rattle.saw_top.specs.World.{processors_with, world_with}
 use Rattle.saw_top.proofs.Beginning.{none_asked}
-use Rattle.saw_top.proofs.Carrying.{generated, judged, signs, unasked, unread}
+use Rattle.saw_top.proofs.Carrying.{claimed, generated, judged, signs, unasked, unread}
 use Rattle.saw_top.proofs.Served.{own_with}
 use Rattle.saw_top.proofs.top.carry_out.Goals as goal
 
@@ -58,6 +58,15 @@ returns-in-Some-Generate g c =
           (outside g.S.Source g.O.Sink g.N.Sink g.F.Shelf g.R.Station.faults c.args.input.now c.write_stream.new.output c.args.notes.now c.args.shelf.now
           c.args.remotes.now.items) _ asked refl
           (λ files. c.write_stream.ensures.writes);
+      unasked = λ is. refl;
+      begun = λ asks. absurd (let never : false ≡ true = ap asks_external asked ∙ asks in cc never);
+    }
+
+pub returns-in-Some-Check : goal.returns-in-Some-Check
+returns-in-Some-Check g c =
+    let asked = rw (c.in-Some-Check.is, c.in-Some-Check.field-0-is) at c.in_ok-command.ensures.ok in
+    record {
+      carries = claimed _ _ _ _ _ _ asked (record { still = refl; checks = c.check_claim.ensures.checks });
       unasked = λ is. refl;
       begun = λ asks. absurd (let never : false ≡ true = ap asks_external asked ∙ asks in cc never);
     }

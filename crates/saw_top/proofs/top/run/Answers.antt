@@ -17,7 +17,7 @@ pub returns-in-Ok-clause-answered : goal.returns-in-Ok-clause-answered
 returns-in-Ok-clause-answered g c =
     let laws = g.met.R.Station g.world.𝓛 g.world.𝓜 g.world.𝓡 ((λ s x. x), (λ x. x), (λ x. x), λ x. x) in
     answered _
-    (λ files. own_with g.R.Station.next laws.own_reasons g.R.Station.tells (map g.R.Station.offered c.carry_out.new.remotes.items)) _ _ _ _
+    (λ files. own_with g.R.Station.next laws.own_reasons g.R.Station.tells (map g.R.Station.offered c.carry_out.new.remotes.items)) (λ files. refl) _ _ _ _
     (returns-in-Ok-clause-ended g c)
 
 pub returns-in-Err-clause-ended : goal.returns-in-Err-clause-ended
@@ -32,7 +32,7 @@ pub returns-in-Err-clause-answered : goal.returns-in-Err-clause-answered
 returns-in-Err-clause-answered g c =
     let laws = g.met.R.Station g.world.𝓛 g.world.𝓜 g.world.𝓡 ((λ s x. x), (λ x. x), (λ x. x), λ x. x) in
     answered _
-    (λ files. own_with g.R.Station.next laws.own_reasons g.R.Station.tells (map g.R.Station.offered c.carry_out.new.remotes.items)) _ _ _ _
+    (λ files. own_with g.R.Station.next laws.own_reasons g.R.Station.tells (map g.R.Station.offered c.carry_out.new.remotes.items)) (λ files. refl) _ _ _ _
     (returns-in-Err-clause-ended g c)
 
 pub returns-in-Ok-clause-begun : goal.returns-in-Ok-clause-begun
