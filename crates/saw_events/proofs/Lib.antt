@@ -1,0 +1,4 @@
+mod Filters
+mod Untold
+mod Deltas
+mod News

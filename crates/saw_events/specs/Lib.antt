@@ -1,0 +1,4 @@
+pub mod Messages
+pub mod Events
+pub mod Telling
+pub mod Replays
