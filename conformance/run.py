@@ -82,7 +82,7 @@ class Case:
         return next((why for file, why in LEFT_OUT.items() if is_there(self.folder, file)), None)
 
     def names_workers(self):
-        return any(word == "generate" or word.startswith("--workers") for word in self.words)
+        return any(word in ("generate", "check") or word.startswith("--workers") for word in self.words)
 
     def files(self):
         """The files that the words name, by their names."""
