@@ -20,7 +20,7 @@ import sys
 import tempfile
 from concurrent.futures import ThreadPoolExecutor
 
-from counters import half, head, node
+from counters import half, head, node, text
 
 HERE = os.path.dirname(os.path.abspath(__file__))
 CHECKER = os.path.join(HERE, "..", "demo", "check_proof.py")
@@ -68,9 +68,14 @@ def put(data, at, new, old=0):
     return data[:at] + new + data[at + old :]
 
 
+def first_child(data):
+    """Where a node's encoding has its first child, or would have it."""
+    return 3 + (2 if data[3] == 0xB8 else 3 if data[3] == 0xB9 else 1)
+
+
 def child_at(draw, data):
     """The place of a child in a node's encoding; where it has none, that of the first."""
-    first = 3 + (2 if data[3] == 0xB8 else 3 if data[3] == 0xB9 else 1)
+    first = first_child(data)
     count = (len(data) - first) // 69
     return first + 69 * draw.randrange(max(count, 1))
 
@@ -83,6 +88,12 @@ def with_bit(draw, data):
 def with_capitals(draw, data):
     at = child_at(draw, data)
     return put(data, at, data[at : at + 69].upper(), 69)
+
+
+def with_child(draw, data):
+    """One more child, in front of the others."""
+    byte, name = draw.randbytes(1).hex(), draw.randbytes(32).hex()
+    return put(with_count(data, 1), first_child(data), text(byte) + text(name))
 
 
 def with_child_twice(draw, data):
@@ -135,10 +146,13 @@ def other_bytes(draw, data):
 IN_NODES = [
     with_bit,
     with_capitals,
+    with_child,
+    with_child,
     with_child_twice,
     with_children_swapped,
     without_child,
     with_long_head,
+    with_value,
     with_value,
     with_rest,
     cut,

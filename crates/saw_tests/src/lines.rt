@@ -1,9 +1,14 @@
-//! The lines of each fault of a run, and of what a policy refuses.
+//! The lines of each fault of a run, of what a policy refuses, and of proofs.
 
 use saw_checks::PolicyFault;
 use saw_node::Node;
+use saw_proofs::{Found, ProofFault};
 use saw_receipts::{Loss, LossCause};
-use saw_report::{RunFault, candidate_line, fault_line, loss_line, short_fault_line};
+use saw_report::{
+    RunFault, candidate_line, fault_line, found_line, loss_line, node_line, rejected_line,
+    short_fault_line,
+};
+use saw_wire::Bytes;
 use std::alloc::Global;
 use std::test::Fail;
 
@@ -104,6 +109,48 @@ fn what_a_policy_refuses_has_its_line(rt: HostRuntime) -> Result<(), Fail> {
             refused.as_bytes()
         );
         assert_eq!(rt; loss_line(alloc, &loss)?.as_slice(), dropped.as_bytes());
+    }
+    Ok(())
+}
+
+#[test]
+fn a_node_of_a_proof_has_its_line(rt: HostRuntime) -> Result<(), Fail> {
+    let alloc = rt.alloc();
+    let node = Bytes::from_slice(alloc, b"\xa2\x61c\xa0\x61v\xf6")?;
+    let line = "a26163a06176f6\n";
+    assert!(rt; node_line(alloc, &node)?.as_slice() == line.as_bytes());
+    Ok(())
+}
+
+#[test]
+fn what_a_proof_shows_has_its_line(rt: HostRuntime) -> Result<(), Fail> {
+    let alloc = rt.alloc();
+    let cases = [
+        (
+            Found::Present(Bytes::from_slice(alloc, b"\xa1\x61a\x05")?),
+            "PRESENT a1616105\n",
+        ),
+        (Found::Present(Bytes::new(alloc)), "PRESENT \n"),
+        (Found::Absent, "ABSENT\n"),
+    ];
+    for (found, line) in &cases {
+        assert!(rt; found_line(alloc, found)?.as_slice() == line.as_bytes());
+    }
+    Ok(())
+}
+
+#[test]
+fn each_fault_of_a_proof_has_its_line(rt: HostRuntime) -> Result<(), Fail> {
+    let lines = [
+        (ProofFault::Empty, "REJECTED 1\n"),
+        (ProofFault::Hash { index: 0 }, "REJECTED 2 0\n"),
+        (ProofFault::Form { index: 9 }, "REJECTED 3 9\n"),
+        (ProofFault::Shape { index: 35 }, "REJECTED 4 35\n"),
+        (ProofFault::Long { index: 34 }, "REJECTED 5 34\n"),
+        (ProofFault::Short, "REJECTED 6\n"),
+    ];
+    for (fault, line) in &lines {
+        assert!(rt; rejected_line(rt.alloc(), fault)?.as_slice() == line.as_bytes());
     }
     Ok(())
 }
