@@ -51,9 +51,14 @@ fn is_applied<T: Threads + Wait + Sync>(
 /// Numbers of workers by which each case that names none is run too.
 const WORKERS: [&str; 3] = ["1", "3", "64"];
 
+/// Whether it is a command without workers, or names them already.
+fn names_none(word: &str) -> bool {
+    word == "generate" || word == "check" || word.starts_with("--workers")
+}
+
 /// Whether a number of workers may be named behind these words.
 fn may_name_workers(words: &[String]) -> bool {
-    !words.iter().any(|word| word.as_str() == "generate" || word.as_str().starts_with("--workers"))
+    !words.iter().any(|word| names_none(word.as_str()))
 }
 
 /// Whether a case has its stored output, notes and status by this number of workers.

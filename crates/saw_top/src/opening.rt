@@ -61,7 +61,7 @@ fn opened_by<'a, G: Given<'a>>(kind: Kind, given: &G) -> Wish
 fn opened_with(kind: Kind, options: &[String]) -> Wish
     ensures { result ≡ opened_with kind (options_in options.now) }
 {
-    match form_of(options, kind.row().options) {
+    match form_of(options, kind.options()) {
         Some(form) => opened_by(kind, &form),
         None => Wish::Plain,
     }

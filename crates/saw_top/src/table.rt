@@ -17,16 +17,6 @@ pub enum Kind {
     Tp,
 }
 
-/// What is said of a command.
-#[derive(Clone, Copy)]
-pub struct Row {
-    pub name: &'static str,
-    /// The options that it takes, each at most once and in any order.
-    pub options: &'static [&'static str],
-    /// What it does.
-    pub about: &'static str,
-}
-
 /// The commands, in the order in which they are told.
 pub const KINDS: [Kind; 9] = [
     Kind::Apply,
@@ -41,69 +31,67 @@ pub const KINDS: [Kind; 9] = [
 ];
 
 impl Kind {
-    /// Its row of the table.
-    pub fn row(self) -> Row
-        ensures name { result.name.now ≡ name_of self }
-        ensures options { map (λ name. name.now) result.options.now ≡ options_of self }
+    /// Its name.
+    pub fn name(self) -> &'static str
+        ensures { result.now ≡ name_of self }
     {
         match self {
-            Kind::Apply => Row {
-                name: "apply",
-                options: &["--workers", "--attest", "--listen", "--remotes"],
-                about: "Judge each block of the stream, and write a line for each [COMMON]",
-            },
-            Kind::State => Row {
-                name: "state",
-                options: &["--workers", "--attest", "--listen", "--remotes", "--prefix"],
-                about: "List the entries of the head's state [--prefix, COMMON]",
-            },
-            Kind::Receipts => Row {
-                name: "receipts",
-                options: &["--workers", "--attest", "--listen", "--remotes"],
-                about: "List the receipts of the head's branch [COMMON]",
-            },
-            Kind::Status => Row {
-                name: "status",
-                options: &["--workers", "--attest", "--listen", "--remotes", "--batch"],
-                about: "Tell which block of the head's branch holds a batch [--batch, COMMON]",
-            },
-            Kind::Publish => Row {
-                name: "publish",
-                options: &[
-                    "--workers",
-                    "--attest",
-                    "--listen",
-                    "--remotes",
-                    "--batches",
-                ],
-                about: "Make the next block of a list of batches [--batches, COMMON]",
-            },
-            Kind::Prove => Row {
-                name: "prove",
-                options: &[
-                    "--workers",
-                    "--attest",
-                    "--listen",
-                    "--remotes",
-                    "--address",
-                ],
-                about: "Prove what the head's state has at an address [--address, COMMON]",
-            },
-            Kind::Check => Row {
-                name: "check",
-                options: &["--root", "--address", "--proof"],
-                about: "Check a proof against a root, without a stream [--root, --address, --proof]",
-            },
-            Kind::Generate => Row {
-                name: "generate",
-                options: &["--start", "--blocks", "--batches", "--conflicts"],
-                about: "Make a stream of blocks to try [--start, --blocks, --batches, --conflicts]",
-            },
-            Kind::Tp => Row {
-                name: "tp",
-                options: &["--connect"],
-                about: "Serve transactions of the built-in families to a program that listens [--connect]",
-            },
+            Kind::Apply => "apply",
+            Kind::State => "state",
+            Kind::Receipts => "receipts",
+            Kind::Status => "status",
+            Kind::Publish => "publish",
+            Kind::Prove => "prove",
+            Kind::Check => "check",
+            Kind::Generate => "generate",
+            Kind::Tp => "tp",
+        }
+    }
+
+    /// The options that it takes, each at most once and in any order.
+    pub fn options(self) -> &'static [&'static str]
+        ensures { map (λ name. name.now) result.now ≡ options_of self }
+    {
+        match self {
+            Kind::Apply => &["--workers", "--attest", "--listen", "--remotes"],
+            Kind::State => &["--workers", "--attest", "--listen", "--remotes", "--prefix"],
+            Kind::Receipts => &["--workers", "--attest", "--listen", "--remotes"],
+            Kind::Status => &["--workers", "--attest", "--listen", "--remotes", "--batch"],
+            Kind::Publish => &[
+                "--workers",
+                "--attest",
+                "--listen",
+                "--remotes",
+                "--batches",
+            ],
+            Kind::Prove => &[
+                "--workers",
+                "--attest",
+                "--listen",
+                "--remotes",
+                "--address",
+            ],
+            Kind::Check => &["--root", "--address", "--proof"],
+            Kind::Generate => &["--start", "--blocks", "--batches", "--conflicts"],
+            Kind::Tp => &["--connect"],
+        }
+    }
+
+    /// What it does, and its options, of which COMMON stands for those of each command on blocks.
+    pub fn about(self) -> &'static str {
+        match self {
+            Kind::Apply => "Judge each block of the stream, and write a line for each [COMMON]",
+            Kind::State => "List the entries of the head's state [--prefix, COMMON]",
+            Kind::Receipts => "List the receipts of the head's branch [COMMON]",
+            Kind::Status => "Tell which block of the head's branch holds a batch [--batch, COMMON]",
+            Kind::Publish => "Make the next block of a list of batches [--batches, COMMON]",
+            Kind::Prove => "Prove what the head's state has at an address [--address, COMMON]",
+            Kind::Check =>
+                "Check a proof against a root, without a stream [--root, --address, --proof]",
+            Kind::Generate =>
+                "Make a stream of blocks to try [--start, --blocks, --batches, --conflicts]",
+            Kind::Tp =>
+                "Serve transactions of the built-in families to a program that listens [--connect]",
         }
     }
 }
@@ -112,5 +100,5 @@ impl Kind {
 pub(crate) fn kind_of(word: &str) -> Option<Kind>
     ensures { result ≡ kind_of word.now }
 {
-    KINDS.iter().copied().find(|kind| kind.row().name == word)
+    KINDS.iter().copied().find(|kind| kind.name() == word)
 }

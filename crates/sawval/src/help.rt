@@ -63,8 +63,7 @@ pub(crate) fn asks_about(words: &[String]) -> bool {
 fn with_commands<'a>(alloc: Global, command: Command<'a>) -> Result<Command<'a>, AllocError> {
     let mut command = command;
     for kind in KINDS {
-        let row = kind.row();
-        command = command.subcommand(Command::new(alloc, row.name).about(row.about))?;
+        command = command.subcommand(Command::new(alloc, kind.name()).about(kind.about()))?;
     }
     Ok(command)
 }

@@ -10,5 +10,5 @@ use Rattle.saw_top.proofs.opening.opened_with.Goals as goal
 pub returns-in-None : goal.returns-in-None
 returns-in-None c =
     let words = options_in c.args.options.now in
-    let not = subst (λ (names : List (List ℕ)). are_options names words ≡ false) c.row.ensures.options c.in-None.ensures in
+    let not = subst (λ (names : List (List ℕ)). are_options names words ≡ false) c.options.ensures c.in-None.ensures in
     sym (ap (λ (o : Option Wish). unwrap_or o Plain) (refused (options_of c.args.kind) (λ value. Some (opened_by c.args.kind value)) words not))
