@@ -481,19 +481,23 @@ def type_closure(types, srcs, books):
 # What only some commands need: where these definitions are not followed, the rest is what `apply` needs.
 OTHERS = {
     "generate": ["saw_generate/Streams:stream", "saw_top/Headline:Generates", "saw_top/Headline:WritesBy",
-                 "saw_top/Command:generate_with"],
+                 "saw_top/Command:generate_by"],
     "publish": ["saw_top/Publishing:candidate_text", "saw_top/Publishing:candidate_status",
                 "saw_top/Publishing:losses_text", "saw_top/Publishing:parent_at", "saw_top/Publishing:publication_at",
-                "saw_top/Answers:batches_with", "saw_top/Command:publish_with", "saw_top/Headline:MeetsClashBehind"],
-    "state": ["saw_top/Listing:listing", "saw_top/Listing:listing_status", "saw_top/Command:state_with"],
-    "receipts": ["saw_top/Listing:receipts_text", "saw_top/Listing:receipts_status", "saw_top/Command:receipts_with"],
-    "status": ["saw_top/Listing:batch_text", "saw_top/Listing:batch_status", "saw_top/Command:status_with"],
+                "saw_top/Answers:batches_with", "saw_top/Command:publish_by", "saw_top/Headline:MeetsClashBehind"],
+    "state": ["saw_top/Listing:listing", "saw_top/Listing:listing_status", "saw_top/Command:state_by"],
+    "receipts": ["saw_top/Listing:receipts_text", "saw_top/Listing:receipts_status", "saw_top/Command:receipts_by"],
+    "status": ["saw_top/Listing:batch_text", "saw_top/Listing:batch_status", "saw_top/Command:status_by"],
+    "prove": ["saw_top/Listing:proof_text", "saw_top/Listing:proof_status", "saw_top/Command:prove_by"],
+    "check": ["saw_top/Answers:IsAnswerTo", "saw_top/Claims:nodes_of", "saw_top/Headline:ChecksClaim",
+              "saw_top/Command:check_by"],
     "--attest": ["saw_verify/Lists:attests", "saw_verify/Lists:first_bad_line"],
 }
 FAMILIES = {
     "IntegerKey": ["saw_intkey/Actions:next"],
     "XO": ["saw_xo/Actions:next"],
     "Settings": ["saw_settings/Actions:next"],
+    "Identity": ["saw_identity/Actions:next"],
 }
 LAWS = [("BranchLaws", "MapBehindIsBranch"), ("BuiltInLaws", "BuiltInTell"), ("TellingLaws", "AllIsTold"),
         ("CandidateLaws", "CandidateIsAccepted"), ("GeneratedLaws", "GeneratedStreamIsCommitted"), ("Laws", "FramesAreRead"),
@@ -532,6 +536,9 @@ def table(srcs, books, names):
     start, types = called("run", srcs, books)
     cut = {f: set(ds) for f, ds in {**OTHERS, **FAMILIES}.items()}
     every = set().union(*cut.values())
+    known = {i.file.key + ":" + i.name for spec in books.values() for i in spec.all}
+    for name in sorted(every - known):
+        print(f"no such definition: {name}", file=sys.stderr)
     others = set().union(*(cut[f] for f in OTHERS))
     reached, declared = reach(start, types, srcs, books)
     lines = counted(reached)
