@@ -60,10 +60,16 @@ pub(crate) fn asks_about(words: &[String]) -> bool {
     }
 }
 
+/// A text of the table, for as long as it is asked for.
+fn lent<'a>(text: &'static str) -> &'a str {
+    text
+}
+
 fn with_commands<'a>(alloc: Global, command: Command<'a>) -> Result<Command<'a>, AllocError> {
     let mut command = command;
     for kind in KINDS {
-        command = command.subcommand(Command::new(alloc, kind.name()).about(kind.about()))?;
+        let name = lent(kind.name());
+        command = command.subcommand(Command::new(alloc, name).about(lent(kind.about())))?;
     }
     Ok(command)
 }
