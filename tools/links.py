@@ -1,4 +1,4 @@
-"""Makes the cases of saw_cases with a processor elsewhere: what it sends, what is sent to it, and what the run says.
+"""Makes the cases of saw_cases with an external processor: what it sends, what is sent to it, and what the run says.
 
 Written apart from the validator, from the public formats alone, so its answers are expected values. A file `peer` of a case
 has the frames of the processor, each behind its length, and a file `sent` those that it is sent.
@@ -134,7 +134,14 @@ def quiet():
         "block 0 refused 14 BatchInvalid 0 0 2\nblock 1 refused 10 PreviousUnknown\nhead none\n", "", 1)
     put("peer-absent", one + two, None, None,
         "block 0 refused 14 BatchInvalid 0 0 2\nblock 1 refused 10 PreviousUnknown\nhead none\n", "", 1)
+    put("peer-ends-first", one + two, [offer("demo")], begun[:2], "", "fault 6 peer\n", 6)
     put("peer-does-not-register", one + two, [], [], "", "fault 6 peer\n", 6)
+    # A content that states 127 bytes and has one: of the message, and of a text in an answer.
+    registration = frame(number(1, REGISTER) + record(2, "r") + b"\x1a\x7fa")
+    put("peer-registration-states-more", one + two, [registration], [], "", "fault 6 peer\n", 6)
+    answer = message(PROCESS + 1, "2", number(1, OK) + b"\x12\x7fa")
+    put("peer-answer-states-more", one + two, [offer("demo"), response(1, OK), answer], begun,
+        f"block 0 committed {line}\n", "fault 6 peer\n", 6)
     put("peer-offers-two", one + two, [offer("other", more=True, correlation="a"), offer("demo", correlation="b"),
         response(1, OK), response(2, OK)], [welcome(correlation="a"), welcome(correlation="b")] + begun[1:], both + head(other))
     put("peer-changes-its-version", one + two, [offer("other", 2, True), offer("demo", 1)], [welcome(2)], "",

@@ -141,7 +141,7 @@ def arguments():
 
 
 def chosen():
-    """The cases that are run, those that are too large, and those with a name of no form."""
+    """The cases that are run, those that are too large, and those whose name is invalid."""
     folder = f"crates/{CASES}/data/cases"
     cases = sorted(os.listdir(folder))
     large = [case for case in cases if is_large(f"{folder}/{case}")]

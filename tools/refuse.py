@@ -12,8 +12,8 @@ so many side by side, but for cases with a processor, which take ports.
 
 The second form judges the stream of STREAM by 1 and by 4 workers under LIMITS limits of addresses each.
 
-A run ends well with its own answer (status, output and notes), or with status 7, a front of the output, and a front of
-the notes with nothing or a front of the line `fault 7 memory` behind it; a line that is cut has no other behind it. All
+A run ends well with its own answer (status, output and notes), or with status 7, a prefix of the output, and a prefix of
+the notes with nothing or a prefix of the line `fault 7 memory` behind it; a line that is cut has no other behind it. All
 else is told with its case and n on standard error, where the numbers of the other endings that are no 7 with its line
 stand too, and ends this tool with status 1. The table is in the form of docs/TESTING.md.
 """
@@ -34,18 +34,30 @@ from run import Case, Said, differences, place  # noqa: E402
 
 CASES = (
     "words-taken-00",
+    "genesis-empty",
     "failed-child-then-good",
+    "head-lower-first",
+    "head-lower-second",
     "fork-switch",
     "stream-truncated-after-block",
     "state-notes-refused-block",
     "fork-switch-receipts",
+    "operator-first-block",
+    "operator-receipts",
     "operator-status",
     "operator-publish",
+    "publish-three-batches-workers-1",
     "publish-beside-refused-block",
     "dependency-on-later-second",
     "publish-dependency-on-later",
     "publish-attest-before-list",
+    "settings-vote",
+    "settings-vote-after-end",
     "settings-vote-state",
+    "prove-present",
+    "check-present",
+    "check-short",
+    "events-settings",
     "xo-create-and-delete",
     "peer-sets-on-version-2",
     "generate-small",
@@ -61,8 +73,8 @@ WITH, WITHOUT, OWN = "7 with the whole line", "7 without it", "Own answer"
 UNLOADED, OTHER = "Not loaded", "Anything else"
 
 
-def is_front_and_line(notes, own):
-    """Whether the notes are a front of the own ones, with nothing or a front of the line behind whole lines of it."""
+def is_prefix_and_line(notes, own):
+    """Whether the notes are a prefix of the own ones, with nothing or a prefix of the line behind whole lines of it."""
     if own.startswith(notes):
         return True
     at = os.path.commonprefix([own, notes]).rfind(b"\n") + 1
@@ -72,7 +84,7 @@ def is_front_and_line(notes, own):
 def ending(own, said):
     if (said.status, said.output, said.notes) == (own.status, own.output, own.notes):
         return OWN
-    if said.status != "7" or not own.output.startswith(said.output) or not is_front_and_line(said.notes, own.notes):
+    if said.status != "7" or not own.output.startswith(said.output) or not is_prefix_and_line(said.notes, own.notes):
         return OTHER
     return WITH if said.notes.endswith(LINE) else WITHOUT
 

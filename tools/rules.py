@@ -1,8 +1,8 @@
-"""Checks docs/RULES.md: that each file, definition, function, case, script and test that it names exists, and that it has
-the faults, causes and reasons that docs/OPERATING.md explains, by the same numbers and names.
+"""Checks docs/RULES.md: that each file, definition, function, case, script and test that it names exists.
 
 Run by hand from the top of the repository: python3 -B tools/rules.py
-It prints what is missing, and then the counts; it ends with 1 where something is missing.
+It prints what is missing, and then the counts; it ends with 1 where something is missing. What the page says of faults,
+causes and reasons is tested by tools/faults.py.
 """
 
 import os
@@ -10,7 +10,6 @@ import re
 import sys
 
 PAGE = "docs/RULES.md"
-EXPLAINED = "docs/OPERATING.md"
 CRATES = "crates"
 NAME = r"`([^`]+)`"
 
@@ -67,40 +66,6 @@ def missing_cases(cell, cases):
     return [name for name in names if not is_shown(name, cases)], len(names)
 
 
-# What both pages tell: the faults of a block and of a batch, causes of a drop, and reasons of an invalid transaction.
-
-
-def explained():
-    """What docs/OPERATING.md explains, each as its kind, number and name; reasons without their names."""
-    text = content(EXPLAINED)
-    yield from (("fault", *it) for it in re.findall(r"^\| `(\d+) ([A-Z]\w+)", text, re.M) if it[1] not in ("Batch", "Static"))
-    yield from (("batch", *it) for it in re.findall(r"^\| `6 Batch K (\d+)[^|]*\| (\w+)", text, re.M))
-    yield from (("cause", *it) for it in re.findall(r"^\| `13 Static K (\d+)[^|]*\| (\w+)", text, re.M))
-    reasons = text.split("\n## Reasons of an invalid")[1].split("\n## ")[0]
-    yield from (("reason", it, "") for it in re.findall(r"^\| (\d+) \|", reasons, re.M))
-
-
-def ruled():
-    """The same of docs/RULES.md."""
-    for part in content(PAGE).split("\n## "):
-        kind = "batch" if part.startswith("Checks of a batch") else "fault"
-        yield from ((kind, *it) for it in re.findall(r"^\| (\d+) `([A-Z]\w+)`", part, re.M) if it[1] not in ("Batch", "Static"))
-        yield from (("cause", *it) for it in re.findall(r"^\| Cause (\d+) `(\w+)`", part, re.M))
-        family = re.match(r"(IntegerKey|XO|Settings|Identity), checks", part)
-        yield from (("reason", it, "") for it in re.findall(r"\b([1-4][01]\d)\b", part if family else ""))
-        yield from (("reason", it, "") for it in re.findall(r"[Rr]eason (\d)\b", part))
-
-
-def apart():
-    """What one page tells and the other does not."""
-    known, told = set(explained()), set(ruled())
-    for page, lacking in ((EXPLAINED, told - known), (PAGE, known - told)):
-        for each in sorted(lacking):
-            print(f"{page}: no {' '.join(each)}")
-    print(f"{len(known)} faults, causes and reasons on both pages, {len(known ^ told)} on one alone")
-    return len(known ^ told)
-
-
 def main():
     data = os.path.join(CRATES, "saw_cases", "data")
     cases = {"words.txt", *os.listdir(os.path.join(data, "cases"))}
@@ -117,7 +82,7 @@ def main():
             for name in lost:
                 print(f"{PAGE}:{at}: no {name}")
     print(f"{rules} rules, {names} names, {bad} of them missing")
-    sys.exit(int(apart() + bad > 0))
+    sys.exit(1 if bad else 0)
 
 
 main()

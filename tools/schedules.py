@@ -121,6 +121,37 @@ def reruns():
     ], UNDONE_RESULTS)
 
 
+def given_back(calls, number):
+    """The calls in which the job of the take of this number, counted from 1, is given back and taken again."""
+    made, takes, again = [], 0, None
+    for call, said in calls:
+        words = said.split() if call == "take" else call.split()
+        index = words[1] if len(words) > 1 else None
+        more = int(again is not None and index == again)
+        if call == "take" and index:
+            takes += 1
+            attempt = int(words[2]) + more
+            made.append((call, " ".join([*words[:2], str(attempt), *words[3:]])))
+            if takes == number:
+                made += [(f"back {index} {attempt}", "back"), (call, " ".join([*words[:2], str(attempt + 1), *words[3:]]))]
+                again = index
+        elif index:
+            made.append((f"{words[0]} {index} {int(words[2]) + more}", said))
+        else:
+            made.append((call, said))
+    return made
+
+
+def returns():
+    # Whichever job of the undone plan is given back, the results are the same.
+    calls = [
+        job(0, 0), job(1, 0), NO_JOB, accepted(0, 0), job(2, 0, ("x", 0, 1)), accepted(2, 0), NO_JOB,
+        accepted(1, 0), stale(2, 0), job(2, 1), NO_JOB, accepted(2, 1), job(3, 0, ("x", 2, 2)), NO_JOB, accepted(3, 0),
+    ]
+    for number in range(1, 6):
+        yield scheduled(f"given-back-at-take-{number}", UNDONE, given_back(calls, number), UNDONE_RESULTS)
+
+
 def foreign():
     plan = batched(
         [counting("a0", "set", "x", 1)], [counting("b0", "set", "y", 1)], [counting("c0", "inc", "x", 1)],
@@ -277,5 +308,5 @@ def three_hundred():
 
 def schedules():
     """The kind, the name and the calls of each script."""
-    for scripts in (reruns, foreign, dependencies, orders, views, three_hundred):
+    for scripts in (reruns, returns, foreign, dependencies, orders, views, three_hundred):
         yield from scripts()

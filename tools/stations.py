@@ -1,4 +1,4 @@
-"""Makes the cases stations-* of saw_cases: blocks for processors elsewhere of the family `case_kv`, two and four of them.
+"""Makes the cases stations-* of saw_cases: blocks for external processors of the family `case_kv`, two and four of them.
 
 The family is that of crates/saw_cases/src/stations.rt: a payload is `set ADDRESS VALUE`, `copy FROM TO` (of an address
 without an entry it copies `none`), or anything else, which is refused. What is expected comes from the serial model

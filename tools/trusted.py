@@ -489,6 +489,7 @@ OTHERS = {
     "receipts": ["saw_top/Listing:receipts_text", "saw_top/Listing:receipts_status", "saw_top/Command:receipts_by"],
     "status": ["saw_top/Listing:batch_text", "saw_top/Listing:batch_status", "saw_top/Command:status_by"],
     "prove": ["saw_top/Listing:proof_text", "saw_top/Listing:proof_status", "saw_top/Command:prove_by"],
+    "events": ["saw_top/Listing:events_text", "saw_top/Listing:events_status", "saw_top/Command:events_by"],
     "check": ["saw_top/Answers:IsAnswerTo", "saw_top/Claims:nodes_of", "saw_top/Headline:ChecksClaim",
               "saw_top/Command:check_by"],
     "--attest": ["saw_verify/Lists:attests", "saw_verify/Lists:first_bad_line"],
@@ -499,9 +500,9 @@ FAMILIES = {
     "Settings": ["saw_settings/Actions:next"],
     "Identity": ["saw_identity/Actions:next"],
 }
-LAWS = [("BranchLaws", "MapBehindIsBranch"), ("BuiltInLaws", "BuiltInTell"), ("TellingLaws", "AllIsTold"),
-        ("CandidateLaws", "CandidateIsAccepted"), ("GeneratedLaws", "GeneratedStreamIsCommitted"), ("Laws", "FramesAreRead"),
-        ("OptionLaws", "OrderOfOptionsDoesNotShow")]
+LAWS = [("BranchLaws", "MapBehindIsBranch"), ("BranchLaws", "EventsLeaveState"), ("BuiltInLaws", "BuiltInTell"),
+        ("TellingLaws", "AllIsTold"), ("CandidateLaws", "CandidateIsAccepted"), ("GeneratedLaws", "GeneratedStreamIsCommitted"),
+        ("Laws", "FramesAreRead"), ("OptionLaws", "OrderOfOptionsDoesNotShow")]
 CALLS = [("processor", "run_processor"), ("opening", "listen_wish")]
 
 

@@ -127,7 +127,7 @@ module _ (processors : Processors) where
       subst (λ (result : BatchResult). AreAddresses (finite.entries (left_by m result))) (sym goes) are
 
   -- a transaction changes addresses
-  changes_addresses : (tx : TxShape) (m : StateMap) (failed : Bool) (outcome : Outcome) → MayCome processors tx m failed outcome
+  pub changes_addresses : (tx : TxShape) (m : StateMap) (failed : Bool) (outcome : Outcome) → MayCome processors tx m failed outcome
       → (changes : List Change) (events : List Event) → outcome ≡ outcomes.Ok changes events
       → AllByRecursion (λ change. is_address change.address ≡ true) changes
   changes_addresses tx m failed outcome may changes events is =

@@ -1,5 +1,5 @@
 -- What a map has after changes, and with a view on top.
-use Rattle.std.proofs.Common.{◌≡◌, ℕ, Bool, true, false, cond, T, List, [], ◌∷◌, map, Option, Some, None, bytes_eq, refl, sym, ap, ◌∙◌, arith}
+use Rattle.std.proofs.Common.{◌≡◌, ℕ, Bool, true, false, cond, T, List, [], ◌∷◌, ◌++◌, map, Option, Some, None, bytes_eq, refl, sym, ap, ◌∙◌, arith}
 use Rattle.std.specs.Ordering.{nat_cmp, eq_by_cmp}
 use Rattle.std.specs.Cmp.Lexicographic.{slice_cmp, nat_list_cmp_total}
 use Rattle.std.specs.FinMap as finite
@@ -22,6 +22,10 @@ use Rattle.saw_context.proofs.Each.{all_weaker, all_both}
 use Rattle.saw_context.proofs.Keys.{same_key, entries-empty, find_above, both_of}
 
 -- ---- changes one after another
+
+pub map_after-append : (m : StateMap) (xs ys : List Change) → map_after m (xs ++ ys) ≡ map_after (map_after m xs) ys
+map_after-append m [] ys = refl
+map_after-append m (x ∷ xs) ys = map_after-append (changed_at m x.address x.value) xs ys
 
 -- what stands at an address after changes, where that stood there before
 abbrev pub value_after : List Change → List ℕ → Option (List ℕ) → Option (List ℕ)

@@ -2,3 +2,6 @@ mod Filters
 mod Untold
 mod Deltas
 mod News
+mod ListBack
+mod AtDigits
+pub mod LastShown

@@ -17,16 +17,6 @@ use std::collections::BTreeMap;
 /// The type of the event.
 pub(crate) const STATE_DELTA: &str = "sawtooth/state-delta";
 
-fn copy_change(alloc: Global, change: &StateChange) -> Result<StateChange, AllocError>
-    ensures { IfOk result (λ made. made ≡ change.now) }
-{
-    Ok(StateChange {
-        address: change.address.try_clone(alloc)?,
-        value: change.value.try_clone(alloc)?,
-        kind: change.kind,
-    })
-}
-
 // A change takes the place of an earlier one at its address.
 fn add_change(
     alloc: Global,
@@ -36,10 +26,7 @@ fn add_change(
     ensures { OnOk result ((earlier : List StateChange) → finite.from_entries last.old.entries ≡ last_by_address earlier
         → finite.from_entries last.new.entries ≡ last_by_address (earlier ++ change.now ∷ [])) }
 {
-    last.insert(
-        change.address.try_clone(alloc)?,
-        copy_change(alloc, change)?,
-    )?;
+    last.insert(change.address.try_clone(alloc)?, change.try_clone(alloc)?)?;
     Ok(())
 }
 

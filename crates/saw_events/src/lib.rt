@@ -8,6 +8,7 @@ mod delta;
 mod events;
 mod fault;
 mod filter;
+mod laws;
 mod replaying;
 mod told;
 
@@ -15,5 +16,6 @@ pub use change_list::StateChangeList;
 pub use events::events_of;
 pub use fault::ReplayFault;
 pub use filter::{Filter, Subscription, matches};
+pub use laws::{changes_are_read_back, last_changes_show};
 pub use replaying::replay;
 pub use told::BlockEvents;

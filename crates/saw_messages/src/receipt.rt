@@ -105,6 +105,19 @@ impl Message for StateChange {
     }
 }
 
+impl StateChange {
+    /// A copy of the whole.
+    pub fn try_clone(&self, alloc: Global) -> Result<Self, AllocError>
+        ensures { IfOk result (λ made. made ≡ self.now) }
+    {
+        Ok(StateChange {
+            address: self.address.try_clone(alloc)?,
+            value: self.value.try_clone(alloc)?,
+            kind: self.kind,
+        })
+    }
+}
+
 /// An event that a transaction added.
 pub struct Event {
     pub event_type: Text,

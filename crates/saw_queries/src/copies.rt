@@ -6,22 +6,12 @@ use saw_messages::{Event, Receipt, StateChange};
 use saw_wire::{Bytes, Items};
 use std::alloc::{AllocError, Global};
 
-fn copy_change(alloc: Global, change: &StateChange) -> Result<StateChange, AllocError>
-    ensures { IfOk result (λ made. made ≡ change.now) }
-{
-    Ok(StateChange {
-        address: change.address.try_clone(alloc)?,
-        value: change.value.try_clone(alloc)?,
-        kind: change.kind,
-    })
-}
-
 fn copy_changes(alloc: Global, changes: &[StateChange]) -> Result<Items<StateChange>, AllocError>
     ensures { IfOk result (λ made. made ≡ changes.now) }
 {
     let mut made = Items::new(alloc);
     for change in changes {
-        made.push(copy_change(alloc, change)?)?;
+        made.push(change.try_clone(alloc)?)?;
     }
     Ok(made)
 }

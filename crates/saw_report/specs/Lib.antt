@@ -1,3 +1,4 @@
 pub mod Lines
 pub mod RunFaults
 pub mod Proofs
+pub mod Events

@@ -1,6 +1,7 @@
 //! The lines of reports, byte for byte.
 #![tactic(auto)]
 
+mod event;
 mod fault;
 mod line;
 mod notes;
@@ -8,6 +9,7 @@ mod proof;
 mod run_fault;
 mod word;
 
+pub use event::events_lines;
 pub use line::{
     candidate_line, head_line, listed_line, loss_line, receipt_line, status_line, verdict_line,
 };

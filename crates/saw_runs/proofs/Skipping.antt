@@ -13,7 +13,7 @@ use Rattle.saw_address.specs.Maps.{StateMap, changed_at, value_at}
 use Rattle.saw_address.proofs.Finite.{same_values, value_at-changed_at}
 use Rattle.saw_context.specs.Changed.{AreRising}
 use Rattle.saw_context.specs.Outcome.{map_after}
-use Rattle.saw_context.proofs.OnTop.{value_at_apart}
+use Rattle.saw_context.proofs.OnTop.{map_after-append, value_at_apart}
 use Rattle.saw_messages.specs.declared.outcome.Change.{Change}
 use Rattle.saw_runs.specs.Entries.{Entry}
 use Rattle.saw_runs.specs.Changes.{ChangesRoot, IsRootWith}
@@ -57,10 +57,6 @@ apart_before (x ∷ left) c rest h =
     (less_apart x.address c.address (key_among (λ y. slice_cmp nat_cmp x.address y ≡ Less) left c rest h.0), apart_before left c rest h.1)
 
 -- ---- what a map has after changes
-
-map_after-append : (m : StateMap) (xs ys : List Change) → map_after m (xs ++ ys) ≡ map_after (map_after m xs) ys
-map_after-append m [] ys = refl
-map_after-append m (x ∷ xs) ys = map_after-append (changed_at m x.address x.value) xs ys
 
 changed_at-same : (m : StateMap) (address : List ℕ) (value : Option (List ℕ)) → value_at m address ≡ value → changed_at m address value ≡ m
 changed_at-same m address value has = same_values (changed_at m address value) m (λ at.

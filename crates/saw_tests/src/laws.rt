@@ -28,6 +28,8 @@ fn laws_of_messages_and_roots(_rt: HostRuntime) {
     saw_messages::batches_are_read_back();
     saw_messages::blocks_are_read_back();
     saw_messages::receipts_are_read_back();
+    saw_events::changes_are_read_back();
+    saw_events::last_changes_show();
     saw_node::encoding_is_one();
     saw_node::empty_root_is();
     saw_node::same_root::<Sha512Half>();
@@ -107,4 +109,5 @@ fn laws_of_blocks_and_streams(_rt: HostRuntime) {
     saw_top::candidate_is_accepted();
     saw_top::generated_stream_is_committed();
     saw_top::map_behind_is_branch();
+    saw_top::events_leave_state();
 }

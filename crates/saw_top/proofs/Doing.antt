@@ -35,14 +35,14 @@ use Rattle.saw_top.specs.Headline.{DoesTask, EndsBy, LinesInTime, HasCause, HasF
 use Rattle.saw_top.specs.History.{History, map_behind, maps_of, records_of, some_refused}
 use Rattle.saw_top.specs.StreamJudging.{JudgesFor}
 use Rattle.saw_top.specs.StreamJudging.{IsPrompt, IsUpToDate, Judges, JudgesAll, JudgesBy, JudgesTo, StopsAtClash}
-use Rattle.saw_top.specs.Listing.{batch_status, batch_text, listing, listing_status, proof_status, proof_text, receipts_status, receipts_text}
+use Rattle.saw_top.specs.Listing.{batch_status, batch_text, events_status, events_text, listing, listing_status, proof_status, proof_text, receipts_status, receipts_text}
 use Rattle.saw_top.specs.Outside.{End, Outside, Sides, SomeRose, WritesFront, lines_side, other_side, sides_of}
 use Rattle.saw_top.specs.Reports.{report}
 use Rattle.saw_top.specs.Run.{Answer, AtEnd, end_by, ending_of, fault_of, history_of, noted_by, run_of, run_to, status_by, task_answer, written_by}
 use Rattle.saw_top.specs.KeptBlocks.{IsAfter, IsKeptBlock}
 use Rattle.saw_top.specs.World.{Accepts, AreWays, Judging, Ways, judging_by, rules_with, serially}
 use Rattle.saw_top.specs.declared.task.Ending.{Ending}
-use Rattle.saw_top.specs.declared.task.Ending.TheVariants.{Batch, Candidate, Head, Entries, Proof, Receipts}
+use Rattle.saw_top.specs.declared.task.Ending.TheVariants.{Batch, Candidate, Events, Head, Entries, Proof, Receipts}
 use Rattle.saw_top.specs.declared.task.Lines.{Lines}
 use Rattle.saw_top.specs.declared.task.Lines.TheVariants.{All, Refused}
 use Rattle.saw_top.specs.declared.task.Task.{Task}
@@ -341,6 +341,8 @@ end_same judging rules waiting lines (Proof address) bytes left first others ref
     ∙ ap (λ (all : List BlockRecord). map_under ledger.states (head_of all)) (sym judged.after.blocks) in
     ap₂ (λ (head : Option BlockRecord) (m : StateMap). plain_end (proof_text rules.hash address head m) (proof_status head))
     (ap head_of (sym judged.after.blocks)) same
+end_same judging rules waiting lines (Events known wish) bytes left first others refused ledger judged =
+    ap (λ (blocks : List BlockRecord). plain_end (events_text known wish blocks) (events_status known wish blocks)) (sym judged.after.blocks)
 end_same judging rules waiting lines Candidate bytes left first others refused ledger judged =
     let accepted = (run_of judging bytes).accepted in
     let end : List BlockRecord → Bool → Publication → AtEnd = λ blocks some publication. record {

@@ -8,7 +8,10 @@ pub mod Elements
 pub mod OwnReasons
 pub mod Served
 pub mod OneAnswer
+pub mod AlongBranches
 pub mod SerialBranches
+pub mod BlockChanges
+pub mod ToldBranches
 pub mod Streams
 pub mod Standings
 pub mod Desks

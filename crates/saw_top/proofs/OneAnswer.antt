@@ -24,7 +24,7 @@ use Rattle.saw_receipts.specs.Telling.{tell_batches, tell_block}
 use Rattle.saw_top.specs.Telling.{IsTold, tell_stream}
 use Rattle.saw_top.specs.World.{Accepts, AreWays, Judging, Ways, judging_by, rules_with, serially}
 use Rattle.saw_top.specs.declared.task.Ending.{Ending}
-use Rattle.saw_top.specs.declared.task.Ending.TheVariants.{Batch, Candidate, Head, Entries, Proof, Receipts}
+use Rattle.saw_top.specs.declared.task.Ending.TheVariants.{Batch, Candidate, Events, Head, Entries, Proof, Receipts}
 use Rattle.saw_top.specs.declared.task.Task.{Task}
 use Rattle.saw_top.proofs.Histories.{history_same, tried_same}
 use Rattle.saw_top.proofs.Elements.{all_at, all_first}
@@ -81,6 +81,7 @@ module _ (processors : Processors) (ways : Ways) (may : AreWays processors ways)
     end_told Receipts run None = refl
     end_told (Batch id) run None = refl
     end_told (Proof at) run None = refl
+    end_told (Events known wish) run None = refl
     end_told Candidate run None =
         let blocks = records_of run.accepted in
         let before = map_behind run.accepted (head_of blocks) in

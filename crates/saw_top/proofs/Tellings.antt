@@ -25,7 +25,7 @@ use Rattle.saw_report.specs.declared.run_fault.RunFault.{RunFault}
 use Rattle.saw_rules.specs.declared.policy.Placed.{Placed}
 use Rattle.saw_top.specs.Ends.{Finishes, IsOfEnd, Tells, WritesBy, WritesEnd, end_at, plain_end, publication_in}
 use Rattle.saw_top.specs.Headline.{IsDone}
-use Rattle.saw_top.specs.Listing.{entries_under, found_status, proof_status}
+use Rattle.saw_top.specs.Listing.{entries_under, found_status, events_told, has_events, proof_status}
 use Rattle.saw_top.specs.Making.{Makes, block_in, code_with, text_with}
 use Rattle.saw_top.specs.Outside.{End, SomeRose, WritesFront}
 use Rattle.saw_top.specs.Publishing.{Publication, Waiting, has_no_block, parent_at, refusal_text}
@@ -33,7 +33,7 @@ use Rattle.saw_top.specs.Run.{AtEnd, status_by}
 use Rattle.saw_top.specs.World.{Accepts, rules_with, serially}
 use Rattle.saw_top.specs.declared.publishing.Made.{Made}
 use Rattle.saw_top.specs.declared.task.Ending.{Ending}
-use Rattle.saw_top.specs.declared.task.Ending.TheVariants.{Batch, Candidate, Head, Entries, Proof, Receipts}
+use Rattle.saw_top.specs.declared.task.Ending.TheVariants.{Batch, Candidate, Events, Head, Entries, Proof, Receipts}
 use Rattle.saw_top.proofs.OwnReasons.{HasOwnReasons, serial_may}
 
 -- ---- the statuses
@@ -46,6 +46,10 @@ by_test false status is = inl is
 by_found : (found : Option BlockRecord) (status : ℕ) → status ≡ found_status found → (status ≡ 0) ⊎ (status ≡ 8)
 by_found None status is = inr is
 by_found (Some block) status is = inl is
+
+by_some : (some : Bool) (status : ℕ) → status ≡ (if some then 0 else 8) → (status ≡ 0) ⊎ (status ≡ 8)
+by_some true status is = inl is
+by_some false status is = inr is
 
 by_head : (head : Option BlockRecord) (status : ℕ) → status ≡ proof_status head → (status ≡ 0) ⊎ (status ≡ 8)
 by_head None status is = inr is
@@ -207,6 +211,7 @@ module _ (processors : Processors) (own : HasOwnReasons processors) (accepts : A
   is_done Receipts other status is = by_test (length (branch_receipts (head_branch ledger.blocks)) == 0) status is
   is_done (Batch id) other status is = by_found (block_with id (head_branch ledger.blocks)) status is
   is_done (Proof at) other status is = by_head (head_of ledger.blocks) status is
+  is_done (Events known wish) other status is = by_some (has_events (events_told known wish ledger.blocks)) status is
   is_done Candidate other status is = absurd (other refl)
 
   is_plain : (ending : Ending) → (ending ≡ Candidate → ⊥) → end_of ending ≡ plain_end (end_of ending).output (end_of ending).status
@@ -215,6 +220,7 @@ module _ (processors : Processors) (own : HasOwnReasons processors) (accepts : A
   is_plain Receipts other = refl
   is_plain (Batch id) other = refl
   is_plain (Proof at) other = refl
+  is_plain (Events known wish) other = refl
   is_plain Candidate other = absurd (other refl)
 
   pub finishes_plain : (ending : Ending) → (ending ≡ Candidate → ⊥) → Tells (end_of ending).output [] (end_of ending).status old new told told result

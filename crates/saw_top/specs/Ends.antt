@@ -19,13 +19,13 @@ use Rattle.saw_report.specs.declared.run_fault.RunFault.TheVariants as runs
 use Rattle.saw_store.specs.declared.fault.StoreFault.TheVariants as stores
 use Rattle.saw_top.specs.Clashing.{AreAlike}
 use Rattle.saw_top.specs.Headline.{IsDone}
-use Rattle.saw_top.specs.Listing.{batch_status, batch_text, listing, listing_status, proof_status, proof_text, receipts_status, receipts_text}
+use Rattle.saw_top.specs.Listing.{batch_status, batch_text, events_status, events_text, listing, listing_status, proof_status, proof_text, receipts_status, receipts_text}
 use Rattle.saw_top.specs.Outside.{End, SomeRose, WritesFront}
 use Rattle.saw_top.specs.Publishing.{Publication, Waiting, candidate_status, candidate_text, losses_text, map_left, parent_at, publication_of}
 use Rattle.saw_top.specs.Run.{AtEnd, status_by}
 use Rattle.saw_top.specs.World.{Accepts, rules_with}
 use Rattle.saw_top.specs.declared.task.Ending.{Ending}
-use Rattle.saw_top.specs.declared.task.Ending.TheVariants.{Batch, Candidate, Head, Entries, Proof, Receipts}
+use Rattle.saw_top.specs.declared.task.Ending.TheVariants.{Batch, Candidate, Events, Head, Entries, Proof, Receipts}
 
 abbrev pub state_of_head : Ledger → StateMap
 state_of_head ledger = map_under ledger.states (head_of ledger.blocks)
@@ -57,6 +57,7 @@ end_at rules waiting Receipts ledger refused = plain_end (receipts_text ledger.b
 end_at rules waiting (Batch id) ledger refused = plain_end (batch_text id ledger.blocks) (batch_status id ledger.blocks)
 end_at rules waiting (Proof at) ledger refused =
     plain_end (proof_text rules.hash at (head_of ledger.blocks) (state_of_head ledger)) (proof_status (head_of ledger.blocks))
+end_at rules waiting (Events known wish) ledger refused = plain_end (events_text known wish ledger.blocks) (events_status known wish ledger.blocks)
 end_at rules waiting Candidate ledger refused = end_of_candidate rules waiting ledger refused (publication_in rules waiting ledger)
 
 -- ---- what was written

@@ -27,7 +27,7 @@ use Rattle.saw_top.specs.Stream.{Reads}
 use Rattle.saw_top.specs.Telling.{IsTold}
 use Rattle.saw_top.specs.World.{AreWays, Ways, World, serially}
 use Rattle.saw_top.specs.declared.task.Ending.{Ending}
-use Rattle.saw_top.specs.declared.task.Ending.TheVariants.{Batch, Candidate, Head, Entries, Proof, Receipts}
+use Rattle.saw_top.specs.declared.task.Ending.TheVariants.{Batch, Candidate, Events, Head, Entries, Proof, Receipts}
 use Rattle.saw_top.specs.declared.task.Lines.{Lines}
 use Rattle.saw_top.specs.declared.task.Lines.TheVariants.{All, Refused}
 use Rattle.saw_top.specs.declared.task.Task.{Task}
@@ -139,6 +139,7 @@ IsDone (Entries prefix) status = (status ≡ 0) ⊎ (status ≡ 8)
 IsDone Receipts status = (status ≡ 0) ⊎ (status ≡ 8)
 IsDone (Batch id) status = (status ≡ 0) ⊎ (status ≡ 8)
 IsDone (Proof at) status = (status ≡ 0) ⊎ (status ≡ 8)
+IsDone (Events known wish) status = (status ≡ 0) ⊎ (status ≡ 8)
 IsDone Candidate status = (status ≡ 0) ⊎ (status ≡ 1)
 
 module _ (processors : Processors) (task : Task) (ready : Result Prepared RunFault) (before after : Outside) where

@@ -1,5 +1,7 @@
 -- What options say, as what the words ask for.
-use Rattle.std.specs.Prelude.{◌≤◌, ℕ, List, Option, None, Some, option_map}
+use Rattle.std.specs.Prelude.{◌≤◌, ℕ, false, List, [], ◌∷◌, Option, None, Some, option_map}
+use Rattle.std.specs.Borrow.{Bor}
+use Rattle.saw_events.specs.declared.filter.Filter.{Filter}
 use Rattle.saw_top.specs.Command.{Asked, Wish, claims, Judge as judges, Generate as generates, Check as checks}
 use Rattle.saw_top.specs.declared.said.Plan.{Plan}
 use Rattle.saw_top.specs.declared.said.Said.{Said}
@@ -16,12 +18,24 @@ abbrev pub lines_in : Wanted → Lines
 lines_in wanted.Head = All
 lines_in other = Refused
 
+-- the id that is named
+abbrev pub known_ids : Option (Bor (List ℕ)) → List (List ℕ)
+known_ids None = []
+known_ids (Some id) = id.now ∷ []
+
+-- the text that is wanted at a key
+abbrev pub text_at : Option (Bor (List ℕ)) → Option (Bor (List ℕ)) → List Filter
+text_at (Some at) (Some text) = record { key = at.now; text = text.now; all = false } ∷ []
+text_at at text = []
+
 abbrev pub ending_in : Wanted → Ending
 ending_in wanted.Head = endings.Head
 ending_in (wanted.Entries prefix) = endings.Entries prefix
 ending_in wanted.Receipts = endings.Receipts
 ending_in (wanted.Batch id) = endings.Batch id.now
 ending_in (wanted.Proof at) = endings.Proof at
+ending_in (wanted.Events event_type known at text) =
+    endings.Events (known_ids known) (record { event_type = event_type.now; filters = text_at at text })
 ending_in (wanted.Candidate list) = endings.Candidate
 
 -- the batch list that is named

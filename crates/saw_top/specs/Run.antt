@@ -8,13 +8,13 @@ use Rattle.saw_report.specs.RunFaults.{fault_line, status_of}
 use Rattle.saw_report.specs.declared.run_fault.RunFault.{RunFault}
 use Rattle.saw_report.specs.declared.run_fault.RunFault.TheVariants.{Blocks}
 use Rattle.saw_top.specs.History.{History, history, map_behind, maps_of, records_of, some_refused, tried}
-use Rattle.saw_top.specs.Listing.{batch_status, batch_text, listing, listing_status, proof_status, proof_text, receipts_status, receipts_text}
+use Rattle.saw_top.specs.Listing.{batch_status, batch_text, events_status, events_text, listing, listing_status, proof_status, proof_text, receipts_status, receipts_text}
 use Rattle.saw_top.specs.Publishing.{Waiting, candidate_status, candidate_text, losses_text, map_left, parent_at, publication_at}
 use Rattle.saw_top.specs.Reports.{report}
 use Rattle.saw_top.specs.Stream.{stream_of}
 use Rattle.saw_top.specs.World.{Judging}
 use Rattle.saw_top.specs.declared.task.Ending.{Ending}
-use Rattle.saw_top.specs.declared.task.Ending.TheVariants.{Batch, Candidate, Head, Entries, Proof, Receipts}
+use Rattle.saw_top.specs.declared.task.Ending.TheVariants.{Batch, Candidate, Events, Head, Entries, Proof, Receipts}
 use Rattle.saw_top.specs.declared.task.Lines.{Lines}
 use Rattle.saw_top.specs.declared.task.Lines.TheVariants.{All, Refused}
 use Rattle.saw_top.specs.declared.task.Task.{Task}
@@ -126,8 +126,8 @@ module _ (judging : Judging) where
 -- ---- both
 
 module _ (rules : Rules) (waiting : Waiting) where
-  -- the head's line, the entries of its state, the receipts of its branch, where a batch is, a proof of its state, or a
-  -- candidate behind it
+  -- the head's line, the entries of its state, the receipts of its branch, where a batch is, a proof of its state, events
+  -- of its branch, or a candidate behind it
   abbrev pub ending_of : Ending → History → AtEnd
   ending_of Head run = record {
     output = head_line (head_of (records_of run.accepted));
@@ -157,6 +157,12 @@ module _ (rules : Rules) (waiting : Waiting) where
     output = proof_text rules.hash at (head_of (records_of run.accepted)) (head_map run);
     noted = [];
     status = proof_status (head_of (records_of run.accepted));
+    made = None;
+  }
+  ending_of (Events known wish) run = record {
+    output = events_text known wish (records_of run.accepted);
+    noted = [];
+    status = events_status known wish (records_of run.accepted);
     made = None;
   }
   ending_of Candidate run = let made = publication_at rules waiting run.accepted in record {

@@ -3,10 +3,10 @@ use Rattle.std.specs.Prelude.{ℕ, List, [], ◌∷◌, Option, codes}
 use Rattle.std.specs.List.{find}
 use Rattle.std.specs.Str.{bytes_eq}
 use Rattle.saw_top.specs.declared.table.Kind.{Kind}
-use Rattle.saw_top.specs.declared.table.Kind.TheVariants.{Apply, State, Receipts, Status, Publish, Prove, Check, Generate, Tp}
+use Rattle.saw_top.specs.declared.table.Kind.TheVariants.{Apply, State, Receipts, Status, Publish, Prove, Events, Check, Generate, Tp}
 
 abbrev pub kinds : List Kind
-kinds = Apply ∷ State ∷ Receipts ∷ Status ∷ Publish ∷ Prove ∷ Check ∷ Generate ∷ Tp ∷ []
+kinds = Apply ∷ State ∷ Receipts ∷ Status ∷ Publish ∷ Prove ∷ Events ∷ Check ∷ Generate ∷ Tp ∷ []
 
 abbrev pub name_of : Kind → List ℕ
 name_of Apply = codes "apply"
@@ -15,6 +15,7 @@ name_of Receipts = codes "receipts"
 name_of Status = codes "status"
 name_of Publish = codes "publish"
 name_of Prove = codes "prove"
+name_of Events = codes "events"
 name_of Check = codes "check"
 name_of Generate = codes "generate"
 name_of Tp = codes "tp"
@@ -64,6 +65,18 @@ address = codes "--address"
 abbrev pub proof : List ℕ
 proof = codes "--proof"
 
+abbrev pub event_type : List ℕ
+event_type = codes "--type"
+
+abbrev pub from : List ℕ
+from = codes "--from"
+
+abbrev pub key : List ℕ
+key = codes "--key"
+
+abbrev pub text : List ℕ
+text = codes "--value"
+
 abbrev pub connect : List ℕ
 connect = codes "--connect"
 
@@ -78,6 +91,7 @@ options_of Receipts = common []
 options_of Status = common (batch ∷ [])
 options_of Publish = common (batches ∷ [])
 options_of Prove = common (address ∷ [])
+options_of Events = common (event_type ∷ from ∷ key ∷ text ∷ [])
 options_of Check = root ∷ address ∷ proof ∷ []
 options_of Generate = start ∷ blocks ∷ batches ∷ conflicts ∷ []
 options_of Tp = connect ∷ []

@@ -1,14 +1,15 @@
-//! What is written of the head's branch: its receipts, or which of its blocks holds a batch.
+//! What is written of the head's branch: its receipts, which of its blocks holds a batch, or its events.
 
 ghost use Rattle.std.specs.Prelude.{◌≡◌, ◌≤◌, ◌⊎◌, ℕ, take, option_copied, IfOk, IfErr, OnErr, OnOk, IsErrOf};
 ghost use Rattle.std.specs.Io.KnownBytes.{Appends};
 ghost use Rattle.saw_faults.specs.Counts.{Rose};
 ghost use Rattle.saw_queries.specs.Queries.{block_with, branch_receipts};
 ghost use Rattle.saw_receipts.specs.Heads.{head_branch};
-ghost use Rattle.saw_top.specs.Listing.{batch_status, batch_text, receipts_status, receipts_text};
+ghost use Rattle.saw_top.specs.Listing.{batch_status, batch_text, events_status, events_text, events_told, has_events, receipts_status, receipts_text};
 
 use crate::Status;
 use crate::line::write_lines;
+use saw_events::{BlockEvents, ReplayFault, Subscription, replay};
 use saw_io::{Sink, write_all};
 use saw_journal::Journal;
 use saw_messages::Receipt;
@@ -18,6 +19,7 @@ use saw_receipts::BlockRecord;
 use saw_report::{RunFault, status_line};
 use saw_wire::Text;
 use std::alloc::{AllocError, Global};
+use std::slice;
 
 // The receipts of the head's branch.
 fn receipts_of_head(
@@ -80,4 +82,57 @@ pub(crate) fn tell_batch<O: Sink>(
     let line = status_line(alloc, found)?;
     write_all(output, &line)?;
     Ok(Status::new(if found.is_some() { 0 } else { 8 }))
+}
+
+// The events of the head's branch that are asked for, with their blocks; none where no known block is there.
+fn events_told(
+    alloc: Global,
+    journal: &Journal<Sha512Half>,
+    known: &[Text],
+    wish: &Subscription,
+) -> Result<Vec<BlockEvents>, AllocError>
+    ensures { IfOk result (λ told. told.items ≡ events_told known.now wish.now journal.now.blocks) }
+{
+    let Some(head) = journal.head() else {
+        return Ok(Vec::new(alloc));
+    };
+    match replay(
+        alloc,
+        journal.blocks(),
+        &head.id,
+        known,
+        slice::from_ref(wish),
+    ) {
+        Ok(told) => Ok(told),
+        Err(ReplayFault::UnknownBlock) => Ok(Vec::new(alloc)),
+        Err(ReplayFault::OutOfMemory) => Err(AllocError),
+    }
+}
+
+fn has_events(told: &[BlockEvents]) -> bool
+    ensures { result ≡ has_events told.now }
+{
+    told.iter().any(|one| !one.events.is_empty())
+}
+
+/// Writes the events of the head's branch that are asked for, and gives the status. After a fault a part of them was written.
+pub(crate) fn list_events<O: Sink>(
+    alloc: Global,
+    output: &mut O,
+    journal: &Journal<Sha512Half>,
+    known: &[Text],
+    wish: &Subscription,
+) -> Result<Status, RunFault>
+    ensures ok { IfOk result (λ status. Appends (O.written output.old) (O.written output.new)
+        (events_text known.now wish.now journal.now.blocks)) }
+    ensures status { IfOk result (λ status. status ≡ events_status known.now wish.now journal.now.blocks) }
+    ensures err { OnErr result ((n : ℕ) × Appends (O.written output.old) (O.written output.new)
+        (take n (events_text known.now wish.now journal.now.blocks))) }
+    ensures fault { IfErr result (λ e. (e ≡ RunFault.Write) ⊎ (e ≡ RunFault.Memory)) }
+    ensures later { O.faults output.old ≤ O.faults output.new }
+    ensures cause { IsErrOf result RunFault.Write → Rose (O.faults output.old) (O.faults output.new) }
+{
+    let told = events_told(alloc, journal, known, wish)?;
+    write_lines(alloc, output, &told)?;
+    Ok(Status::new(if has_events(&told) { 0 } else { 8 }))
 }

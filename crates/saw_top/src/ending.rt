@@ -20,7 +20,7 @@ ghost use Rattle.saw_top.specs.Outside.{counts_of, sink_end};
 ghost use Rattle.saw_top.specs.Publishing.{Waiting};
 
 use crate::Status;
-use crate::branch::{list_receipts, tell_batch};
+use crate::branch::{list_events, list_receipts, tell_batch};
 use crate::line::write_lines;
 use crate::publishing::publish;
 use crate::task::Ending;
@@ -76,6 +76,13 @@ pub(crate) fn finish<
         Ending::Receipts => list_receipts(alloc, output, journal),
         Ending::Batch { id } => tell_batch(alloc, output, journal, id),
         Ending::Proof { at } => prove_head(alloc, output, journal, at),
+        Ending::Events { known, wish } => list_events(
+            alloc,
+            output,
+            journal,
+            known.as_slice(),
+            wish,
+        ),
         Ending::Candidate => publish(
             rt, alloc, output, notes, journal, refused, verifier, signer, batches, desks,
         ),

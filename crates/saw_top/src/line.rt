@@ -5,13 +5,15 @@ ghost use Rattle.std.specs.Io.KnownBytes.{Appends};
 ghost use Rattle.std.specs.List.{flat_map};
 ghost use Rattle.saw_faults.specs.Counts.{Rose};
 ghost use Rattle.saw_report.specs.Lines.{listed_line, loss_line, receipt_line};
+ghost use Rattle.saw_report.specs.Events.{events_lines};
 ghost use Rattle.saw_report.specs.Proofs.{node_line};
 
+use saw_events::BlockEvents;
 use saw_io::{Sink, write_all};
 use saw_merkle::Listed;
 use saw_messages::Receipt;
 use saw_receipts::Loss;
-use saw_report::{RunFault, listed_line, loss_line, node_line, receipt_line};
+use saw_report::{RunFault, events_lines, listed_line, loss_line, node_line, receipt_line};
 use saw_wire::Bytes;
 use std::alloc::{AllocError, Global};
 
@@ -55,6 +57,15 @@ impl Lined for Bytes {
 
     fn line(&self, alloc: Global) -> Result<Vec<u8>, AllocError> {
         node_line(alloc, self)
+    }
+}
+
+/// The events of a block that are told, a line each.
+impl Lined for BlockEvents {
+    ghost line_of = { events_lines };
+
+    fn line(&self, alloc: Global) -> Result<Vec<u8>, AllocError> {
+        events_lines(alloc, self)
     }
 }
 

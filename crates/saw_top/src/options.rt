@@ -1,10 +1,10 @@
 //! What the options of each command say.
 
 ghost use Rattle.std.specs.Prelude.{◌≡◌, ◌≤◌, IfSome, option_map};
-ghost use Rattle.saw_top.specs.Command.{Check, apply_by, asked_by, check_by, common_by, generate_by, hex_in, prove_by, publish_by, receipts_by, state_by, status_by};
+ghost use Rattle.saw_top.specs.Command.{Check, apply_by, asked_by, check_by, common_by, events_by, generate_by, hex_in, known_in, prove_by, publish_by, receipts_by, state_by, status_by};
 ghost use Rattle.saw_top.specs.Listening.{listening_in};
 ghost use Rattle.saw_top.specs.Opening.{listening_by};
-ghost use Rattle.saw_top.specs.Plans.{IsSmall, asked_said, plan_wish};
+ghost use Rattle.saw_top.specs.Plans.{IsSmall, asked_said, known_ids, plan_wish};
 ghost use Rattle.saw_top.specs.declared.said.Said.TheVariants.{Judge};
 
 use crate::given::Given;
@@ -132,6 +132,44 @@ fn prove_by<'a, G: Given<'a>>(given: &G) -> Option<Plan<'a>>
     })
 }
 
+// The block that is known, if one is named.
+fn known_in(id: Option<&str>) -> Option<Option<&str>>
+    ensures { option_map known_ids result ≡ known_in (option_map (λ text. text.now) id.entry) }
+{
+    match id {
+        None => Some(None),
+        Some(text) => {
+            if !is_hex_text(128, text) {
+                return None;
+            }
+            Some(Some(text))
+        }
+    }
+}
+
+fn events_by<'a, G: Given<'a>>(given: &G) -> Option<Plan<'a>>
+    ensures { option_map plan_wish result ≡ events_by (G.value given.now) }
+{
+    let workers = common_by(given)?;
+    let event_type = given.of("--type")?;
+    let known = known_in(given.of("--from"))?;
+    let key = given.of("--key");
+    let text = given.of("--value");
+    if key.is_some() != text.is_some() {
+        return None;
+    }
+    Some(Plan {
+        workers,
+        attest: given.of("--attest"),
+        wanted: Wanted::Events {
+            event_type,
+            known,
+            key,
+            text,
+        },
+    })
+}
+
 fn hash_in(text: &str) -> Option<NodeHash>
     ensures { result ≡ hex_in 64 text.now }
 {
@@ -192,6 +230,7 @@ pub(crate) fn said_by<'a, G: Given<'a>>(kind: Kind, given: &G) -> Option<Said<'a
         Kind::Status => job(status_by(given)),
         Kind::Publish => job(publish_by(given)),
         Kind::Prove => job(prove_by(given)),
+        Kind::Events => job(events_by(given)),
         Kind::Check => check_by(given),
         Kind::Generate => Some(Said::Generate(generate_by(given)?)),
         Kind::Tp => None,

@@ -10,15 +10,31 @@ pub(crate) enum Wanted<'a> {
     /// The head's line.
     Head,
     /// The entries of the head's state under a prefix.
-    Entries { prefix: Prefix },
+    Entries {
+        prefix: Prefix,
+    },
     /// The receipts of the head's branch.
     Receipts,
     /// Which block of the head's branch holds the batch of this id.
-    Batch { id: &'a str },
+    Batch {
+        id: &'a str,
+    },
     /// The proof of what the head's state has at an address.
-    Proof { at: Address },
+    Proof {
+        at: Address,
+    },
+    /// The events of this type of the head's branch, behind the block of an id, where one is named, and of those with this
+    /// text at a key, where both are named.
+    Events {
+        event_type: &'a str,
+        known: Option<&'a str>,
+        key: Option<&'a str>,
+        text: Option<&'a str>,
+    },
     /// A new block of the batches in the list of this name.
-    Candidate { list: &'a str },
+    Candidate {
+        list: &'a str,
+    },
 }
 
 /// What is done with the blocks of a stream, by how many workers. The attestation list of this name, if one is named,

@@ -12,19 +12,21 @@ pub enum Kind {
     Status,
     Publish,
     Prove,
+    Events,
     Check,
     Generate,
     Tp,
 }
 
 /// The commands, in the order in which they are told.
-pub const KINDS: [Kind; 9] = [
+pub const KINDS: [Kind; 10] = [
     Kind::Apply,
     Kind::State,
     Kind::Receipts,
     Kind::Status,
     Kind::Publish,
     Kind::Prove,
+    Kind::Events,
     Kind::Check,
     Kind::Generate,
     Kind::Tp,
@@ -42,6 +44,7 @@ impl Kind {
             Kind::Status => "status",
             Kind::Publish => "publish",
             Kind::Prove => "prove",
+            Kind::Events => "events",
             Kind::Check => "check",
             Kind::Generate => "generate",
             Kind::Tp => "tp",
@@ -71,6 +74,16 @@ impl Kind {
                 "--remotes",
                 "--address",
             ],
+            Kind::Events => &[
+                "--workers",
+                "--attest",
+                "--listen",
+                "--remotes",
+                "--type",
+                "--from",
+                "--key",
+                "--value",
+            ],
             Kind::Check => &["--root", "--address", "--proof"],
             Kind::Generate => &["--start", "--blocks", "--batches", "--conflicts"],
             Kind::Tp => &["--connect"],
@@ -86,6 +99,8 @@ impl Kind {
             Kind::Status => "Tell which block of the head's branch holds a batch [--batch, COMMON]",
             Kind::Publish => "Make the next block of a list of batches [--batches, COMMON]",
             Kind::Prove => "Prove what the head's state has at an address [--address, COMMON]",
+            Kind::Events =>
+                "Tell the events of the head's branch [--type, --from, --key, --value, COMMON]",
             Kind::Check =>
                 "Check a proof against a root, without a stream [--root, --address, --proof]",
             Kind::Generate =>

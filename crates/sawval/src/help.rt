@@ -15,7 +15,7 @@ const WRITE: u8 = 5;
 const MEMORY: u8 = 7;
 
 /// Each option, the name of its value, and what it says.
-const OPTIONS: [(&str, &str, &str); 14] = [
+const OPTIONS: [(&str, &str, &str); 18] = [
     (
         "workers",
         "N",
@@ -36,6 +36,14 @@ const OPTIONS: [(&str, &str, &str); 14] = [
     ("prefix", "P", "Only entries whose address begins with this"),
     ("batch", "ID", "A batch, by its header signature"),
     ("address", "A", "An address of the state: 70 hex digits"),
+    ("type", "T", "Events of this type"),
+    ("from", "ID", "Only events behind this block"),
+    (
+        "key",
+        "K",
+        "Only events with a text at this key; with --value",
+    ),
+    ("value", "V", "The text at the key"),
     ("root", "R", "The root of a state: 64 hex digits"),
     ("proof", "NAME", "A file with a proof, as `prove` writes it"),
     (
