@@ -1,0 +1,5 @@
+pub mod Heads
+pub mod Words
+pub mod Passes
+pub mod Snapshots
+pub mod Replies

@@ -1,0 +1,16 @@
+//! Readers of the head's state, who are answered while blocks are applied and never see an earlier head than before.
+#![tactic(auto)]
+
+mod ask;
+mod live;
+mod pass;
+mod publish;
+mod reply;
+mod rule;
+mod snapshot;
+mod words;
+
+pub use live::{Live, LiveParts};
+pub use pass::LivePass;
+pub use reply::LiveReply;
+pub use rule::{HeadWords, Known};

@@ -1,0 +1,5 @@
+//! Tests of readers of the head's state.
+#![tactic(auto)]
+
+#[cfg(test)]
+mod passes;
