@@ -1,3 +1,5 @@
 pub mod HeadLists
 pub mod Spelled
 pub mod Layered
+pub mod NextFrame
+pub mod Serves

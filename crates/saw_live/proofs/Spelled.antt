@@ -4,10 +4,11 @@ use Rattle.std.specs.Int.{to_be_bytes, w64}
 use Rattle.std.specs.List.{list_all}
 use Rattle.std.proofs.lemmas.Bool.{and_parts, eqb-true}
 use Rattle.std.proofs.lemmas.List.{take-append-drop}
-use Rattle.hex.specs.Hex.{IsBytes, decode_sized, encode_lower, encode_with}
-use Rattle.hex.proofs.HexLemmas.{decode_sized-encode_lower}
-use Rattle.saw_address.specs.Texts.{is_hex_digit, is_hex_text}
+use Rattle.hex.specs.Hex.{IsBytes, decode_of, decode_sized, encode_lower, encode_with}
+use Rattle.hex.proofs.HexLemmas.{decode_of-encode_lower, decode_sized-encode_lower, decode_sized-twice}
+use Rattle.saw_address.specs.Texts.{is_address_text, is_hex_digit, is_hex_text}
 use Rattle.saw_address.proofs.Digits.{byte_of_digits}
+use Rattle.saw_live.specs.Serving.{bytes_in}
 use Rattle.saw_live.specs.Words.{bytes_of}
 
 -- ---- digits
@@ -78,3 +79,13 @@ word_more m xs first later = record { is = ap₂ (λ bytes rest. bytes ++ rest) 
 
 pub no_words : (n : ℕ) (xs : List ℕ) → length xs ≡ n → Spell [] (drop n xs)
 no_words n xs size = record { is = sym (nothing_left n xs size) }
+
+-- what is read of an address's digits is what they stand for
+pub question_is_read : (question out : List ℕ) → is_address_text question ≡ true → ((bytes : List ℕ) → decode_sized question 35 ≡ Ok bytes → out ≡ bytes)
+    → out ≡ bytes_in (decode_of question)
+question_is_read question out is read =
+    let parts = and_parts _ (list_all is_hex_digit question) is in
+    let size : length question ≡ 2 * 35 = eqb-true (length question) 70 parts.0 in
+    let found = bytes_of_digits 35 question size parts.1 in
+    let decoded : decode_of question ≡ Ok found.0 = ap decode_of (sym found.2) ∙ decode_of-encode_lower found.0 found.1 in
+    read found.0 (decode_sized-twice question 35 size ∙ decoded) ∙ ap bytes_in (sym decoded)

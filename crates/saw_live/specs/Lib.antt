@@ -3,3 +3,5 @@ pub mod Words
 pub mod Passes
 pub mod Snapshots
 pub mod Replies
+pub mod Faults
+pub mod Serving

@@ -5,12 +5,16 @@ mod ask;
 mod live;
 mod pass;
 mod publish;
+mod reader;
 mod reply;
 mod rule;
+mod serving;
 mod snapshot;
 mod words;
 
 pub use live::{Live, LiveParts};
 pub use pass::LivePass;
+pub use reader::{Reader, ReaderEnd, ReaderFault};
 pub use reply::LiveReply;
 pub use rule::{HeadWords, Known};
+pub use serving::serve_reader;

@@ -3,3 +3,5 @@
 
 #[cfg(test)]
 mod passes;
+#[cfg(test)]
+mod serving;

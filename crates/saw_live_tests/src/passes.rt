@@ -17,11 +17,11 @@ use std::sync::Wait;
 use std::test::Fail;
 use std::thread::Threads;
 
-const ID: &str =
+pub(crate) const ID: &str =
     "11111111111111111111111111111111111111111111111111111111111111112222222222222222222222222222222222222222222222222222222222222222";
 
 /// The entry of the IntegerKey name `a` with the numbers 5 and 7.
-const FIVE: [u8; 4] = [0xa1, 0x61, 0x61, 5];
+pub(crate) const FIVE: [u8; 4] = [0xa1, 0x61, 0x61, 5];
 
 const SEVEN: [u8; 4] = [0xa1, 0x61, 0x61, 7];
 
@@ -32,7 +32,7 @@ fn address() -> Result<Address, Fail> {
 }
 
 /// The root of the state in which that name has this entry.
-fn root_of<T: Threads + Sync>(
+pub(crate) fn root_of<T: Threads + Sync>(
     rt: &T,
     alloc: Global,
     state: &mut State<Sha512Half>,
@@ -65,7 +65,7 @@ fn block(alloc: Global, id: &str, root: NodeHash) -> Result<BlockRecord, AllocEr
 }
 
 /// Publishes a head with this id, and the state of this root.
-fn publish<R: Wait>(
+pub(crate) fn publish<R: Wait>(
     rt: &R,
     alloc: Global,
     live: &Live<Sha512Half>,
@@ -111,7 +111,7 @@ fn tells(reply: &LiveReply, place: u64, root: &NodeHash, value: Option<&[u8]>) -
 }
 
 /// What two passes share: the one that publishes, and a reader.
-fn two_passes(alloc: Global) -> Result<(Live<Sha512Half>, LivePass, LivePass), Fail>
+pub(crate) fn two_passes(alloc: Global) -> Result<(Live<Sha512Half>, LivePass, LivePass), Fail>
     ensures first { IfOk result (λ all. (all.1.pass.table_id ≡ all.0.cell.table.shared.table_id)
         × (publishes all.1 ≡ true) × (history all.1 ≡ []) × IsFresh first_half all.1) }
     ensures second { IfOk result (λ all. all.2.pass.table_id ≡ all.0.cell.table.shared.table_id) }
