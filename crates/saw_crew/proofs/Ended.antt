@@ -4,7 +4,7 @@ use Rattle.std.proofs.lemmas.List.{drop-map, drop_all, drop_more, take-append-dr
 use Rattle.saw_context.specs.declared.job.Done.{Done}
 use Rattle.saw_context.specs.declared.job.Job.{Job}
 use Rattle.saw_context.specs.declared.job.Ticket.{Ticket}
-use Rattle.saw_schedule.specs.Histories.{Finishes, Gives, History, RunsIn, state_of}
+use Rattle.saw_schedule.specs.Histories.{Finishes, GivesBack, History, RunsIn, state_of}
 use Rattle.saw_schedule.specs.declared.ended.Finished.{Finished}
 use Rattle.saw_schedule.specs.declared.ended.Finished.TheVariants as ends
 use Rattle.saw_schedule.specs.declared.ended.Given.{Given}
@@ -28,7 +28,7 @@ finish-ends old new done (ends.Foreign difference) step = (
   (λ (task, runs). (finished-running old done done.ticket.index done.ticket.attempt task (rw step.0 at runs)).1 refl),
 )
 
-give-ends : (old new : History) (ticket : Ticket) (given : Given) → Gives old new ticket given → NoneBegins old new × (RunsIn (state_of new) ticket → ⊥)
+give-ends : (old new : History) (ticket : Ticket) (given : Given) → GivesBack old new ticket given → NoneBegins old new × (RunsIn (state_of new) ticket → ⊥)
 give-ends old new ticket gifts.Back step = (
   (λ other (task, runs). (task, (given-running old ticket other.index other.attempt task (rw step.0 at runs)).0)),
   (λ (task, runs). (given-running old ticket ticket.index ticket.attempt task (rw step.0 at runs)).1 refl),
@@ -81,14 +81,14 @@ GivesSome old new views views' = (jobs : List Job) × ClaimsOwnJobs views views'
 pub gives-none : (h : History) (views : List View) → GivesSome h h views views
 gives-none h views = ([], refl, refl)
 
-pub gives-one : (old mid new : History) (views mids views' : List View) (job : Job) → ClaimsOwn views mids job → ((given : Given) × Gives old mid job.ticket given)
+pub gives-one : (old mid new : History) (views mids views' : List View) (job : Job) → ClaimsOwn views mids job → ((given : Given) × GivesBack old mid job.ticket given)
     → GivesSome mid new mids views' → GivesSome old new views views'
 gives-one old mid new views mids views' job claims given (jobs, claimed, gave) = (job ∷ jobs, (mids, claims, claimed), (mid, given, gave))
 
 pub queue-given : (old new : History) (views views' : List View) → GivesSome old new views views' → GivesQueue old new views views'
 queue-given old new views views' (jobs, claimed, gave) = record { jobs = jobs; claimed = claimed; given = gave; ended = given-ended old new (tickets_of jobs) gave }
 
-pub gives-next : (old mid new : History) (jobs : List Job) (i : ℕ) (job : Job) → i < length jobs → job ≡ get_or jobs i job → ((given : Given) × Gives old mid job.ticket given)
+pub gives-next : (old mid new : History) (jobs : List Job) (i : ℕ) (job : Job) → i < length jobs → job ≡ get_or jobs i job → ((given : Given) × GivesBack old mid job.ticket given)
     → GivesAll mid new (tickets_of (drop (i + 1) jobs)) → GivesAll old new (tickets_of (drop i jobs))
 gives-next old mid new jobs i job inside is step rest =
     subst (λ (js : List Job). GivesAll old new (tickets_of js)) (sym (drop_more jobs i job inside ∙ ap (λ (one : Job). one ∷ drop (i + 1) jobs) (sym is))) (mid, step, rest)

@@ -6,7 +6,7 @@ use Rattle.saw_messages.specs.TxShapes.{TxShape}
 use Rattle.saw_context.specs.Outcome.{Processors}
 use Rattle.saw_context.specs.declared.job.Ticket.{Ticket}
 use Rattle.saw_machine.specs.Laws.{IsQuiet}
-use Rattle.saw_schedule.specs.Histories.{Gives, History, IsReplay, RunsIn, start_of, state_of, txs_in}
+use Rattle.saw_schedule.specs.Histories.{GivesBack, History, IsReplay, RunsIn, start_of, state_of, txs_in}
 use Rattle.saw_schedule.specs.declared.ended.Given.{Given}
 use Rattle.saw_schedule.specs.declared.ended.Given.TheVariants as gifts
 use Rattle.saw_schedule.specs.declared.step.Step.{Step}
@@ -41,7 +41,7 @@ get-front [] ys k less = absurd (omega arith)
 get-front (x ∷ xs) ys zero less = refl
 get-front (x ∷ xs) ys (suc k) less = get-front xs ys k (omega arith)
 
-pub gave-one : (old new : History) (ticket : Ticket) (given : Given) → Gives old new ticket given → Gave old new
+pub gave-one : (old new : History) (ticket : Ticket) (given : Given) → GivesBack old new ticket given → Gave old new
 gave-one old new ticket gifts.Back gives = rw gives.0 (record {
   plan = refl;
   sound = λ p s. all-more (IsSoundStep p) old.steps (GiveBack ticket) s tt;
@@ -53,7 +53,7 @@ gave-one old new ticket gifts.Back gives = rw gives.0 (record {
 })
 gave-one old new ticket gifts.Stale gives = rw gives.0 (gave-none old)
 
-pub gave-ended : (old new : History) (ticket : Ticket) (given : Given) → Gives old new ticket given → RunsIn (state_of new) ticket → ⊥
+pub gave-ended : (old new : History) (ticket : Ticket) (given : Given) → GivesBack old new ticket given → RunsIn (state_of new) ticket → ⊥
 gave-ended old new ticket gifts.Back gives (task, runs) = (given-running old ticket ticket.index ticket.attempt task (rw gives.0 at runs)).1 refl
 gave-ended old new ticket gifts.Stale gives runs = gives.1 (rw gives.0 at runs)
 

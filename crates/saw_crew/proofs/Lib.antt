@@ -16,3 +16,4 @@ pub mod Ended
 pub mod InHand
 pub mod Apart
 pub mod Unoffered
+pub mod Told

@@ -5,7 +5,7 @@ use Rattle.saw_messages.specs.TxShapes.{TxShape}
 use Rattle.saw_messages.specs.declared.outcome.Outcome.{Outcome}
 use Rattle.saw_messages.specs.declared.outcome.Outcome.TheVariants as outcomes
 use Rattle.saw_context.specs.Outcome.{Processors, map_after}
-use Rattle.saw_context.specs.Possible.{GoesOn, MayComeFrom, MayComeOfBatch}
+use Rattle.saw_context.specs.Possible.{ThenOthers, MayComeFrom, MayComeOfBatch}
 use Rattle.saw_context.specs.Serial.{behind, failed_with, left_by}
 use Rattle.saw_context.specs.declared.batch_result.BatchResult.{BatchResult}
 use Rattle.saw_context.specs.declared.batch_result.BatchResult.TheVariants.{Applied, Failed}
@@ -23,7 +23,7 @@ module _ (processors : Processors) where
   fits-batch failed m [] result comes = rw comes (refl, tt)
   fits-batch failed m (tx ∷ txs) result (outcome, may, goes) = go outcome goes (λ n others comes. fits-batch failed n txs others comes)
     where
-      go : (outcome : Outcome) → GoesOn (λ n others. MayComeOfBatch processors failed n txs others) m outcome result
+      go : (outcome : Outcome) → ThenOthers (λ n others. MayComeOfBatch processors failed n txs others) m outcome result
           → ((n : StateMap) (others : BatchResult) → MayComeOfBatch processors failed n txs others → IsResultFor txs others)
           → IsResultFor (tx ∷ txs) result
       go (outcomes.Ok changes events) (others, comes, is) more =

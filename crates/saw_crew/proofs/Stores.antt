@@ -9,7 +9,7 @@ use Rattle.saw_context.specs.declared.job.Done.{Done}
 use Rattle.saw_context.specs.declared.job.Job.{Job}
 use Rattle.saw_context.specs.declared.job.Ticket.{Ticket}
 use Rattle.saw_machine.specs.Machine.{State, next}
-use Rattle.saw_schedule.specs.Histories.{Finishes, Gives, History, Takes, move_of}
+use Rattle.saw_schedule.specs.Histories.{Finishes, GivesBack, History, Takes, move_of}
 use Rattle.saw_schedule.specs.Laws.{AreTrueSteps, IsTrueStep}
 use Rattle.saw_schedule.specs.Orders.{order_of}
 use Rattle.saw_schedule.specs.declared.ended.Finished.{Finished}
@@ -29,7 +29,7 @@ module _ (processors : Processors) (old new : History) (sound : AllSound process
   take-sound None takes = rw takes.same sound
   take-sound (Some job) takes = rw takes.step (all-more (IsSoundStep processors) old.steps (Take job.ticket) sound tt)
 
-  pub given-sound : (ticket : Ticket) (given : Given) → Gives old new ticket given → AllSound processors new.steps
+  pub given-sound : (ticket : Ticket) (given : Given) → GivesBack old new ticket given → AllSound processors new.steps
   given-sound ticket gifts.Back gives = rw gives.0 (all-more (IsSoundStep processors) old.steps (GiveBack ticket) sound tt)
   given-sound ticket gifts.Stale gives = rw gives.0 sound
 

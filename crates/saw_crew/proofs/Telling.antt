@@ -1,4 +1,4 @@
--- The built-in processors tell their actions, and so does a remote that tells its own.
+-- The built-in processors are deterministic, and so is a remote that is said to be.
 use Rattle.std.proofs.Common.{◌≡◌, ℕ, Bool, true, false, List, [], ◌∷◌, refl}
 use Rattle.std.specs.Prelude.{is_some}
 use Rattle.saw_context.proofs.Coming.{from_told}
@@ -22,7 +22,7 @@ module _ (next : TxShape → List Turn → Action) (offers : List Offer) (family
   by_tests false true a b = rw (a, b) refl
   by_tests false false a b = rw (a, b) refl
 
--- with a remote that tells its actions, or none
+-- with a deterministic remote, or none
 pub all_families : (next : TxShape → List Turn → Action) (offers : List Offer) (family version : List ℕ)
     → (processors_at next true offers).tells family version ≡ true
 all_families next offers family version = by_tests next offers family version _ _ refl refl

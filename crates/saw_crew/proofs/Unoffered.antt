@@ -10,7 +10,7 @@ use Rattle.saw_messages.specs.declared.outcome.Reason.TheVariants.{BadDeclared, 
 use Rattle.saw_messages.specs.declared.talk.Action.{Action}
 use Rattle.saw_messages.specs.declared.talk.Turn.{Turn}
 use Rattle.saw_context.specs.Outcome.{are_declared, conversed, map_after, outcome_by}
-use Rattle.saw_context.specs.Possible.{GoesOn, MayCome, MayComeFrom, MayComeOfAll, MayComeOfBatch}
+use Rattle.saw_context.specs.Possible.{ThenOthers, MayCome, MayComeFrom, MayComeOfAll, MayComeOfBatch}
 use Rattle.saw_context.specs.Serial.{failed_with, left_by, names_one}
 use Rattle.saw_context.specs.SoundResults.{AnswersFor}
 use Rattle.saw_context.specs.declared.batch_result.BatchResult.{BatchResult}
@@ -73,10 +73,10 @@ module _ (next : TxShape → List Turn → Action) (tells : Bool) (offers : List
       let both = neither (tx_offered offers tx) (list_any (tx_offered offers) txs) none in
       (outcome, come tx both.0 m (names_one tx failed) outcome may, on outcome goes (λ n others. batch_comes failed n txs others both.1))
     where
-      on : (outcome : Outcome) → GoesOn (λ n others. MayComeOfBatch (processors_at next tells []) failed n txs others) m outcome result
+      on : (outcome : Outcome) → ThenOthers (λ n others. MayComeOfBatch (processors_at next tells []) failed n txs others) m outcome result
           → ((n : StateMap) (others : BatchResult) → MayComeOfBatch (processors_at next tells []) failed n txs others
           → MayComeOfBatch (processors_at next tells offers) failed n txs others)
-          → GoesOn (λ n others. MayComeOfBatch (processors_at next tells offers) failed n txs others) m outcome result
+          → ThenOthers (λ n others. MayComeOfBatch (processors_at next tells offers) failed n txs others) m outcome result
       on (outcomes.Ok changes events) (others, rest, is) more = (others, more (map_after m changes) others rest, is)
       on (outcomes.Invalid reason) is more = is
 

@@ -5,3 +5,4 @@ pub mod Failing
 pub mod Rounds
 pub mod Lanes
 pub mod Offered
+pub mod Laws

@@ -6,7 +6,7 @@ use Rattle.saw_context.specs.SoundResults.{IsSoundDone}
 use Rattle.saw_context.specs.declared.job.Done.{Done}
 use Rattle.saw_context.specs.declared.job.Job.{Job}
 use Rattle.saw_context.specs.declared.job.Ticket.{Ticket}
-use Rattle.saw_schedule.specs.Histories.{Finishes, Gives, History, RunsIn, state_of, order_in}
+use Rattle.saw_schedule.specs.Histories.{Finishes, GivesBack, History, RunsIn, state_of, order_in}
 use Rattle.saw_machine.specs.Machine.{IsReady}
 use Rattle.saw_schedule.specs.declared.ended.Finished.{Finished}
 use Rattle.saw_schedule.specs.declared.ended.Given.{Given}
@@ -77,7 +77,7 @@ FinishesAll old new (one ∷ more) =
 abbrev pub GivesAll : History → History → List Ticket → Type 0
 GivesAll old new [] = new ≡ old
 GivesAll old new (one ∷ more) =
-    (mid : History) × ((given : Given) × Gives old mid one given) × GivesAll mid new more
+    (mid : History) × ((given : Given) × GivesBack old mid one given) × GivesAll mid new more
 
 -- the results are those of the first of the jobs
 abbrev pub AreOfFirst : List Done → List Job → Type 0
@@ -110,7 +110,7 @@ pub record GivesQueue (old new : History) (views views' : List View) : Type 0 wh
 -- ---- the end of a round
 
 -- a worker that is well goes on: its results were stored
-pub record GoesOn (well : Bool) (old new : History) (views views' : List View) (jobs : List Job) (done : List Done) : Type 0 where
+pub record WorksOn (well : Bool) (old new : History) (views views' : List View) (jobs : List Job) (done : List Done) : Type 0 where
   pub is_well : well ≡ true
   pub stores : StoresAll old new jobs done
   pub seat : views' ≡ views

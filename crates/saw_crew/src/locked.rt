@@ -4,12 +4,12 @@ ghost use Rattle.std.specs.Prelude.{◌≡◌, ◌<◌, ◌≤◌, ◌⊎◌, []
 ghost use Rattle.std.specs.Arc.{arc_value};
 ghost use Rattle.std.specs.List.{AllByRecursion};
 ghost use Rattle.saw_context.specs.SoundResults.{IsSoundDone};
-ghost use Rattle.saw_schedule.specs.Histories.{Finishes, Gives, Takes};
+ghost use Rattle.saw_schedule.specs.Histories.{Finishes, GivesBack, Takes};
 ghost use Rattle.saw_schedule.specs.declared.ended.Finished.{Finished};
 ghost use Rattle.saw_schedule.specs.declared.ended.Given.{Given};
 ghost use Rattle.saw_tickets.specs.Seats.{views_of};
 ghost use Rattle.saw_tickets.specs.TicketHistory.{MayBeEmpty, knows};
-ghost use Rattle.saw_crew.specs.Rounds.{AreOfFirst, ClaimsOne, EndsWorker, FinishesAll, GivesAll, GivesQueue, GoesOn, NoneIsReady, NoneRuns, StoresAll, TakesMore, TakesSome, tickets_of};
+ghost use Rattle.saw_crew.specs.Rounds.{AreOfFirst, ClaimsOne, EndsWorker, FinishesAll, GivesAll, GivesQueue, WorksOn, NoneIsReady, NoneRuns, StoresAll, TakesMore, TakesSome, tickets_of};
 ghost use Rattle.saw_crew.specs.Stored.{AllSound};
 ghost use Rattle.saw_station.specs.Serving.{processors_at};
 
@@ -149,7 +149,7 @@ impl<R: Station> Locked<R> {
     }
 
     fn give_back(&mut self, ticket: Ticket)
-        ensures given { (given : Given) × Gives self.old.history self.new.history ticket given }
+        ensures given { (given : Given) × GivesBack self.old.history self.new.history ticket given }
         ensures offers { self.new.offers ≡ self.old.offers }
     {
         self.running = self.running.saturating_sub(1);
@@ -210,7 +210,7 @@ impl<R: Station> Locked<R> {
     ) -> bool
         requires sound { AllByRecursion (IsSoundDone (processors_at R.next R.tells offers.now)) done.items }
         requires first { AreOfFirst done.items jobs.now }
-        ensures yes { result ≡ true → GoesOn well self.old.history self.new.history (views_of seat.old) (views_of seat.new) jobs.now done.items }
+        ensures yes { result ≡ true → WorksOn well self.old.history self.new.history (views_of seat.old) (views_of seat.new) jobs.now done.items }
         ensures no { result ≡ false → EndsWorker self.old.history self.new.history (views_of seat.old) (views_of seat.new) jobs.now done.items }
         ensures empty { result ≡ false → MayBeEmpty (slice_index_or (views_of seat.new) 0 (knows [] [])) }
         ensures ended { NoneRuns self.new.history (tickets_of jobs.now) }

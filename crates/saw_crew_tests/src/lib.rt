@@ -10,6 +10,8 @@ mod copies;
 #[cfg(test)]
 mod lanes;
 #[cfg(test)]
+mod laws;
+#[cfg(test)]
 mod meeting;
 #[cfg(test)]
 mod meets;

@@ -78,14 +78,14 @@ module _ (rules : Rules) (old : Ledger) (content : List ℕ) (kept : Kept) (fine
   pub says_full : length old.blocks ≡ old.limit → IsFull rules old content
   says_full full = record { kept = kept; fine = fine; full = full }
 
--- ---- clashes
+-- ---- hash collisions
 
 module _ (processors : Processors) (hash : List ℕ → List ℕ) (accepts : List ℕ → List ℕ → List ℕ → Bool) (policy : Policy) (old : Ledger)
     (content : List ℕ) where
   abbrev AsClashes : JournalFault → Type 0
   AsClashes = ClashesAs processors hash accepts policy old content
 
-  -- the clash that ended the judgement
+  -- the hash collision that ended the judgement
   pub clashes_judged : (fault : JournalFault) → JudgedAs processors hash accepts policy old.blocks old.states content (Err (Failed fault)) → AsClashes fault
   clashes_judged (faults.Collision kept given) met = met
   clashes_judged faults.Full met = tt

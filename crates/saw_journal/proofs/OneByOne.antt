@@ -11,14 +11,14 @@ use Rattle.saw_schedule.specs.BatchResults.{first_failure}
 
 module _ (processors : Processors) where
   -- where none failed, more batches are run over what was left
-  abbrev GoesOn : List (List TxShape) → List (List TxShape) → ℕ → List TxShape → StateMap → Type 0
-  GoesOn a b k failed m =
+  abbrev RunsInTwo : List (List TxShape) → List (List TxShape) → ℕ → List TxShape → StateMap → Type 0
+  RunsInTwo a b k failed m =
       let first = serial_from processors failed m a in
       first_failure k first ≡ None → serial_from processors failed m (a ++ b) ≡ first ++ serial_from processors failed (left_after m first) b
 
   -- the first of them has this result, and the others are run where it left the map
   first_done : (txs : List TxShape) (a b : List (List TxShape)) (k : ℕ) (failed : List TxShape) (m : StateMap) (result : BatchResult)
-      → ((k : ℕ) (failed : List TxShape) (m : StateMap) → GoesOn a b k failed m)
+      → ((k : ℕ) (failed : List TxShape) (m : StateMap) → RunsInTwo a b k failed m)
       → let first = result ∷ serial_from processors (failed_with failed txs result) (left_by m result) a in
       first_failure k first ≡ None
       → (result ∷ serial_from processors (failed_with failed txs result) (left_by m result) (a ++ b)) ≡ first ++ serial_from processors failed
@@ -27,7 +27,7 @@ module _ (processors : Processors) where
       ap (λ results. Applied outcomes ∷ results) (others (k + 1) failed (left_by m (Applied outcomes)) none)
   first_done txs a b k failed m (Failed t reason) others none = absurd (grind (arith, none))
 
-  serial-append : (a b : List (List TxShape)) (k : ℕ) (failed : List TxShape) (m : StateMap) → GoesOn a b k failed m
+  serial-append : (a b : List (List TxShape)) (k : ℕ) (failed : List TxShape) (m : StateMap) → RunsInTwo a b k failed m
   serial-append [] b k failed m none = refl
   serial-append (txs ∷ a) b k failed m none = first_done txs a b k failed m (batch_result processors failed m txs) (serial-append a b) none
 

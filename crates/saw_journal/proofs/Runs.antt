@@ -67,7 +67,7 @@ module _ (processors : Processors) (hash : List ℕ → List ℕ) (states : Stat
 
   module _ (none : failure_fault results ≡ None) (changes : List Change)
       (left : map_after (map_at states before) changes ≡ left_after (map_at states before) results) where
-    -- the state prepared nothing: two nodes clash, unless memory ran out
+    -- the state prepared nothing: two nodes collide, unless memory ran out
     pub not_prepared : (fault : StoreFault) → IsClashFor hash states (map_after (map_at states before) changes) fault
         → Answers (Err (Failed (fault_of_store fault)))
     not_prepared (Collision kept given) clash =

@@ -1,4 +1,4 @@
--- Of a block that goes to processors which tell their actions one thing is said.
+-- Of a block that goes to deterministic processors one thing is said.
 use Rattle.std.proofs.Common.{◌≡◌, ℕ, Bool, true, List, [], Option, Some, None, Result, Ok, Err, refl, sym, ap, ◌∙◌}
 use Rattle.saw_address.specs.Maps.{StateMap}
 use Rattle.saw_checks.specs.StructureFaults.{structure_fault}
@@ -12,6 +12,7 @@ use Rattle.saw_messages.specs.Blocks.{block, block_header}
 use Rattle.saw_messages.specs.TxShapes.{TxShape}
 use Rattle.saw_messages.specs.declared.block.Block.{Block}
 use Rattle.saw_messages.specs.declared.block.BlockHeader.{BlockHeader}
+use Rattle.saw_node.specs.Contents.{Node}
 use Rattle.saw_plan.specs.BatchShapes.{txs_of}
 use Rattle.saw_receipts.specs.Running.{Runs, RunsBy}
 use Rattle.saw_receipts.specs.Telling.{tell_batches, tell_block, tell_read}
@@ -22,9 +23,11 @@ use Rattle.saw_rules.specs.Policies.{Policy}
 use Rattle.saw_wire.specs.declared.fault.MessageFault.{MessageFault}
 use Rattle.saw_journal.specs.BlockFaults.{fault_but_root, parent_of}
 use Rattle.saw_journal.specs.BlockShapes.{Parts, parts_of}
+use Rattle.saw_journal.specs.Clashing.{Clashes}
 use Rattle.saw_journal.specs.Judgement.{judged, judged_block, judged_header, judged_parts, judged_unless, judged_with, left_block, left_header, left_parts, left_unless, rules_by, some_unless, would_leave}
-use Rattle.saw_journal.specs.Laws.{ToldIsSaidSerially}
-use Rattle.saw_journal.specs.Ledger.{Says, judged_in, map_under}
+use Rattle.saw_journal.specs.Laws.{ToldIsAnsweredSerially, ToldIsSaidSerially}
+use Rattle.saw_journal.specs.Ledger.{IsFull, Ledger, Says, judged_in, map_under}
+use Rattle.saw_journal.specs.declared.fault.JournalFault.TheVariants as faults
 
 module _ (processors : Processors) (runs : Runs) (by : RunsBy processors runs) where
   abbrev serially : Runs
@@ -103,3 +106,35 @@ told_is_said hash accepts policy processors runs old new content verdict by told
     to Committed says = record { kept = says.kept; fine = sym here ∙ says.fine; room = says.room; head = says.head; grown_by = says.grown_by }
     to Stored says = record { kept = says.kept; fine = sym here ∙ says.fine; room = says.room; head = says.head; grown_by = says.grown_by }
     to (Refused fault) says = (sym here ∙ says.0, says.1)
+
+-- the same of no room, and of two nodes that collide
+module _ (hash : List ℕ → List ℕ) (accepts : List ℕ → List ℕ → List ℕ → Bool) (policy : Policy) (processors : Processors) (runs : Runs)
+    (by : RunsBy processors runs) (old : Ledger) (content : List ℕ) (told : tell_block processors content ≡ true) where
+  told_is_full : IsFull (rules_by hash accepts policy runs) old content
+      → IsFull (rules_by hash accepts policy (λ m batches. serial processors m batches)) old content
+  told_is_full full = record {
+    kept = full.kept;
+    fine = sym (judged_told processors runs by hash accepts policy (map_under old.states) old.blocks content told) ∙ full.fine;
+    full = full.full;
+  }
+
+  told_clashes : (kept given : Node) → Clashes (rules_by hash accepts policy runs) old.states old.blocks content kept given
+      → Clashes (rules_by hash accepts policy (λ m batches. serial processors m batches)) old.states old.blocks content kept given
+  told_clashes kept given met = record {
+    left = met.left;
+    left_is = sym (left_told processors runs by hash accepts policy (map_under old.states) old.blocks content told) ∙ met.left_is;
+    clash = met.clash;
+  }
+
+module _ {R : Type 0} (faults_of : R → ℕ) where
+  -- the answer of a call with the clauses of `accept`
+  pub told_is_answered : ToldIsAnsweredSerially faults_of
+  told_is_answered hash accepts policy processors old new content before after (Ok verdict) told says full clash cause none =
+      told_is_said hash accepts policy processors says.0 old new content verdict says.1 told says.2
+  told_is_answered hash accepts policy processors old new content before after (Err faults.Full) told says full clash cause none =
+      let found = full refl in told_is_full hash accepts policy processors found.0 found.1 old content told found.2
+  told_is_answered hash accepts policy processors old new content before after (Err (faults.Collision kept given)) told says full clash cause none =
+      told_clashes hash accepts policy processors clash.0 clash.1 old content told kept given clash.2
+  told_is_answered hash accepts policy processors old new content before after (Err faults.PeerFailed) told says full clash cause none =
+      none (cause refl)
+  told_is_answered hash accepts policy processors old new content before after (Err faults.OutOfMemory) told says full clash cause none = tt

@@ -15,14 +15,14 @@ use Rattle.saw_receipts.specs.Running.{RunsBy}
 use Rattle.saw_journal.specs.declared.fault.JournalFault.{JournalFault}
 use Rattle.saw_journal.specs.declared.fault.JournalFault.TheVariants as faults
 
--- a clash that was met: a node of the map that a block would leave, and one of that map or of a known root's
+-- a hash collision that was met: a node of the map that a block would leave, and one of that map or of a known root's
 pub record Clashes (rules : Rules) (states : States) (blocks : List BlockRecord) (content : List ℕ)
     (kept given : Node) : Type 0 where
   pub left : StateMap
   pub left_is : would_leave rules (map_under states) blocks content ≡ Some left
   pub clash : IsClashFor rules.hash states left (Collision kept given)
 
--- what a fault of a call says of nodes: where it tells two, they clash, by some way to run the block's batches
+-- what a fault of a call says of nodes: where it tells two, they collide, by some way to run the block's batches
 abbrev pub ClashesAs : Processors → (List ℕ → List ℕ) → (List ℕ → List ℕ → List ℕ → Bool) → Policy → Ledger → List ℕ
     → JournalFault → Type 0
 ClashesAs processors hash accepts policy old content (faults.Collision kept given) =

@@ -7,8 +7,8 @@ pub mod Judgement
 pub mod Linked
 pub mod Left
 pub mod Ledger
-pub mod Laws
 pub mod Clashing
+pub mod Laws
 pub mod KnownBranches
 pub mod Passing
 pub mod Standing

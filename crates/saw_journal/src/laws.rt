@@ -1,9 +1,11 @@
 //! Laws of branches, of what a block leaves, of its tests and of what is said of it.
 
-ghost use Rattle.saw_journal.specs.Laws.{ToldIsSaidSerially};
+ghost use Rattle.saw_journal.specs.Laws.{ToldIsAnsweredSerially, ToldIsSaidSerially};
 ghost use Rattle.saw_journal.specs.Left.{KeptIsLeft};
 ghost use Rattle.saw_journal.specs.Numbered.{FaultsHaveNumbers};
 ghost use Rattle.saw_journal.specs.Linked.{BranchIsChain, KeptBranchIs};
+
+use saw_station::Station;
 
 /// The branch of an accepted block is the one chain by previous ids that ends with it.
 pub fn branch_is_chain()
@@ -25,8 +27,14 @@ pub fn faults_have_numbers()
     ensures { FaultsHaveNumbers }
 {}
 
-/// Of a block that goes to processors which tell their actions, what is said is what is said of it where its batches are run
+/// Of a block that goes to deterministic processors, what is said is what is said of it where its batches are run
 /// one after another.
 pub fn told_is_said_serially()
     ensures { ToldIsSaidSerially }
+{}
+
+/// Where a block goes to deterministic processors and no count of a processor rose, `accept` gives the answer to it
+/// where its batches are run one after another, or memory was refused.
+pub fn told_is_answered_serially<R: Station>()
+    ensures { ToldIsAnsweredSerially R.faults }
 {}

@@ -19,5 +19,6 @@ pub use fault::JournalFault;
 pub use head::choose;
 pub use journal::Journal;
 pub use laws::{
-    branch_is_chain, faults_have_numbers, kept_branch_is, kept_is_left, told_is_said_serially,
+    branch_is_chain, faults_have_numbers, kept_branch_is, kept_is_left, told_is_answered_serially,
+    told_is_said_serially,
 };

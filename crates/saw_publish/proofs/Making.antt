@@ -90,7 +90,7 @@ module _ (hash : List ℕ → List ℕ) (policy : rules.Policy) (signing : Signi
     made_refused placed e fault (inr told) =
         subst Told (sym told.1) (some_applied some, found_in ∙ e, told.2 ∙ ap (losses_from 0) is.fates)
 
-    -- two nodes clash, of which one is of the map that those that are leave
+    -- two nodes collide, of which one is of the map that those that are leave
     pub made_clash : found ≡ None → (fault : StoreFault) → IsClashFor hash states (map_after before ran.changes) fault → Told (fault_of_store fault)
     made_clash fine (stores.Collision kept given) clash =
         (some_applied some, found_in ∙ fine, subst (λ (m : StateMap). IsClashFor hash states m (stores.Collision kept given)) is.left clash)

@@ -1,4 +1,4 @@
--- Where transactions go to processors that tell their actions there is one candidate.
+-- Where transactions go to deterministic processors there is one candidate.
 use Rattle.std.proofs.Common.{◌≡◌, ℕ, Bool, true, List, [], ◌∷◌, map, Some, None, refl, ap, subst}
 use Rattle.std.proofs.lemmas.Bool.{and_from, and_parts}
 use Rattle.saw_address.specs.Maps.{StateMap}
@@ -16,7 +16,7 @@ use Rattle.saw_rules.specs.Policies.{Policy}
 use Rattle.saw_publish.specs.Building.{Answers, map_before}
 use Rattle.saw_publish.specs.Drafts.{Draft, check_fates, draft_of, draft_of_results, judged_fates, of_all, static_fates}
 use Rattle.saw_publish.specs.Fates.{Fates, still_in}
-use Rattle.saw_publish.specs.Laws.{ToldIsBuiltSerially}
+use Rattle.saw_publish.specs.Laws.{ToldIsBuiltOrStarves, ToldIsBuiltSerially}
 use Rattle.saw_publish.specs.Room.{room_fates}
 
 still_told : (processors : Processors) (fates : Fates) (batches : List Batch) → tell_batches processors batches ≡ true
@@ -56,3 +56,11 @@ told_is_built hash policy signing states parent processors accepts there batches
     let before = map_before states parent in
     subst (λ (draft : Draft). Answers hash policy signing states parent before draft result)
     (draft_told processors built.0 built.1 accepts policy signing.key before there batches told) built.2
+
+module _ {R : Type 0} (faults : R → ℕ) where
+  -- the answer of a call with the clauses of `build`
+  pub told_is_built_or_starves : ToldIsBuiltOrStarves faults
+  told_is_built_or_starves hash policy signing states parent processors accepts there batches old new result told built cause none = (
+    told_is_built hash policy signing states parent processors accepts there batches result told built,
+    λ failed. none (cause failed),
+  )

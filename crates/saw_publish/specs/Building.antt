@@ -34,9 +34,9 @@ abbrev pub block_fault : Policy → List ℕ → StateMap → Draft → Option P
 block_fault policy signer before draft = first_fault policy.fault policy.end_fault before signer (map batch_in draft.applied)
 
 module _ (hash : List ℕ → List ℕ) (policy : Policy) (signing : Signing) (states : States) (parent : Option Parent) where
-  -- What is answered with this draft over this map. Where no batch is applied: that none is, with all losses. Else, where the
-  -- policy refuses the block: its fault, with all losses. Else the block, or two nodes that clash, of which one is of the map
-  -- that it leaves.
+  -- What is answered with this draft over this map. Where no batch is applied: that none is, with all rejected batches.
+  -- Else, where the policy refuses the block: its fault, with all rejected batches. Else the block, or two nodes that
+  -- collide, of which one is of the map that it leaves.
   abbrev pub Answers : StateMap → Draft → Result Candidate PublishFault → Type 0
   Answers before draft (Ok made) =
       (0 < length draft.applied) × (block_fault policy signing.key before draft ≡ None)

@@ -21,7 +21,7 @@ further (Some cause ∷ fates) more = Some cause ∷ further fates more
 further (None ∷ fates) [] = None ∷ further fates []
 further (None ∷ fates) (fate ∷ more) = fate ∷ further fates more
 
--- the losses of batches, of which the first has this place
+-- the rejected ones of batches, of which the first has this place
 abbrev pub losses_from : ℕ → Fates → List Loss
 losses_from place [] = []
 losses_from place (None ∷ fates) = losses_from (place + 1) fates

@@ -1,11 +1,12 @@
 -- What is true of candidates.
-use Rattle.std.specs.Prelude.{◌≡◌, ◌<◌, ◌+◌, ◌^◌, ℕ, Bool, true, List, [], map, Option, None, Result, Ok, IfSome}
+use Rattle.std.specs.Prelude.{◌≡◌, ◌≢◌, ◌<◌, ◌+◌, ◌^◌, ℕ, Bool, true, List, [], map, Option, None, Result, Ok, Err, IfSome, IsErrOf}
 use Rattle.std.specs.List.{AllByRecursion}
 use Rattle.saw_address.specs.Maps.{StateMap}
 use Rattle.saw_address.specs.Texts.{is_hex_text}
 use Rattle.saw_checks.specs.StructureFaults.{structure_fault}
 use Rattle.saw_context.specs.Outcome.{Processors}
 use Rattle.saw_context.specs.Serial.{left_after, serial}
+use Rattle.saw_crew.specs.Desks.{Failed}
 use Rattle.saw_merkle.specs.States.{States}
 use Rattle.saw_messages.specs.Blocks.{block, block_header, block_header_pieces}
 use Rattle.saw_messages.specs.ReadBack.{IsBatch}
@@ -21,20 +22,22 @@ use Rattle.saw_receipts.specs.Telling.{tell_batches}
 use Rattle.saw_receipts.specs.declared.block.Parent.{Parent}
 use Rattle.saw_rules.specs.Policies.{Policy}
 use Rattle.saw_schedule.specs.BatchResults.{first_failure}
+use Rattle.saw_station.specs.DeskPlaces.{Place}
 use Rattle.saw_wire.specs.Writing.{spelled}
 use Rattle.saw_publish.specs.Building.{Answers, Builds, map_before}
 use Rattle.saw_publish.specs.Candidates.{Signing, block_of, content_of, header_of}
 use Rattle.saw_publish.specs.Drafts.{Draft, draft_of}
 use Rattle.saw_publish.specs.declared.candidate.Candidate.{Candidate}
 use Rattle.saw_publish.specs.declared.fault.PublishFault.{PublishFault}
+use Rattle.saw_publish.specs.declared.fault.PublishFault.TheVariants.{PeerFailed}
 
 -- the bytes of the header of a draft's block
 abbrev pub header_bytes : (List ℕ → List ℕ) → Signing → Option Parent → Draft → List ℕ
 header_bytes hash signing parent draft =
     spelled (block_header_pieces (header_of signing.key parent draft.applied (root_of_map hash draft.left)))
 
--- A draft whose block may be signed: who signs has a key and signatures of the right form, and is vouched for; and the number
--- behind the parent's fits.
+-- A draft whose block may be signed: who signs has a key and signatures of the right form, and is vouched for; and the
+-- number behind the parent's fits.
 pub record IsSignable (hash : List ℕ → List ℕ) (accepts : List ℕ → List ℕ → List ℕ → Bool) (signing : Signing) (parent : Option Parent)
     (draft : Draft) : Type 0 where
   pub hashes : (bytes : List ℕ) → IsHash (hash bytes)
@@ -71,7 +74,7 @@ AppliedApplyAgain =
     × (first_failure 0 (serial processors before (txs_of shapes)) ≡ None)
     × (left_after before (serial processors before (txs_of shapes)) ≡ draft.left))
 
--- Of batches that go to processors which tell their actions, what is built is the candidate of running them one after another.
+-- Of batches that go to deterministic processors, what is built is the candidate of running them one after another.
 abbrev pub ToldIsBuiltSerially : Type 0
 ToldIsBuiltSerially =
     (hash : List ℕ → List ℕ) (policy : Policy) (signing : Signing) (states : States) (parent : Option Parent) (processors : Processors)
@@ -80,3 +83,17 @@ ToldIsBuiltSerially =
     → (let before = map_before states parent in
     Answers hash policy signing states parent before
     (draft_of accepts policy signing.key (λ m others. serial processors m others) before there batches) result)
+
+module _ {R : Type 0} (faults : R → ℕ) where
+  -- Where batches go to deterministic processors and no count of a processor rose, a call with the clauses of `build`
+  -- gives the answer with the draft of running them one after another, or memory was refused.
+  abbrev pub ToldIsBuiltOrStarves : Type 0
+  ToldIsBuiltOrStarves =
+      (hash : List ℕ → List ℕ) (policy : Policy) (signing : Signing) (states : States) (parent : Option Parent) (processors : Processors)
+      (accepts : List ℕ → List ℕ → List ℕ → Bool) (there : Ids) (batches : List Batch) (old new : List (Place R))
+      (result : Result Candidate PublishFault)
+      → tell_batches processors batches ≡ true → Builds hash policy signing states parent processors accepts there batches result
+      → (IsErrOf result PeerFailed → Failed faults old new) → (Failed faults old new → ⊥)
+      → (let before = map_before states parent in
+      Answers hash policy signing states parent before
+      (draft_of accepts policy signing.key (λ m others. serial processors m others) before there batches) result) × (result ≢ Err PeerFailed)

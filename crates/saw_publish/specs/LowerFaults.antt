@@ -11,7 +11,7 @@ abbrev pub fault_of_crew : CrewFault → PublishFault
 fault_of_crew crew.PeerFailed = PeerFailed
 fault_of_crew crew.OutOfMemory = OutOfMemory
 
--- a fault of the state: two nodes that clash are kept
+-- a fault of the state: two nodes that collide are kept
 abbrev pub fault_of_store : StoreFault → PublishFault
 fault_of_store (stores.Collision kept given) = Collision kept given
 fault_of_store stores.OutOfMemory = OutOfMemory

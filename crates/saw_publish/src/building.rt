@@ -173,13 +173,13 @@ fn make<P: BlockPolicy, H: NodeHasher, T: Threads + Wait + Sync, G: Signer>(
     })
 }
 
-/// Builds the next block behind a parent from the batches of a list: those without fault that find room, that the policy
-/// lets pass, that the static rules keep against the ids that are there, and that are applied, one after another, over the
-/// parent's map. The others are told as losses, in the order of the list.
+/// Builds the next block behind a parent from the batches of a list: those without fault that find room, that the
+/// policy lets pass, that the static rules keep against the ids that are there, and that are applied, one after
+/// another, over the parent's map. The others are told as rejected batches, in the order of the list.
 ///
-/// `NothingValid` comes exactly where no batch is applied, and else `Policy` exactly where the policy finds a fault in the
-/// applied batches as a block by this signer over the parent's map. `Collision` may come in place of a candidate. The desks keep
-/// their offers and their remotes.
+/// `NothingValid` comes exactly where no batch is applied, and else `Policy` exactly where the policy finds a fault in
+/// the applied batches as a block by this signer over the parent's map. `Collision` may come in place of a candidate.
+/// The desks keep their offers and their remotes.
 pub fn build<
     P: BlockPolicy,
     H: NodeHasher,

@@ -42,7 +42,7 @@ pub(crate) fn merged(
     Ok(all)
 }
 
-/// The losses, by their places in the list.
+/// The rejected batches, by their places in the list.
 pub(crate) fn losses(alloc: Global, fates: Items<Fate>) -> Result<Items<Loss>, AllocError>
     requires { length fates < 2 ^ 32 }
     ensures { IfOk result (λ losses. losses ≡ losses_from 0 fates) }

@@ -20,8 +20,8 @@ pub enum PublishFault {
     NothingValid {
         dropped: Items<Loss>,
     },
-    /// The policy refuses the applied batches as a block: the batch at `k` of them has this fault, or, where `k` is their
-    /// number, all together. The losses are in the order of the list.
+    /// The policy refuses the applied batches as a block: the batch at `k` of them has this fault, or, where `k` is
+    /// their number, all together. The rejected batches are in the order of the list.
     #[error("the policy refuses the block")]
     Policy {
         k: u32,

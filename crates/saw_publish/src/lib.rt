@@ -16,4 +16,6 @@ pub use block::header_of;
 pub use building::build;
 pub use candidate::Candidate;
 pub use fault::PublishFault;
-pub use laws::{applied_apply_again, candidate_is_good, told_is_built_serially};
+pub use laws::{
+    applied_apply_again, candidate_is_good, told_is_built_or_starves, told_is_built_serially,
+};

@@ -112,4 +112,5 @@ fn laws_of_candidates(_rt: HostRuntime) {
     saw_publish::candidate_is_good();
     saw_publish::applied_apply_again();
     saw_publish::told_is_built_serially();
+    saw_publish::told_is_built_or_starves::<NoStation>();
 }
