@@ -5,3 +5,4 @@ pub mod Snapshots
 pub mod Replies
 pub mod Faults
 pub mod Serving
+pub mod Cells

@@ -40,7 +40,8 @@ abbrev pub bytes_in : Result (List ℕ) FromHexError → List ℕ
 bytes_in (Ok bytes) = bytes
 bytes_in (Err fault) = []
 
--- a reader at one moment: what is unread of its source, what was written to its sink, and the heads that its pass has seen
+-- a reader at one moment: what is unread of its source, what was written to its sink, and the heads that its pass has
+-- seen
 pub record Moment : Type 0 where
   pub unread : Option (List ℕ)
   pub written : Option (List ℕ)
@@ -50,7 +51,8 @@ abbrev pub moment : Option (List ℕ) → Option (List ℕ) → List Head → Mo
 moment unread written heads = record { unread = unread; written = written; heads = heads }
 
 module _ (hash : List ℕ → List ℕ) where
-  -- A question is answered by the text of a reply, for which more heads may be seen than before; another frame is refused.
+  -- A question is answered by the text of a reply, for which more heads may be seen than before; another frame is
+  -- refused.
   abbrev pub IsAnswerBy : Bool → List Head → List Head → List ℕ → List ℕ → Type 0
   IsAnswerBy true before after question text =
       (reply : LiveReply) × Tells hash (bytes_in (decode_of question)) after reply × StartsWith after before × (text ≡ reply_text reply)
@@ -93,7 +95,8 @@ module _ (hash : List ℕ → List ℕ) where
     pub count_is : count ≡ length questions
     pub done : IfSome old.unread (λ bytes. IsAtEnd new.unread) ⊎ (count ≡ max_answers)
 
-  -- A fault of the bytes is the one that they have. Else one more question may be taken, and a front of an answer written.
+  -- A fault of the bytes is the one that they have. Else one more question may be taken, and a prefix of an answer
+  -- written.
   abbrev pub IsFault : Moment → Moment → ReaderFault → Type 0
   IsFault old new readers.Cut =
       IfSome old.unread (λ bytes. (have : ℕ) × (want : ℕ) × (frame_at max_question bytes ≡ Err (Truncated have want)))

@@ -2,6 +2,7 @@
 
 ghost use Rattle.std.specs.Prelude.{◌≡◌, List, map, IfOk, IfSome};
 ghost use Rattle.crossbeam_utils.specs.Seq.{cell_view};
+ghost use Rattle.saw_live.specs.Cells.{leads_to, own_cell};
 ghost use Rattle.saw_live.specs.Heads.{Ends, Looks, StartsWith};
 ghost use Rattle.saw_live.specs.Passes.{IsSame, history};
 ghost use Rattle.saw_live.specs.Replies.{Tells};
@@ -45,7 +46,8 @@ fn told<H: NodeHasher>(
 }
 
 impl<H: NodeHasher> Live<H> {
-    /// What the last head's state has at an address, or that there is no head yet. The lock is held for the copy of a pointer.
+    /// What the last head's state has at an address, or that there is no head yet. The lock is held for the copy of a
+    /// pointer.
     pub fn ask<R: Wait>(
         &self,
         rt: &R,
@@ -53,8 +55,8 @@ impl<H: NodeHasher> Live<H> {
         pass: &mut LivePass,
         at: &Address,
     ) -> Result<LiveReply, AllocError>
-        requires { pass.old.pass.table_id ≡ self.now.cell.table.shared.table_id }
-        ensures cell { pass.new.pass.table_id ≡ pass.old.pass.table_id }
+        requires { leads_to pass.old ≡ own_cell self.now }
+        ensures cell { leads_to pass.new ≡ leads_to pass.old }
         ensures later { StartsWith (history pass.new) (history pass.old) }
         ensures same { IsSame pass.old pass.new }
         ensures tells { IfOk result (Tells H.hash_of at.now (history pass.new)) }
@@ -74,7 +76,7 @@ impl<H: NodeHasher> Live<H> {
         rt: &R,
         pass: &mut HeadPass,
     ) -> Result<([u64; 13], Arc<Snapshot<H>>), AllocError>
-        requires { pass.old.table_id ≡ self.now.cell.table.shared.table_id }
+        requires { pass.old.table_id ≡ own_cell self.now }
         ensures cell { pass.new.table_id ≡ pass.old.table_id }
         ensures later { StartsWith (cell_view pass.new).seen (cell_view pass.old).seen }
         ensures same { (cell_view pass.new).publishes ≡ (cell_view pass.old).publishes }

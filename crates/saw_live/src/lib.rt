@@ -7,6 +7,7 @@ mod pass;
 mod publish;
 mod reader;
 mod reply;
+mod retire;
 mod rule;
 mod serving;
 mod snapshot;

@@ -32,7 +32,8 @@ pub struct LiveParts<H: NodeHasher> {
     pub passes: Vec<LivePass>,
 }
 
-fn empty_root<H: NodeHasher>(alloc: Global) -> Result<NodeHash, AllocError>
+/// The root of the state of nothing.
+pub(crate) fn empty_root<H: NodeHasher>(alloc: Global) -> Result<NodeHash, AllocError>
     ensures { IfOk result (λ root. root ≡ root_of_map H.hash_of no_entries) }
 {
     let nothing = BTreeMap::new(alloc);
@@ -93,12 +94,14 @@ fn with_readers(
 }
 
 impl<H: NodeHasher> Live<H> {
+    ghost use Rattle.saw_live.specs.Cells.{leads_to, own_cell};
+
     /// No head, and so many passes. The first is the one that publishes.
     pub fn new(alloc: Global, passes: u32) -> Result<LiveParts<H>, AllocError>
         requires { 1 ≤ passes }
         ensures views { IfOk result (λ parts. map view_of parts.passes.items ≡ fresh_views passes) }
         ensures cell { IfOk result (λ parts.
-            AllByRecursion (λ pass. pass.pass.table_id ≡ parts.live.cell.table.shared.table_id) parts.passes.items) }
+            AllByRecursion (λ pass. leads_to pass ≡ own_cell parts.live) parts.passes.items) }
         ensures fresh { IfOk result (λ parts. AllByRecursion (IsFresh H.hash_of) parts.passes.items) }
     {
         let (cell, pass) = HeadCell::ruled(alloc, [0; 13])?;

@@ -1,6 +1,6 @@
 //! The rule of the cell: it shows the last of the heads, and each pass knows a beginning of their list.
 
-use atomic_table::Split;
+use atomic_table::{Join, Split};
 use crossbeam_utils::atomic::seq_cell::{Pass, RuledSeqCell};
 use crossbeam_utils::rule::{Outcome, Protocol};
 use std::collections::LinkedList;
@@ -19,6 +19,8 @@ pub struct Known {
     /// Whether it alone adds to the list.
     pub publishes: bool,
     pub seen: LinkedList<HeadWords>,
+    /// What passes had seen that ended in this one.
+    pub met: LinkedList<LinkedList<HeadWords>>,
 }
 
 /// The list of heads.
@@ -26,9 +28,9 @@ pub struct HeadList;
 
 impl Protocol<[u64; 13], Known> for HeadList {
     ghost use Rattle.std.specs.Prelude.{true, []};
-    ghost use Rattle.saw_live.specs.Heads.{Shows, knows};
+    ghost use Rattle.saw_live.specs.Heads.{ShowsLastHead, knows};
 
-    ghost holds = { Shows };
+    ghost holds = { ShowsLastHead };
 
     ghost first = { knows true [] };
 }
@@ -61,6 +63,18 @@ impl Split<Known> for Reader {
     ghost left = { λ v. v };
 
     ghost right = { λ v. knows false v.seen };
+}
+
+/// The end of a pass in another, which keeps what it had seen.
+pub struct Retire;
+
+impl Join<Known> for Retire {
+    ghost use Rattle.std.specs.Prelude.{false, [], ◌∷◌};
+    ghost use Rattle.saw_live.specs.Heads.{knows};
+
+    ghost both = { λ v w. record v { met = w.seen ∷ v.met } };
+
+    ghost spent = { knows false [] };
 }
 
 /// How many heads there were, and the last one.

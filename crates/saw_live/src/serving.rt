@@ -4,6 +4,7 @@ ghost use Rattle.std.specs.Prelude.{◌≡◌, ◌≤◌, ◌⊎◌, IfErr, IfOk
 ghost use Rattle.std.specs.List.{list_all};
 ghost use Rattle.saw_address.specs.Texts.{is_address_text, is_hex_digit};
 ghost use Rattle.saw_faults.specs.Counts.{Rose};
+ghost use Rattle.saw_live.specs.Cells.{leads_to, own_cell};
 ghost use Rattle.saw_live.specs.Heads.{StartsWith};
 ghost use Rattle.saw_live.specs.Passes.{IsSame, history};
 ghost use Rattle.saw_live.specs.Serving.{IsAnswer, IsFault, IsServed, IsServedUntil, ServesNext, bytes_in, moment, reply_text, value_text};
@@ -97,8 +98,8 @@ fn answer<H: NodeHasher, R: Wait>(
     pass: &mut LivePass,
     question: &[u8],
 ) -> Result<Vec<u8>, AllocError>
-    requires { pass.old.pass.table_id ≡ live.now.cell.table.shared.table_id }
-    ensures cell { pass.new.pass.table_id ≡ pass.old.pass.table_id }
+    requires { leads_to pass.old ≡ own_cell live.now }
+    ensures cell { leads_to pass.new ≡ leads_to pass.old }
     ensures later { StartsWith (history pass.new) (history pass.old) }
     ensures same { IsSame pass.old pass.new }
     ensures is { IfOk result (λ text. IsAnswer H.hash_of (history pass.old) (history pass.new) question.now text.items) }
@@ -121,8 +122,8 @@ fn serve_one<H: NodeHasher, A: Source + Drop, K: Sink + Drop, R: Wait>(
     live: &Live<H>,
     pass: &mut LivePass,
 ) -> Result<bool, ReaderFault>
-    requires { pass.old.pass.table_id ≡ live.now.cell.table.shared.table_id }
-    ensures cell { pass.new.pass.table_id ≡ pass.old.pass.table_id }
+    requires { leads_to pass.old ≡ own_cell live.now }
+    ensures cell { leads_to pass.new ≡ leads_to pass.old }
     ensures same { IsSame pass.old pass.new }
     ensures end { reader.new.end ≡ reader.old.end }
     ensures next { IfOk result (ServesNext H.hash_of
@@ -143,9 +144,9 @@ fn serve_one<H: NodeHasher, A: Source + Drop, K: Sink + Drop, R: Wait>(
     Ok(true)
 }
 
-/// Answers the frames of a reader in their order, and gives how many there were: until its source ends, or as often as one
-/// reader gets an answer. A frame of an address's 70 hex digits is answered by `none`, or by the head's number, id and root
-/// and the value in hex digits, `-` where there is no entry; another frame by `refused`.
+/// Answers the frames of a reader in their order, and gives how many there were: until its source ends, or as often as
+/// one reader gets an answer. A frame of an address's 70 hex digits is answered by `none`, or by the head's number, id
+/// and root and the value in hex digits, `-` where there is no entry; another frame by `refused`.
 pub fn serve_reader<H: NodeHasher, A: Source + Drop, K: Sink + Drop, R: Wait>(
     rt: &R,
     alloc: Global,
@@ -153,8 +154,8 @@ pub fn serve_reader<H: NodeHasher, A: Source + Drop, K: Sink + Drop, R: Wait>(
     live: &Live<H>,
     pass: &mut LivePass,
 ) -> Result<u64, ReaderFault>
-    requires { pass.old.pass.table_id ≡ live.now.cell.table.shared.table_id }
-    ensures cell { pass.new.pass.table_id ≡ pass.old.pass.table_id }
+    requires { leads_to pass.old ≡ own_cell live.now }
+    ensures cell { leads_to pass.new ≡ leads_to pass.old }
     ensures same { IsSame pass.old pass.new }
     ensures end { reader.new.end ≡ reader.old.end }
     ensures ok { IfOk result (IsServed H.hash_of

@@ -2,6 +2,7 @@
 
 ghost use Rattle.std.specs.Prelude.{◌≡◌, ◌<◌, ◌-◌, ◌^◌, ◌+◌, [], true, length, IfOk, OnOk};
 ghost use Rattle.saw_node.specs.Hashes.{first_half};
+ghost use Rattle.saw_live.specs.Cells.{leads_to, own_cell};
 ghost use Rattle.saw_live.specs.Passes.{IsFresh, IsKnownIn, history, publishes};
 
 use saw_address::{Address, is_hex_text};
@@ -73,11 +74,11 @@ pub(crate) fn publish<R: Wait>(
     root: &NodeHash,
     state: &State<Sha512Half>,
 ) -> Result<(), Fail>
-    requires cell { pass.old.pass.table_id ≡ live.now.cell.table.shared.table_id }
+    requires cell { leads_to pass.old ≡ own_cell live.now }
     requires first { publishes pass.old ≡ true }
     requires room { length (history pass.old) < 2 ^ 64 - 1 }
     requires kept { IsKnownIn state.now pass.old }
-    ensures cell { pass.new.pass.table_id ≡ pass.old.pass.table_id }
+    ensures cell { leads_to pass.new ≡ leads_to pass.old }
     ensures first { OnOk result (publishes pass.new ≡ true) }
     ensures one_more { OnOk result (length (history pass.new) ≡ length (history pass.old) + 1) }
     ensures kept { OnOk result (IsKnownIn state.now pass.new) }
@@ -112,9 +113,9 @@ fn tells(reply: &LiveReply, place: u64, root: &NodeHash, value: Option<&[u8]>) -
 
 /// What two passes share: the one that publishes, and a reader.
 pub(crate) fn two_passes(alloc: Global) -> Result<(Live<Sha512Half>, LivePass, LivePass), Fail>
-    ensures first { IfOk result (λ all. (all.1.pass.table_id ≡ all.0.cell.table.shared.table_id)
+    ensures first { IfOk result (λ all. (leads_to all.1 ≡ own_cell all.0)
         × (publishes all.1 ≡ true) × (history all.1 ≡ []) × IsFresh first_half all.1) }
-    ensures second { IfOk result (λ all. all.2.pass.table_id ≡ all.0.cell.table.shared.table_id) }
+    ensures second { IfOk result (λ all. leads_to all.2 ≡ own_cell all.0) }
 {
     let LiveParts { live, mut passes } = Live::new(alloc, 2)?;
     let second = passes.pop().ok_or("a second pass")?;
@@ -180,5 +181,43 @@ fn a_reader_follows_the_heads(rt: HostRuntime) -> Result<(), Fail> {
             None
         )
     );
+    Ok(())
+}
+
+#[test]
+fn a_reader_that_asked_is_retired(rt: HostRuntime) -> Result<(), Fail> {
+    let alloc = rt.alloc();
+    let mut state: State<Sha512Half> = State::new(alloc)?;
+    let five = root_of(&rt, alloc, &mut state, &FIVE)?;
+    let seven = root_of(&rt, alloc, &mut state, &SEVEN)?;
+    state.sound();
+    let (live, mut first, mut second) = two_passes(alloc)?;
+    let at = address()?;
+    publish(&rt, alloc, &live, &mut first, &five, &state)?;
+    let asked = live.ask(&rt, alloc, &mut second, &at)?;
+    assert!(rt; tells(&asked, 0, &five, Some(&FIVE)));
+    live.retire(&rt, &mut first, second);
+    publish(&rt, alloc, &live, &mut first, &seven, &state)?;
+    let asked = live.ask(&rt, alloc, &mut first, &at)?;
+    assert!(rt; first.publishes() && tells(&asked, 1, &seven, Some(&SEVEN)));
+    Ok(())
+}
+
+#[test]
+fn a_head_of_another_state_follows_one_that_is_forgotten(rt: HostRuntime) -> Result<(), Fail> {
+    let alloc = rt.alloc();
+    let mut state: State<Sha512Half> = State::new(alloc)?;
+    let mut other: State<Sha512Half> = State::new(alloc)?;
+    let five = root_of(&rt, alloc, &mut state, &FIVE)?;
+    let seven = root_of(&rt, alloc, &mut other, &SEVEN)?;
+    state.sound();
+    other.sound();
+    let (live, mut first, mut second) = two_passes(alloc)?;
+    publish(&rt, alloc, &live, &mut first, &five, &state)?;
+    assert!(rt; other.tree(&five).is_none());
+    first.forget::<Sha512Half>(alloc)?;
+    publish(&rt, alloc, &live, &mut first, &seven, &other)?;
+    let asked = live.ask(&rt, alloc, &mut second, &address()?)?;
+    assert!(rt; tells(&asked, 1, &seven, Some(&SEVEN)));
     Ok(())
 }

@@ -1,6 +1,7 @@
 //! A reader over bytes in memory.
 
 ghost use Rattle.std.specs.Prelude.{◌≡◌};
+ghost use Rattle.saw_live.specs.Cells.{leads_to, own_cell};
 
 use crate::passes::{FIVE, ID, publish, root_of, two_passes};
 use saw_io::{MemorySink, MemorySource};
@@ -22,8 +23,8 @@ fn served<R: Wait>(
     pass: &mut LivePass,
     bytes: &[u8],
 ) -> Result<(Result<u64, ReaderFault>, Vec<u8>), Fail>
-    requires { pass.old.pass.table_id ≡ live.now.cell.table.shared.table_id }
-    ensures { pass.new.pass.table_id ≡ pass.old.pass.table_id }
+    requires { leads_to pass.old ≡ own_cell live.now }
+    ensures { leads_to pass.new ≡ leads_to pass.old }
 {
     let mut input = Vec::new(alloc);
     input.extend_from_slice(bytes)?;
