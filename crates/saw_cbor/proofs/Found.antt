@@ -9,7 +9,7 @@ use Rattle.saw_cbor.specs.declared.fault.CborFault.TheVariants.{Cut, Deep, Rest}
 use Rattle.saw_cbor.specs.declared.item.Item.{Item}
 use Rattle.saw_cbor.specs.Data.{Cbor, list, pairs, Items, no_items, item, Pairs, no_pairs, pair, items_count, pairs_count, nesting, items_nesting}
 use Rattle.saw_cbor.specs.Data.{pairs_nesting}
-use Rattle.saw_cbor.specs.Reading.{◌>>=◌, Gives, Head, head_at, item_at, items_at, pairs_at, reading}
+use Rattle.saw_cbor.specs.Reading.{◌>>=◌, IsReading, Head, head_at, item_at, items_at, pairs_at, reading}
 use Rattle.saw_cbor.specs.Spelling.{IsHead, Spells, SpellsItems, SpellsPairs}
 use Rattle.saw_cbor.specs.View.{view}
 use Rattle.saw_cbor.proofs.Results.{ok_is, no_ok, bind_ok, either_way, guard_ok}
@@ -173,7 +173,7 @@ reading_found depth whole c small e =
     subst (λ (x : Cbor). Spells x whole × (nesting x ≤ depth)) (ok_is f.0.0 c g.1) here
 
 -- what was returned spells the input, where it is reading's
-pub is_found : (depth : ℕ) (whole : List ℕ) (r : Result Item CborFault) → AreBytes whole → Gives view r (reading depth whole)
+pub is_found : (depth : ℕ) (whole : List ℕ) (r : Result Item CborFault) → AreBytes whole → IsReading view r (reading depth whole)
     → IfOk r (λ x. Spells (view x) whole × (nesting (view x) ≤ depth))
 is_found depth whole (Ok x) small given = reading_found depth whole (view x) small given
 is_found depth whole (Err e) small given = tt

@@ -114,9 +114,9 @@ reading depth whole = do
   if nat_lt found.1 (length whole) then Err (Rest found.1) else Ok found.0
 
 -- what was returned, seen by view, is what reading gives, unless memory ran out
-abbrev pub Gives : {X Y : Type 0} → (X → Y) → Result X CborFault → Result Y CborFault → Type 0
-Gives view (Ok x) read = read ≡ Ok (view x)
-Gives view (Err e) read = (e ≡ OutOfMemory) ⊎ (read ≡ Err e)
+abbrev pub IsReading : {X Y : Type 0} → (X → Y) → Result X CborFault → Result Y CborFault → Type 0
+IsReading view (Ok x) read = read ≡ Ok (view x)
+IsReading view (Err e) read = (e ≡ OutOfMemory) ⊎ (read ≡ Err e)
 
 -- the same, for what takes no memory
 abbrev pub Is : {X Y : Type 0} → (X → Y) → Result X CborFault → Result Y CborFault → Type 0

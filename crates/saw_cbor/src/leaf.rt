@@ -2,7 +2,7 @@
 
 ghost use Rattle.std.specs.Prelude.{◌≡◌, ◌==◌, ◌/◌, ◌≤◌, length, if◌then◌else◌, IfOk};
 ghost use Rattle.saw_cbor.specs.Data.{null, boolean};
-ghost use Rattle.saw_cbor.specs.Reading.{Gives, leaf_at};
+ghost use Rattle.saw_cbor.specs.Reading.{IsReading, leaf_at};
 ghost use Rattle.saw_cbor.specs.View.{head_view, view};
 
 use crate::fault::CborFault;
@@ -15,7 +15,7 @@ use std::alloc::Global;
 fn byte_string(alloc: Global, bytes: &[u8], head: Head) -> Result<(Item, usize), CborFault>
     requires major { head.first / 32 ≡ 2 }
     requires within { head.behind ≤ length bytes.now }
-    ensures gives { Gives (λ x. (view x.0, x.1)) result (leaf_at (head_view head) bytes.now) }
+    ensures gives { IsReading (λ x. (view x.0, x.1)) result (leaf_at (head_view head) bytes.now) }
     ensures within { IfOk result (λ x. (head.behind ≤ x.1) × (x.1 ≤ length bytes.now)) }
 {
     let content = content(bytes, head)?;
@@ -27,7 +27,7 @@ fn byte_string(alloc: Global, bytes: &[u8], head: Head) -> Result<(Item, usize),
 fn text(alloc: Global, bytes: &[u8], head: Head) -> Result<(Item, usize), CborFault>
     requires major { head.first / 32 ≡ 3 }
     requires within { head.behind ≤ length bytes.now }
-    ensures gives { Gives (λ x. (view x.0, x.1)) result (leaf_at (head_view head) bytes.now) }
+    ensures gives { IsReading (λ x. (view x.0, x.1)) result (leaf_at (head_view head) bytes.now) }
     ensures within { IfOk result (λ x. (head.behind ≤ x.1) × (x.1 ≤ length bytes.now)) }
 {
     let content = content(bytes, head)?;
@@ -52,7 +52,7 @@ fn simple(first: u8) -> Item
 #[tactic(auto, unfolding(crate::specs::Reading::leaf_at))]
 pub(crate) fn leaf(alloc: Global, bytes: &[u8], head: Head) -> Result<(Item, usize), CborFault>
     requires { head.behind ≤ length bytes.now }
-    ensures gives { Gives (λ x. (view x.0, x.1)) result (leaf_at (head_view head) bytes.now) }
+    ensures gives { IsReading (λ x. (view x.0, x.1)) result (leaf_at (head_view head) bytes.now) }
     ensures within { IfOk result (λ x. (head.behind ≤ x.1) × (x.1 ≤ length bytes.now)) }
 {
     match head.first / 32 {

@@ -3,7 +3,7 @@
 ghost use Rattle.std.specs.Prelude.{◌≡◌, ◌+◌, ◌-◌, ◌*◌, ◌<◌, ◌≤◌, ℕ, length, IfOk, Ok};
 ghost use Rattle.saw_cbor.specs.Data.{Cbor, nesting};
 ghost use Rattle.saw_cbor.specs.Laws.{OneSpelling};
-ghost use Rattle.saw_cbor.specs.Reading.{Gives, item_at, items_at, pairs_at, reading as reading_lem};
+ghost use Rattle.saw_cbor.specs.Reading.{IsReading, item_at, items_at, pairs_at, reading as reading_lem};
 ghost use Rattle.saw_cbor.specs.Spelling.{Spells};
 ghost use Rattle.saw_cbor.specs.View.{view, items_view, pairs_view};
 
@@ -24,7 +24,7 @@ fn read_item(
 ) -> Result<(Item, usize), CborFault>
     requires { p ≤ length bytes.now }
     ensures gives { (fuel : ℕ) → 2 * (length bytes.now - p) + 1 ≤ fuel
-        → Gives (λ x. (view x.0, x.1)) result (item_at fuel depth inside p bytes.now) }
+        → IsReading (λ x. (view x.0, x.1)) result (item_at fuel depth inside p bytes.now) }
     ensures within { IfOk result (λ x. (p < x.1) × (x.1 ≤ length bytes.now)) }
 {
     if inside > u64::from(depth) {
@@ -70,7 +70,7 @@ fn read_items(
 ) -> Result<(Vec<Item>, usize), CborFault>
     requires { p ≤ length bytes.now }
     ensures gives { (fuel : ℕ) → 2 * (length bytes.now - p) + 2 ≤ fuel
-        → Gives (λ x. (items_view x.0.items, x.1)) result
+        → IsReading (λ x. (items_view x.0.items, x.1)) result
         (items_at fuel count depth inside p bytes.now) }
     ensures within { IfOk result (λ x. (p ≤ x.1) × (x.1 ≤ length bytes.now)) }
 {
@@ -96,7 +96,7 @@ fn read_pairs(
 ) -> Result<(Vec<Pair>, usize), CborFault>
     requires { p ≤ length bytes.now }
     ensures gives { (fuel : ℕ) → 2 * (length bytes.now - p) + 2 ≤ fuel
-        → Gives (λ x. (pairs_view x.0.items, x.1)) result
+        → IsReading (λ x. (pairs_view x.0.items, x.1)) result
         (pairs_at fuel count depth inside p bytes.now) }
     ensures within { IfOk result (λ x. (p ≤ x.1) × (x.1 ≤ length bytes.now)) }
 {
@@ -113,7 +113,7 @@ fn read_pairs(
 
 #[tactic(auto, unfolding(crate::specs::Reading::reading))]
 fn read(alloc: Global, bytes: &[u8], depth: u32) -> Result<Item, CborFault>
-    ensures { Gives view result (reading_lem depth bytes.now) }
+    ensures { IsReading view result (reading_lem depth bytes.now) }
 {
     let (item, end) = read_item(alloc, bytes, depth, 0, 0)?;
     if end < bytes.len() {
@@ -125,11 +125,11 @@ fn read(alloc: Global, bytes: &[u8], depth: u32) -> Result<Item, CborFault>
 /// Reads the whole input as one item, which nests no deeper than is told.
 pub fn decode(alloc: Global, bytes: &[u8], depth: u32) -> Result<Item, CborFault>
     // Which fault it is: the first from the left.
-    ensures exact { Gives view result (reading_lem depth bytes.now) }
+    ensures exact { IsReading view result (reading_lem depth bytes.now) }
     // What is read is spelled.
     ensures found { IfOk result (λ item. Spells (view item) bytes.now × (nesting (view item) ≤ depth)) }
     // What is spelled is read, unless memory runs out.
-    ensures only { (c : Cbor) → Spells c bytes.now → nesting c ≤ depth → Gives view result (Ok c) }
+    ensures only { (c : Cbor) → Spells c bytes.now → nesting c ≤ depth → IsReading view result (Ok c) }
 {
     read(alloc, bytes, depth)
 }

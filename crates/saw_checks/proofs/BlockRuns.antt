@@ -1,6 +1,6 @@
 -- The tests of a block, one group after another.
 use Rattle.std.proofs.Common.{◌≡◌, ◌⊎◌, ℕ, Bool, List, Option, Some, None, Result, Ok, Err, refl, ap, ◌∙◌, inl, inr}
-use Rattle.saw_wire.specs.MessageFaults.{Gives}
+use Rattle.saw_wire.specs.MessageFaults.{IsReading}
 use Rattle.saw_wire.specs.declared.fault.MessageFault.{MessageFault}
 use Rattle.saw_wire.specs.declared.fault.MessageFault.TheVariants.{Wire, NotUtf8, OutOfMemory}
 use Rattle.saw_messages.specs.Blocks.{block, block_header}
@@ -15,7 +15,7 @@ use Rattle.saw_checks.specs.BlockParts.{undecodable, batch_ids_fault, block_sign
 use Rattle.saw_checks.proofs.Chains.{at_first, at_second, at_third, at_fourth}
 
 -- a fault of reading is told, unless memory ran out
-unread : {A : Type 0} (e : MessageFault) (read : Result A MessageFault) → Gives (Err e) read → (undecodable e ≡ faults.OutOfMemory)
+unread : {A : Type 0} (e : MessageFault) (read : Result A MessageFault) → IsReading (Err e) read → (undecodable e ≡ faults.OutOfMemory)
     ⊎ ((read ≡ Err e) × (undecodable e ≡ faults.Undecodable e))
 unread OutOfMemory read gives = inl refl
 unread (Wire fault) read (inl memory) = cc
@@ -25,7 +25,7 @@ unread (NotUtf8 field) read (inr bad) = inr (bad, refl)
 
 told : {A B : Type 0} (total : B) (told_by : Result A MessageFault → B) (e : MessageFault) (some : StructureFault → B) (read : Result A MessageFault)
     → total ≡ told_by read → told_by (Err e) ≡ some (faults.Undecodable e)
-    → Gives (Err e) read → (undecodable e ≡ faults.OutOfMemory) ⊎ (total ≡ some (undecodable e))
+    → IsReading (Err e) read → (undecodable e ≡ faults.OutOfMemory) ⊎ (total ≡ some (undecodable e))
 told total told_by e some read is last gives = by (unread e read gives)
   where
     by : (undecodable e ≡ faults.OutOfMemory) ⊎ ((read ≡ Err e) × (undecodable e ≡ faults.Undecodable e)) → (undecodable e ≡ faults.OutOfMemory)
@@ -34,7 +34,7 @@ told total told_by e some read is last gives = by (unread e read gives)
     by (inr (bad, kept)) = inr (rw kept (is ∙ ap told_by bad ∙ last))
 
 module _ (accepts : List ℕ → List ℕ → List ℕ → Bool) (bytes : List ℕ) where
-  pub no_block : (e : MessageFault) → Gives (Err e) (block bytes) → BlockGives accepts bytes (Err (undecodable e))
+  pub no_block : (e : MessageFault) → IsReading (Err e) (block bytes) → BlockGives accepts bytes (Err (undecodable e))
   unfolding structure_fault
   no_block e gives = told (structure_fault accepts bytes) (structure_fault_of accepts) e (λ (fault : StructureFault). Some fault) (block bytes) refl refl gives
 
@@ -43,7 +43,7 @@ module _ (accepts : List ℕ → List ℕ → List ℕ → Bool) (bytes : List �
     unfolding structure_fault
     by_header = ap (structure_fault_of accepts) decoded
 
-    pub no_header : (e : MessageFault) → Gives (Err e) (block_header b.header) → BlockGives accepts bytes (Err (undecodable e))
+    pub no_header : (e : MessageFault) → IsReading (Err e) (block_header b.header) → BlockGives accepts bytes (Err (undecodable e))
     no_header e gives = told (structure_fault accepts bytes) (structure_fault_by accepts b) e (λ (fault : StructureFault). Some fault)
         (block_header b.header) by_header refl gives
 

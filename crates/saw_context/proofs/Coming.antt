@@ -13,7 +13,7 @@ use Rattle.saw_messages.specs.declared.receipt.Event.{Event}
 use Rattle.saw_messages.specs.declared.talk.Turn.{Turn}
 use Rattle.saw_context.specs.Conversation.{are_covering}
 use Rattle.saw_context.specs.Outcome.{Processors, map_after, outcome_by, outcome_of, refusal}
-use Rattle.saw_context.specs.Possible.{GoesOn, MayCome, MayComeFrom, MayComeOfBatch, all_told, are_told, is_told}
+use Rattle.saw_context.specs.Possible.{ThenOthers, MayCome, MayComeFrom, MayComeOfBatch, all_told, are_told, is_told}
 use Rattle.saw_context.specs.Serial.{batch_result, behind, failed_with, goes_on, left_after, left_by, names_one, serial_from}
 use Rattle.saw_context.specs.declared.batch_result.BatchResult.{BatchResult}
 use Rattle.saw_context.specs.declared.batch_result.BatchResult.TheVariants.{Applied, Failed}
@@ -35,7 +35,7 @@ module _ (processors : Processors) where
   goes_on_told : (failed : List TxShape) (m : StateMap) (tx : TxShape) (txs : List TxShape) (result : BatchResult) (outcome : Outcome)
       → outcome ≡ outcome_of processors tx m (names_one tx failed)
       → ((n : StateMap) (others : BatchResult) → MayComeOfBatch processors failed n txs others → others ≡ batch_result processors failed n txs)
-      → GoesOn (λ n others. MayComeOfBatch processors failed n txs others) m outcome result → result ≡ batch_result processors failed m (tx ∷ txs)
+      → ThenOthers (λ n others. MayComeOfBatch processors failed n txs others) m outcome result → result ≡ batch_result processors failed m (tx ∷ txs)
   goes_on_told failed m tx txs result (outcomes.Ok changes events) is later goes =
       goes.2 ∙ ap (behind (outcomes.Ok changes events)) (later (map_after m changes) goes.0 goes.1)
       ∙ ap (λ o. goes_on o (λ changes. batch_result processors failed (map_after m changes) txs)) is
@@ -72,7 +72,7 @@ module _ (processors : Processors) where
     -- what comes behind an outcome, if the serial results of the rest may come
     goes_on_serial : (failed : List TxShape) (m : StateMap) (txs : List TxShape) (outcome : Outcome)
         → ((n : StateMap) → MayComeOfBatch processors failed n txs (batch_result processors failed n txs))
-        → GoesOn (λ n others. MayComeOfBatch processors failed n txs others) m outcome
+        → ThenOthers (λ n others. MayComeOfBatch processors failed n txs others) m outcome
         (goes_on outcome (λ changes. batch_result processors failed (map_after m changes) txs))
     goes_on_serial failed m txs (outcomes.Ok changes events) later =
         (batch_result processors failed (map_after m changes) txs, later (map_after m changes), refl)
@@ -117,7 +117,7 @@ module _ (processors : Processors) where
       → AllByRecursion (λ change. is_address change.address ≡ true) changes)
       → ((n : StateMap) (others : BatchResult) → MayComeOfBatch processors failed n txs others → AreAddresses (finite.entries n)
       → AreAddresses (finite.entries (left_by n others)))
-      → AreAddresses (finite.entries m) → GoesOn (λ n others. MayComeOfBatch processors failed n txs others) m outcome result
+      → AreAddresses (finite.entries m) → ThenOthers (λ n others. MayComeOfBatch processors failed n txs others) m outcome result
       → AreAddresses (finite.entries (left_by m result))
   goes_on_left failed m txs result (outcomes.Ok changes events) addresses later are goes =
       let left : AreAddresses (finite.entries (left_by (map_after m changes) goes.0)) =

@@ -13,7 +13,7 @@ use Rattle.saw_messages.specs.declared.receipt.Event.{Event}
 use Rattle.saw_context.specs.Conversation.{are_covering}
 use Rattle.saw_context.specs.Lanes.{KeepToLanes, KeepsToLane, in_lane}
 use Rattle.saw_context.specs.Outcome.{Processors, map_after}
-use Rattle.saw_context.specs.Possible.{GoesOn, MayCome, MayComeFrom, MayComeOfBatch}
+use Rattle.saw_context.specs.Possible.{ThenOthers, MayCome, MayComeFrom, MayComeOfBatch}
 use Rattle.saw_context.specs.Serial.{behind, failed_with, left_by, map_after_all, names_one}
 use Rattle.saw_context.specs.declared.batch_result.BatchResult.{BatchResult}
 use Rattle.saw_context.specs.declared.batch_result.BatchResult.TheVariants.{Applied, Failed}
@@ -61,8 +61,8 @@ module _ (processors : Processors) (owner : List ℕ → ℕ) (lane : ℕ) where
   -- what comes behind an outcome, if the rest may come over maps that agree there
   goes_here : (txs : List TxShape) (m n : StateMap) (some others : List TxShape) (result : BatchResult) (outcome : Outcome)
       → ((m n : StateMap) (rest : BatchResult) → AgreeHere m n → MayComeOfBatch processors some m txs rest → MayComeOfBatch processors others n txs rest)
-      → AgreeHere m n → GoesOn (λ left rest. MayComeOfBatch processors some left txs rest) m outcome result
-      → GoesOn (λ left rest. MayComeOfBatch processors others left txs rest) n outcome result
+      → AgreeHere m n → ThenOthers (λ left rest. MayComeOfBatch processors some left txs rest) m outcome result
+      → ThenOthers (λ left rest. MayComeOfBatch processors others left txs rest) n outcome result
   goes_here txs m n some others result (outcomes.Ok changes events) later agree goes =
       (goes.0, later (map_after m changes) (map_after n changes) goes.0 (λ at is here. after_same m n changes at (agree at is here)) goes.1, goes.2)
   goes_here txs m n some others result (outcomes.Invalid reason) later agree goes = goes
@@ -104,7 +104,7 @@ module _ (processors : Processors) (owner : List ℕ → ℕ) (lane : ℕ) where
   goes_elsewhere : (tx : TxShape) (txs : List TxShape) (m : StateMap) (some : List TxShape) (result : BatchResult) (outcome : Outcome) (at : List ℕ)
       → ((n : StateMap) (rest : BatchResult) → MayComeOfBatch processors some n txs rest → value_at (left_by n rest) at ≡ value_at n at)
       → (owner at ≡ lane → ⊥) → KeepsToLane owner lane tx → MayCome processors tx m (names_one tx some) outcome
-      → GoesOn (λ left rest. MayComeOfBatch processors some left txs rest) m outcome result
+      → ThenOthers (λ left rest. MayComeOfBatch processors some left txs rest) m outcome result
       → value_at (left_by m result) at ≡ value_at m at
   goes_elsewhere tx txs m some result (outcomes.Ok changes events) at later elsewhere keep may goes =
       ap (λ came. value_at (left_by m came) at) goes.2

@@ -15,7 +15,7 @@ abbrev pub changed_by_all : Overlay → List Change → Overlay
 changed_by_all changes [] = changes
 changed_by_all changes (change ∷ others) = changed_by_all (changed_by changes change) others
 
--- some of the first changes were made, and nothing else: the new value is the old one after a front of them
+-- some of the first changes were made, and nothing else: the new value is the old one after a prefix of them
 abbrev pub HasFront : {M : Type 0} → (M → List Change → M) → M → List Change → M → Type 0
 HasFront after old changes new = (n : ℕ) × (n ≤ length changes) × (new ≡ after old (take n changes))
 

@@ -1,4 +1,4 @@
--- What may come of transactions and batches: where a processor tells its actions, what they decide, and else what a
+-- What may come of transactions and batches: of a deterministic processor's what its actions decide, and else what a
 -- conversation with some processor decides.
 use Rattle.std.specs.Prelude.{◌≡◌, Bool, List, [], ◌∷◌}
 use Rattle.std.specs.List.{list_all}
@@ -34,10 +34,10 @@ pub record MayCome (processors : Processors) (tx : TxShape) (m : StateMap) (fail
   pub decided : outcome ≡ outcome_by (refusal processors tx) failed (conversed next tx.header m)
 
 -- what comes behind the outcome of a batch's first transaction: an invalid one ends the batch
-abbrev pub GoesOn : (StateMap → BatchResult → Type 0) → StateMap → Outcome → BatchResult → Type 0
-GoesOn Others m (outcomes.Ok changes events) result =
+abbrev pub ThenOthers : (StateMap → BatchResult → Type 0) → StateMap → Outcome → BatchResult → Type 0
+ThenOthers Others m (outcomes.Ok changes events) result =
     (others : BatchResult) × Others (map_after m changes) others × (result ≡ behind (outcomes.Ok changes events) others)
-GoesOn Others m (outcomes.Invalid reason) result = result ≡ Failed 0 reason
+ThenOthers Others m (outcomes.Invalid reason) result = result ≡ Failed 0 reason
 
 module _ (processors : Processors) where
   -- what may come of a batch over a map, each transaction over the map that those before it left; the transactions of
@@ -46,7 +46,7 @@ module _ (processors : Processors) where
   MayComeOfBatch failed m [] result = result ≡ Applied []
   MayComeOfBatch failed m (tx ∷ txs) result =
       (outcome : Outcome) × MayCome processors tx m (names_one tx failed) outcome
-      × GoesOn (λ n others. MayComeOfBatch failed n txs others) m outcome result
+      × ThenOthers (λ n others. MayComeOfBatch failed n txs others) m outcome result
 
   abbrev pub MayComeFrom : List TxShape → StateMap → List (List TxShape) → List BatchResult → Type 0
   MayComeFrom failed m [] results = results ≡ []

@@ -23,7 +23,7 @@ fn values_of(alloc: Global, kept: &Node, given: &Node) -> Result<[Option<u8>; 2]
     Ok([value_of(alloc, kept)?, value_of(alloc, given)?])
 }
 
-/// The values of the two nodes that clash when these are kept here; `None` where they do not.
+/// The values of the two nodes that collide when these are kept here; `None` where they do not.
 fn clash_in(
     alloc: Global,
     store: &mut NodeStore<OneByte>,

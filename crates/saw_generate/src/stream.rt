@@ -15,10 +15,10 @@ use std::alloc::Global;
 use std::sync::Wait;
 use std::thread::Threads;
 
-/// Writes a stream of blocks of IntegerKey batches, block by block. Each batch has two transactions; each block is signed,
-/// stands behind the one before it, and has the root of the map that its batches leave.
+/// Writes a stream of blocks of IntegerKey batches, block by block. Each batch has two transactions; each block is
+/// signed, stands behind the one before it, and has the root of the map that its batches leave.
 ///
-/// After a fault a front of the stream was written.
+/// After a fault a prefix of the stream was written.
 pub fn generate<T: Threads + Wait + Sync, G: Signer, K: Sink>(
     rt: &T,
     alloc: Global,

@@ -6,7 +6,7 @@ use Rattle.std.proofs.KnownBytes.{Appends-nil, Appends-trans}
 use Rattle.std.proofs.Math.Seq.{take-append-add}
 use Rattle.std.proofs.lemmas.List.{take-append-le}
 
--- a front of a text, but not all of it
+-- a prefix of a text, but not all of it
 abbrev pub WroteLess : List ℕ → Option (List ℕ) → Option (List ℕ) → Type 0
 WroteLess text old new = (n : ℕ) × (n < length text) × Appends old new (take n text)
 

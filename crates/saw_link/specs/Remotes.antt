@@ -1,4 +1,4 @@
--- A processor elsewhere, as a station sees it.
+-- An external processor, as a station sees it.
 use Rattle.std.specs.Prelude.{◌≡◌, ◌⊎◌, ℕ, ◌+◌, Bool, true, false, List, [], ◌∷◌, ◌++◌, Option, Some, None, min}
 use Rattle.saw_faults.specs.Counts.{Rose, last_count}
 use Rattle.saw_messages.specs.TxShapes.{TxShape, shape_in}
@@ -117,10 +117,10 @@ Leaves troubles.Early before after = after ≡ before
 Leaves trouble before after = (after.health ≡ health_of (fault_of trouble)) × (after.breach ≡ breach_of trouble)
 
 -- a failure is counted; after one each further call fails and is counted, and after want of memory each answers that
-abbrev pub GoesOn : Health → Health → StationFault → ℕ → ℕ → Type 0
-GoesOn Sound later fault before after = after ≡ faults_after before fault
-GoesOn Failed later fault before after = (later ≡ Failed) × (fault ≡ stations.PeerFailed) × (after ≡ min (before + 1) last_count)
-GoesOn Starved later fault before after = (later ≡ Starved) × (fault ≡ stations.OutOfMemory) × (after ≡ before)
+abbrev pub CountsFailure : Health → Health → StationFault → ℕ → ℕ → Type 0
+CountsFailure Sound later fault before after = after ≡ faults_after before fault
+CountsFailure Failed later fault before after = (later ≡ Failed) × (fault ≡ stations.PeerFailed) × (after ≡ min (before + 1) last_count)
+CountsFailure Starved later fault before after = (later ≡ Starved) × (fault ≡ stations.OutOfMemory) × (after ≡ before)
 
 -- why a call failed: the trouble, in which way it stopped the call, and what it leaves of the station
 pub record Why {L : Type 0} (told : L → Option (List Passed)) (counted : L → ℕ) (stops : Trouble → Option (List Passed) → Standing → Option (List Passed) → Type 0)

@@ -5,7 +5,7 @@ ghost use Rattle.std.specs.Result.{result_ok};
 ghost use Rattle.std.specs.Str.{bytes_eq};
 ghost use Rattle.hex.specs.Hex.{encode_lower};
 ghost use Rattle.saw_address.specs.Texts.{is_address_text};
-ghost use Rattle.saw_wire.specs.MessageFaults.{Gives};
+ghost use Rattle.saw_wire.specs.MessageFaults.{IsReading};
 ghost use Rattle.saw_linkmsg.specs.declared.register.TpRegisterRequest.{TpRegisterRequest};
 ghost use Rattle.saw_context.specs.Outcome.{is_request};
 ghost use Rattle.saw_messages.specs.Reasons.{has_own_reason};
@@ -84,7 +84,7 @@ pub struct Registration {
 
 /// What was read, or none where the bytes are no such message.
 pub fn legal<M: Drop>(read: Result<M, MessageFault>) -> Result<Option<M>, AllocError>
-    ensures { IfOk result (λ made. (said : Result M MessageFault) → Gives read said → made ≡ result_ok said) }
+    ensures { IfOk result (λ made. (said : Result M MessageFault) → IsReading read said → made ≡ result_ok said) }
 {
     match read {
         Ok(message) => Ok(Some(message)),

@@ -1,4 +1,4 @@
-//! Processors elsewhere, over links of frames.
+//! External processors, over links of frames.
 #![tactic(auto)]
 
 mod exchange;

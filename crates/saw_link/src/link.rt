@@ -36,7 +36,8 @@ pub trait Link: Drop {
         ensures later { faults self.old ≤ faults self.new }
         ensures cause { IsErrOf result LinkFault.Failed → Rose (faults self.old) (faults self.new) };
 
-    /// The next frame, or none where the peer ended. A peer that is told sends what it may, and its link tells its frames.
+    /// The next frame, or none where the peer ended. A peer that is told sends what it may, and its link tells its
+    /// frames.
     fn receive(&mut self, alloc: Global) -> Result<Option<Vec<u8>>, LinkFault>
         ensures frame { IfOk result (λ got. IfSome got (λ frame. Adds (told self.old) (Received frame.items ∷ []) (told self.new))) }
         ensures ended { IfOk result (λ got. IfNone got (Adds (told self.old) (Ended ∷ []) (told self.new))) }
@@ -46,7 +47,7 @@ pub trait Link: Drop {
         ensures later { faults self.old ≤ faults self.new }
         ensures cause { IsErrOf result LinkFault.Failed → Rose (faults self.old) (faults self.new) };
 
-    /// Its own reasons are that of a processor elsewhere, or a family's number.
+    /// Its own reasons are that of an external processor, or a family's number.
     ghost own_reasons: { (tx : TxShape) (turns : List Turn) → has_own_reason (next tx turns) ≡ true };
 
     /// No frame carries the index of a place that is not declared, so the peer's actions do not depend on it.

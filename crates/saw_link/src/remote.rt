@@ -1,4 +1,4 @@
-//! A processor elsewhere, as a station.
+//! An external processor, as a station.
 
 ghost use Rattle.std.specs.Prelude.{◌≡◌, ◌↔◌, ◌≤◌, ◌+◌, ◌∷◌, ◌++◌, [], ℕ, List, Option, true, false, Some, None, is_some, min, IfOk, IfErr, IfSome, IfNone, OnOk, OnErr, IsErrOf, IsSome};
 ghost use Rattle.saw_context.specs.Outcome.{is_request};
@@ -7,7 +7,7 @@ ghost use Rattle.saw_messages.specs.Reasons.{has_own_reason};
 ghost use Rattle.saw_messages.specs.declared.talk.Turn.{Turn};
 ghost use Rattle.saw_station.specs.TalkSteps.{MayFollow, IsOfLast, KeepsStep, IsShort};
 ghost use Rattle.saw_link.specs.LinkConversation.{IsSpelled, IsActOf, Closed, Registered};
-ghost use Rattle.saw_link.specs.Remotes.{kept_step, IsStep, Stepped, StopsStep, GoesOn, fault_of, health_of, faults_after, breach_of, Why};
+ghost use Rattle.saw_link.specs.Remotes.{kept_step, IsStep, Stepped, StopsStep, CountsFailure, fault_of, health_of, faults_after, breach_of, Why};
 ghost use Rattle.saw_link.specs.Troubles.{StopsClosing, StopsRegistering};
 ghost use Rattle.saw_link.specs.declared.remote.Health.TheVariants as healths;
 
@@ -273,7 +273,7 @@ impl<L: Link + Send> Station for RemoteStation<L> {
         ensures registered { OnOk result (Registered (L.told self.old.link) self.old.standing (L.told self.new.link) self.new.standing) }
         ensures why { self.old.health ≡ healths.Sound → IfErr result (λ fault. Why L.told L.faults StopsRegistering self.old self.new fault) }
         ensures sound { OnOk result ((self.old.health ≡ healths.Sound) × (self.new.health ≡ healths.Sound)) }
-        ensures goes_on { IfErr result (λ fault. GoesOn self.old.health self.new.health fault self.old.faults self.new.faults) }
+        ensures goes_on { IfErr result (λ fault. CountsFailure self.old.health self.new.health fault self.old.faults self.new.faults) }
         ensures quiet { OnOk result ((self.new.faults ≡ self.old.faults) × (self.new.breach ≡ self.old.breach)) }
         ensures left { (self.old.health ≡ healths.Sound → ⊥) → (self.new.link ≡ self.old.link) × (self.new.breach ≡ self.old.breach) }
         ensures later { self.old.faults ≤ self.new.faults }
@@ -310,7 +310,7 @@ impl<L: Link + Send> Station for RemoteStation<L> {
         ensures kept { IfOk result (IsStep self.new.standing.last tx.now talk.now.turns) }
         ensures why { self.old.health ≡ healths.Sound → IfErr result (λ fault. Why L.told L.faults (StopsStep tx.now talk.now.turns) self.old self.new fault) }
         ensures sound { OnOk result ((self.old.health ≡ healths.Sound) × (self.new.health ≡ healths.Sound)) }
-        ensures goes_on { IfErr result (λ fault. GoesOn self.old.health self.new.health fault self.old.faults self.new.faults) }
+        ensures goes_on { IfErr result (λ fault. CountsFailure self.old.health self.new.health fault self.old.faults self.new.faults) }
         ensures reason { IfOk result (λ action. has_own_reason action ≡ true) }
         ensures short { IfOk result IsShort }
         ensures keeps { IfOk result (KeepsStep (kept_step self.new.standing.last) tx.now talk.now.turns) }
@@ -345,7 +345,7 @@ impl<L: Link + Send> Station for RemoteStation<L> {
         ensures refused { OnOk result (Closed (L.told self.old.link) self.old.standing (L.told self.new.link) self.new.standing) }
         ensures why { self.old.health ≡ healths.Sound → IfErr result (λ fault. Why L.told L.faults StopsClosing self.old self.new fault) }
         ensures sound { OnOk result ((self.old.health ≡ healths.Sound) × (self.new.health ≡ healths.Sound)) }
-        ensures goes_on { IfErr result (λ fault. GoesOn self.old.health self.new.health fault self.old.faults self.new.faults) }
+        ensures goes_on { IfErr result (λ fault. CountsFailure self.old.health self.new.health fault self.old.faults self.new.faults) }
         ensures begun { self.new.begun ≡ true }
         ensures offers { self.new.standing.offers ≡ self.old.standing.offers }
         ensures quiet { OnOk result ((self.new.faults ≡ self.old.faults) × (self.new.breach ≡ self.old.breach)) }

@@ -10,15 +10,15 @@ use Rattle.saw_linkmsg.specs.Envelopes.{envelope_of, envelope_fault, envelope_pi
 use Rattle.saw_linkmsg.specs.LinkReadBack.{IsEnvelope, EnvelopeIsReadBack}
 
 -- what the fields show
-record Shows (m : Envelope) (pieces : List Piece) : Type 0 where
+record SpelledBy (m : Envelope) (pieces : List Piece) : Type 0 where
   message_type : filter_map (number_in 1) pieces ≡ number_values m.message_type
   correlation_id : all_bytes 2 pieces ≡ bytes_values m.correlation_id
   content : all_bytes 3 pieces ≡ bytes_values m.content
 
-shows : (m : Envelope) → Shows m (envelope_pieces m)
+shows : (m : Envelope) → SpelledBy m (envelope_pieces m)
 shows m = record { message_type = simp field_values; correlation_id = simp field_values; content = simp field_values }
 
-says : (m : Envelope) (pieces : List Piece) → IsEnvelope m → Shows m pieces → envelope_of pieces ≡ m
+says : (m : Envelope) (pieces : List Piece) → IsEnvelope m → SpelledBy m pieces → envelope_of pieces ≡ m
 says m pieces is shown =
     rw (
       small_back 1 pieces m.message_type shown.message_type is.message_type,
@@ -26,7 +26,7 @@ says m pieces is shown =
       bytes_back 3 pieces m.content shown.content,
     ) refl
 
-fine : (m : Envelope) (pieces : List Piece) → IsEnvelope m → Shows m pieces → IsFine envelope_fault pieces
+fine : (m : Envelope) (pieces : List Piece) → IsEnvelope m → SpelledBy m pieces → IsFine envelope_fault pieces
 fine m pieces is shown = text_fine 2 pieces m.correlation_id shown.correlation_id is.correlation_id
 
 pub envelope_back : (m : Envelope) → IsEnvelope m → ComesBack envelope_of envelope_fault envelope_pieces m

@@ -17,21 +17,21 @@ use Rattle.saw_linkmsg.specs.LinkReadBack.{IsTpEventAddRequest, IsTpEventAddResp
 -- ---- requests to add an event
 
 -- what the fields show
-record Shows (m : TpEventAddRequest) (pieces : List Piece) : Type 0 where
+record SpelledBy (m : TpEventAddRequest) (pieces : List Piece) : Type 0 where
   context_id : all_bytes 1 pieces ≡ bytes_values m.context_id
   event : all_bytes 2 pieces ≡ bytes_values (spelled (event_pieces m.event))
 
-shows : (m : TpEventAddRequest) → Shows m (tp_event_add_request_pieces m)
+shows : (m : TpEventAddRequest) → SpelledBy m (tp_event_add_request_pieces m)
 shows m = record { context_id = simp field_values; event = simp field_values }
 
-says : (m : TpEventAddRequest) (pieces : List Piece) → IsTpEventAddRequest m → Shows m pieces → tp_event_add_request_of pieces ≡ m
+says : (m : TpEventAddRequest) (pieces : List Piece) → IsTpEventAddRequest m → SpelledBy m pieces → tp_event_add_request_of pieces ≡ m
 says m pieces is shown =
     rw (
       bytes_back 1 pieces m.context_id shown.context_id,
       message_back 2 pieces m.event shown.event (event_back m.event is.event),
     ) refl
 
-fine : (m : TpEventAddRequest) (pieces : List Piece) → IsTpEventAddRequest m → Shows m pieces → IsFine tp_event_add_request_fault pieces
+fine : (m : TpEventAddRequest) (pieces : List Piece) → IsTpEventAddRequest m → SpelledBy m pieces → IsFine tp_event_add_request_fault pieces
 fine m pieces is shown =
     text_fine 1 pieces m.context_id shown.context_id is.context_id
     and message_fine 2 pieces m.event shown.event (event_back m.event is.event)

@@ -17,14 +17,14 @@ use Rattle.saw_linkmsg.specs.LinkReadBack.{IsTpProcessRequest, IsTpProcessRespon
 -- ---- transactions
 
 -- what the fields show
-record Shows (m : TpProcessRequest) (pieces : List Piece) : Type 0 where
+record SpelledBy (m : TpProcessRequest) (pieces : List Piece) : Type 0 where
   header : all_bytes 1 pieces ≡ bytes_values (spelled (transaction_header_pieces m.header))
   payload : all_bytes 2 pieces ≡ bytes_values m.payload
   signature : all_bytes 3 pieces ≡ bytes_values m.signature
   context_id : all_bytes 4 pieces ≡ bytes_values m.context_id
   header_bytes : all_bytes 5 pieces ≡ bytes_values m.header_bytes
 
-shows : (m : TpProcessRequest) → Shows m (tp_process_request_pieces m)
+shows : (m : TpProcessRequest) → SpelledBy m (tp_process_request_pieces m)
 shows m = record {
   header = simp field_values;
   payload = simp field_values;
@@ -33,7 +33,7 @@ shows m = record {
   header_bytes = simp field_values;
 }
 
-says : (m : TpProcessRequest) (pieces : List Piece) → IsTpProcessRequest m → Shows m pieces → tp_process_request_of pieces ≡ m
+says : (m : TpProcessRequest) (pieces : List Piece) → IsTpProcessRequest m → SpelledBy m pieces → tp_process_request_of pieces ≡ m
 says m pieces is shown =
     rw (
       message_back 1 pieces m.header shown.header (transaction_header_back m.header is.header),
@@ -43,7 +43,7 @@ says m pieces is shown =
       bytes_back 5 pieces m.header_bytes shown.header_bytes,
     ) refl
 
-fine : (m : TpProcessRequest) (pieces : List Piece) → IsTpProcessRequest m → Shows m pieces → IsFine tp_process_request_fault pieces
+fine : (m : TpProcessRequest) (pieces : List Piece) → IsTpProcessRequest m → SpelledBy m pieces → IsFine tp_process_request_fault pieces
 fine m pieces is shown =
     message_fine 1 pieces m.header shown.header (transaction_header_back m.header is.header)
     and text_fine 3 pieces m.signature shown.signature is.signature

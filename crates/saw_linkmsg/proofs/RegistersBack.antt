@@ -15,14 +15,14 @@ use Rattle.saw_linkmsg.specs.LinkReadBack.{IsTpRegisterRequest, IsTpRegisterResp
 -- ---- registrations
 
 -- what the fields show
-record Shows (m : TpRegisterRequest) (pieces : List Piece) : Type 0 where
+record SpelledBy (m : TpRegisterRequest) (pieces : List Piece) : Type 0 where
   family : all_bytes 1 pieces ≡ bytes_values m.family
   version : all_bytes 2 pieces ≡ bytes_values m.version
   namespaces : all_bytes 4 pieces ≡ m.namespaces
   protocol_version : filter_map (number_in 6) pieces ≡ number_values m.protocol_version
   more : filter_map (number_in 9) pieces ≡ number_values (if m.more then 1 else 0)
 
-shows : (m : TpRegisterRequest) → Shows m (tp_register_request_pieces m)
+shows : (m : TpRegisterRequest) → SpelledBy m (tp_register_request_pieces m)
 shows m = record {
   family = simp field_values;
   version = simp field_values;
@@ -31,7 +31,7 @@ shows m = record {
   more = simp field_values;
 }
 
-says : (m : TpRegisterRequest) (pieces : List Piece) → IsTpRegisterRequest m → Shows m pieces → tp_register_request_of pieces ≡ m
+says : (m : TpRegisterRequest) (pieces : List Piece) → IsTpRegisterRequest m → SpelledBy m pieces → tp_register_request_of pieces ≡ m
 says m pieces is shown =
     rw (
       bytes_back 1 pieces m.family shown.family,
@@ -41,7 +41,7 @@ says m pieces is shown =
       flag_back 9 pieces m.more shown.more,
     ) refl
 
-fine : (m : TpRegisterRequest) (pieces : List Piece) → IsTpRegisterRequest m → Shows m pieces → IsFine tp_register_request_fault pieces
+fine : (m : TpRegisterRequest) (pieces : List Piece) → IsTpRegisterRequest m → SpelledBy m pieces → IsFine tp_register_request_fault pieces
 fine m pieces is shown =
     text_fine 1 pieces m.family shown.family is.family
     and text_fine 2 pieces m.version shown.version is.version

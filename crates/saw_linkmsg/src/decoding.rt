@@ -1,6 +1,6 @@
 //! Messages of the link, read from bytes.
 
-ghost use Rattle.saw_wire.specs.MessageFaults.{Gives};
+ghost use Rattle.saw_wire.specs.MessageFaults.{IsReading};
 ghost use Rattle.saw_linkmsg.specs.Envelopes.{envelope};
 ghost use Rattle.saw_linkmsg.specs.RegisterMessages.{tp_register_request, tp_register_response};
 ghost use Rattle.saw_linkmsg.specs.ProcessMessages.{tp_process_request, tp_process_response};
@@ -17,7 +17,7 @@ use std::alloc::Global;
 
 /// Reads the message of a frame, or tells the first fault of the bytes.
 pub fn decode_envelope(alloc: Global, bytes: &[u8]) -> Result<Envelope, MessageFault>
-    ensures { Gives result (envelope bytes.now) }
+    ensures { IsReading result (envelope bytes.now) }
 {
     decode(alloc, bytes)
 }
@@ -27,7 +27,7 @@ pub fn decode_tp_register_request(
     alloc: Global,
     bytes: &[u8],
 ) -> Result<TpRegisterRequest, MessageFault>
-    ensures { Gives result (tp_register_request bytes.now) }
+    ensures { IsReading result (tp_register_request bytes.now) }
 {
     decode(alloc, bytes)
 }
@@ -37,7 +37,7 @@ pub fn decode_tp_register_response(
     alloc: Global,
     bytes: &[u8],
 ) -> Result<TpRegisterResponse, MessageFault>
-    ensures { Gives result (tp_register_response bytes.now) }
+    ensures { IsReading result (tp_register_response bytes.now) }
 {
     decode(alloc, bytes)
 }
@@ -47,7 +47,7 @@ pub fn decode_tp_process_request(
     alloc: Global,
     bytes: &[u8],
 ) -> Result<TpProcessRequest, MessageFault>
-    ensures { Gives result (tp_process_request bytes.now) }
+    ensures { IsReading result (tp_process_request bytes.now) }
 {
     decode(alloc, bytes)
 }
@@ -57,14 +57,14 @@ pub fn decode_tp_process_response(
     alloc: Global,
     bytes: &[u8],
 ) -> Result<TpProcessResponse, MessageFault>
-    ensures { Gives result (tp_process_response bytes.now) }
+    ensures { IsReading result (tp_process_response bytes.now) }
 {
     decode(alloc, bytes)
 }
 
 /// Reads an entry of the state, or tells the first fault of the bytes.
 pub fn decode_tp_state_entry(alloc: Global, bytes: &[u8]) -> Result<TpStateEntry, MessageFault>
-    ensures { Gives result (tp_state_entry bytes.now) }
+    ensures { IsReading result (tp_state_entry bytes.now) }
 {
     decode(alloc, bytes)
 }
@@ -74,7 +74,7 @@ pub fn decode_tp_state_get_request(
     alloc: Global,
     bytes: &[u8],
 ) -> Result<TpStateGetRequest, MessageFault>
-    ensures { Gives result (tp_state_get_request bytes.now) }
+    ensures { IsReading result (tp_state_get_request bytes.now) }
 {
     decode(alloc, bytes)
 }
@@ -84,7 +84,7 @@ pub fn decode_tp_state_get_response(
     alloc: Global,
     bytes: &[u8],
 ) -> Result<TpStateGetResponse, MessageFault>
-    ensures { Gives result (tp_state_get_response bytes.now) }
+    ensures { IsReading result (tp_state_get_response bytes.now) }
 {
     decode(alloc, bytes)
 }
@@ -94,7 +94,7 @@ pub fn decode_tp_state_set_request(
     alloc: Global,
     bytes: &[u8],
 ) -> Result<TpStateSetRequest, MessageFault>
-    ensures { Gives result (tp_state_set_request bytes.now) }
+    ensures { IsReading result (tp_state_set_request bytes.now) }
 {
     decode(alloc, bytes)
 }
@@ -104,7 +104,7 @@ pub fn decode_tp_state_set_response(
     alloc: Global,
     bytes: &[u8],
 ) -> Result<TpStateSetResponse, MessageFault>
-    ensures { Gives result (tp_state_set_response bytes.now) }
+    ensures { IsReading result (tp_state_set_response bytes.now) }
 {
     decode(alloc, bytes)
 }
@@ -114,7 +114,7 @@ pub fn decode_tp_state_delete_request(
     alloc: Global,
     bytes: &[u8],
 ) -> Result<TpStateDeleteRequest, MessageFault>
-    ensures { Gives result (tp_state_delete_request bytes.now) }
+    ensures { IsReading result (tp_state_delete_request bytes.now) }
 {
     decode(alloc, bytes)
 }
@@ -124,7 +124,7 @@ pub fn decode_tp_state_delete_response(
     alloc: Global,
     bytes: &[u8],
 ) -> Result<TpStateDeleteResponse, MessageFault>
-    ensures { Gives result (tp_state_delete_response bytes.now) }
+    ensures { IsReading result (tp_state_delete_response bytes.now) }
 {
     decode(alloc, bytes)
 }
@@ -134,7 +134,7 @@ pub fn decode_tp_event_add_request(
     alloc: Global,
     bytes: &[u8],
 ) -> Result<TpEventAddRequest, MessageFault>
-    ensures { Gives result (tp_event_add_request bytes.now) }
+    ensures { IsReading result (tp_event_add_request bytes.now) }
 {
     decode(alloc, bytes)
 }
@@ -144,7 +144,7 @@ pub fn decode_tp_event_add_response(
     alloc: Global,
     bytes: &[u8],
 ) -> Result<TpEventAddResponse, MessageFault>
-    ensures { Gives result (tp_event_add_response bytes.now) }
+    ensures { IsReading result (tp_event_add_response bytes.now) }
 {
     decode(alloc, bytes)
 }

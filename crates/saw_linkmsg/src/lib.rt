@@ -1,4 +1,4 @@
-//! The messages that a station and its processor elsewhere send to each other.
+//! The messages that a station and its external processor send to each other.
 #![tactic(auto)]
 
 mod decoding;

@@ -38,9 +38,9 @@ failed_after failed n size (Applied outcomes) j = failed j
 failed_after failed n size (Failed t reason) j = within n size j || failed j
 
 -- what comes behind the outcome of a batch's first transaction: an invalid one ends the batch
-abbrev pub GoesOn : (List Change → BatchResult → Type 0) → Outcome → BatchResult → Type 0
-GoesOn Others (Ok changes events) result = (others : BatchResult) × Others changes others × (result ≡ behind (Ok changes events) others)
-GoesOn Others (Invalid reason) result = result ≡ Failed 0 reason
+abbrev pub ThenOthers : (List Change → BatchResult → Type 0) → Outcome → BatchResult → Type 0
+ThenOthers Others (Ok changes events) result = (others : BatchResult) × Others changes others × (result ≡ behind (Ok changes events) others)
+ThenOthers Others (Invalid reason) result = result ≡ Failed 0 reason
 
 -- `May i m failed outcome`: the outcome may come of transaction i over a map, where a dependency of it failed or not
 module _ (order : Order) (May : ℕ → Map → Bool → Outcome → Type 0) where
@@ -49,7 +49,7 @@ module _ (order : Order) (May : ℕ → Map → Bool → Outcome → Type 0) whe
   MayComeOfBatch failed n zero m result = result ≡ Applied []
   MayComeOfBatch failed n (suc size) m result =
       (outcome : Outcome) × May n m (names_failed order failed n) outcome
-      × GoesOn (λ changes others. MayComeOfBatch failed (suc n) size (after m changes) others) outcome result
+      × ThenOthers (λ changes others. MayComeOfBatch failed (suc n) size (after m changes) others) outcome result
 
   -- batches of these sizes, whose transactions are numbered from n on
   abbrev pub MayComeFrom : Map → (ℕ → Bool) → ℕ → List ℕ → List BatchResult → Type 0

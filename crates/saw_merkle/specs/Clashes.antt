@@ -1,4 +1,4 @@
--- Nodes and pieces of maps, and those that clash: two different ones of equal hash.
+-- Nodes and pieces of maps, and those that collide: two different ones of equal hash.
 use Rattle.std.specs.Prelude.{◌≡◌, ◌≢◌, ◌⊎◌, ⊤, ℕ, List, Some}
 use Rattle.std.specs.FinMap as finite
 use Rattle.saw_address.specs.Maps.{AreAddresses, StateMap}
@@ -53,7 +53,8 @@ IsClashFor hash states m (Collision kept given) =
     (encoding_of (shape_of given)))
 IsClashFor hash states m OutOfMemory = ⊤
 
--- what a map needs to become known: its root, and pieces of it, among them all that no known map has; none of its pieces clash
+-- what a map needs to become known: its root, and pieces of it, among them all that no known map has; none of its
+-- pieces collide
 pub record IsPreparedFor (hash : List ℕ → List ℕ) (states : States) (m : StateMap)
     (prepared : Preparation) : Type 0 where
   pub root : prepared.root ≡ root_of_map hash m

@@ -28,7 +28,8 @@ use std::marker::{Model, PhantomData};
 use std::thread::Threads;
 
 /// The map of each known root, seen as a finite map from roots to maps. Each root is that of its map, which has only
-/// addresses, and no two different pieces of the maps have one hash: forks, leaves, and the runs of only children between them.
+/// addresses, and no two different pieces of the maps have one hash: forks, leaves, and the runs of only children
+/// between them.
 ///
 /// The maps share their pieces, and an update adds those along the paths of the changed addresses.
 pub struct State<H: NodeHasher> {
@@ -144,9 +145,9 @@ impl<H: NodeHasher> State<H> {
         })
     }
 
-    /// That each known root is the root of its map, which has only addresses, that the empty map is known, and that no two
-    /// different pieces of the maps have one hash. Nodes inside a run are hashed and not kept: they are told apart by nothing,
-    /// and nothing is looked up by their hashes.
+    /// That each known root is the root of its map, which has only addresses, that the empty map is known, and that no
+    /// two different pieces of the maps have one hash. Nodes inside a run are hashed and not kept: they are told apart
+    /// by nothing, and nothing is looked up by their hashes.
     pub fn sound(&self)
         ensures empty { state_at self.now (root_of_map H.hash_of no_entries) ≡ Some no_entries }
         ensures rooted { AreRooted H.hash_of self.now }
@@ -170,8 +171,8 @@ impl<H: NodeHasher> State<H> {
         })
     }
 
-    /// The changes that lead from one known root's map to another's, in address order. It costs what lies along the ways to
-    /// the entries that differ.
+    /// The changes that lead from one known root's map to another's, in address order. It costs what lies along the
+    /// ways to the entries that differ.
     pub fn difference(&self, from: &NodeHash, to: &NodeHash) -> Result<Vec<Change>, AllocError>
         requires from { IsSome (state_at self.now from.now) }
         requires to { IsSome (state_at self.now to.now) }
@@ -183,7 +184,7 @@ impl<H: NodeHasher> State<H> {
     }
 
     /// The root after changes of a known root's map, with the pieces that the new map needs, hashed by so many
-    /// workers. Nothing is made known or kept. `Collision`: the new map has a node that clashes.
+    /// workers. Nothing is made known or kept. `Collision`: the new map has a node that collides.
     pub fn prepare<T: Threads + Sync>(
         &self,
         rt: &T,

@@ -1,4 +1,4 @@
-//! Nodes that clash.
+//! Nodes that collide.
 
 use crate::many::many;
 use saw_merkle::State;
@@ -48,7 +48,8 @@ fn runs_of(kept: &Node, given: &Node) -> usize {
     kept.saturating_add(given)
 }
 
-/// Which two nodes clash once so many entries are set in an empty state: how many of them are of runs. None: no clash.
+/// Which two nodes collide once so many entries are set in an empty state: how many of them are of runs. None: no hash
+/// collision.
 fn met<T: Threads + Sync>(rt: &T, alloc: Global, first: u32) -> Result<Option<usize>, Fail> {
     let mut state: State<OneByte> = State::new(alloc)?;
     let empty = saw_node::root_by::<OneByte>(alloc, &std::collections::BTreeMap::new(alloc))?;

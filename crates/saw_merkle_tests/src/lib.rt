@@ -1,4 +1,5 @@
-//! Tests of states over shared pieces: roots by several workers, reads after a fork, paths and proofs, differences, and nodes that clash.
+//! Tests of states over shared pieces: roots by several workers, reads after a fork, paths and proofs, differences, and
+//! nodes that collide.
 #![tactic(auto)]
 
 #[cfg(test)]

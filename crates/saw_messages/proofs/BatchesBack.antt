@@ -19,16 +19,16 @@ use Rattle.saw_messages.proofs.TransactionsBack.{transaction_back}
 -- ---- batches
 
 -- what the fields show
-record Shows (m : Batch) (pieces : List Piece) : Type 0 where
+record SpelledBy (m : Batch) (pieces : List Piece) : Type 0 where
   header : all_bytes 1 pieces ≡ bytes_values m.header
   header_signature : all_bytes 2 pieces ≡ bytes_values m.header_signature
   transactions : all_bytes 3 pieces ≡ map (λ tx. spelled (transaction_pieces tx)) m.transactions
   trace : filter_map (number_in 4) pieces ≡ number_values (if m.trace then 1 else 0)
 
-shows : (m : Batch) → Shows m (batch_pieces m)
+shows : (m : Batch) → SpelledBy m (batch_pieces m)
 shows m = record { header = simp field_values; header_signature = simp field_values; transactions = simp field_values; trace = simp field_values }
 
-says : (m : Batch) (pieces : List Piece) → IsBatch m → Shows m pieces → batch_of pieces ≡ m
+says : (m : Batch) (pieces : List Piece) → IsBatch m → SpelledBy m pieces → batch_of pieces ≡ m
 says m pieces is shown =
     rw (
       bytes_back 1 pieces m.header shown.header,
@@ -37,7 +37,7 @@ says m pieces is shown =
       flag_back 4 pieces m.trace shown.trace,
     ) refl
 
-fine : (m : Batch) (pieces : List Piece) → IsBatch m → Shows m pieces → IsFine batch_fault pieces
+fine : (m : Batch) (pieces : List Piece) → IsBatch m → SpelledBy m pieces → IsFine batch_fault pieces
 fine m pieces is shown =
     text_fine 2 pieces m.header_signature shown.header_signature is.header_signature
     and items_fine transaction_back 3 pieces m.transactions shown.transactions is.transactions

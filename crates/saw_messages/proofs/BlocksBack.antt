@@ -16,15 +16,15 @@ use Rattle.saw_messages.proofs.BatchesBack.{batch_back}
 -- ---- blocks
 
 -- what the fields show
-record Shows (m : Block) (pieces : List Piece) : Type 0 where
+record SpelledBy (m : Block) (pieces : List Piece) : Type 0 where
   header : all_bytes 1 pieces ≡ bytes_values m.header
   header_signature : all_bytes 2 pieces ≡ bytes_values m.header_signature
   batches : all_bytes 3 pieces ≡ map (λ one. spelled (batch_pieces one)) m.batches
 
-shows : (m : Block) → Shows m (block_pieces m)
+shows : (m : Block) → SpelledBy m (block_pieces m)
 shows m = record { header = simp field_values; header_signature = simp field_values; batches = simp field_values }
 
-says : (m : Block) (pieces : List Piece) → IsBlock m → Shows m pieces → block_of pieces ≡ m
+says : (m : Block) (pieces : List Piece) → IsBlock m → SpelledBy m pieces → block_of pieces ≡ m
 says m pieces is shown =
     rw (
       bytes_back 1 pieces m.header shown.header,
@@ -33,7 +33,7 @@ says m pieces is shown =
           m.batches shown.batches is.batches,
     ) refl
 
-fine : (m : Block) (pieces : List Piece) → IsBlock m → Shows m pieces → IsFine block_fault pieces
+fine : (m : Block) (pieces : List Piece) → IsBlock m → SpelledBy m pieces → IsFine block_fault pieces
 fine m pieces is shown =
     text_fine 2 pieces m.header_signature shown.header_signature is.header_signature
     and items_fine batch_back 3 pieces m.batches shown.batches is.batches

@@ -12,15 +12,15 @@ use Rattle.saw_messages.specs.ReadBack.{IsTransaction, IsTransactionHeader, Tran
 -- ---- transactions
 
 -- what the fields show
-record Shows (m : Transaction) (pieces : List Piece) : Type 0 where
+record SpelledBy (m : Transaction) (pieces : List Piece) : Type 0 where
   header : all_bytes 1 pieces ≡ bytes_values m.header
   header_signature : all_bytes 2 pieces ≡ bytes_values m.header_signature
   payload : all_bytes 3 pieces ≡ bytes_values m.payload
 
-shows : (m : Transaction) → Shows m (transaction_pieces m)
+shows : (m : Transaction) → SpelledBy m (transaction_pieces m)
 shows m = record { header = simp field_values; header_signature = simp field_values; payload = simp field_values }
 
-says : (m : Transaction) (pieces : List Piece) → Shows m pieces → transaction_of pieces ≡ m
+says : (m : Transaction) (pieces : List Piece) → SpelledBy m pieces → transaction_of pieces ≡ m
 says m pieces shown = rw (
   bytes_back 1 pieces m.header shown.header,
   bytes_back 2 pieces m.header_signature shown.header_signature,
@@ -28,7 +28,7 @@ says m pieces shown = rw (
       pieces m.payload shown.payload,
 ) refl
 
-fine : (m : Transaction) (pieces : List Piece) → IsTransaction m → Shows m pieces → IsFine transaction_fault pieces
+fine : (m : Transaction) (pieces : List Piece) → IsTransaction m → SpelledBy m pieces → IsFine transaction_fault pieces
 fine m pieces is shown = text_fine 2 pieces m.header_signature shown.header_signature is.header_signature
 
 pub transaction_back : (m : Transaction) → IsTransaction m → ComesBack transaction_of transaction_fault transaction_pieces m

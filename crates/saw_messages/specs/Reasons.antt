@@ -5,7 +5,7 @@ use Rattle.saw_messages.specs.declared.outcome.Reason.TheVariants.{BadDeclared, 
 use Rattle.saw_messages.specs.declared.talk.Action.{Action}
 use Rattle.saw_messages.specs.declared.talk.Action.TheVariants as actions
 
--- a processor's own reason: that of one elsewhere, or a family's number, above 100
+-- a processor's own reason: that of an external one, or a family's number, above 100
 abbrev pub is_own_reason : Reason → Bool
 is_own_reason BadDeclared = false
 is_own_reason NoProcessor = false

@@ -1,6 +1,6 @@
 //! Messages read from bytes.
 
-ghost use Rattle.saw_wire.specs.MessageFaults.{Gives};
+ghost use Rattle.saw_wire.specs.MessageFaults.{IsReading};
 ghost use Rattle.saw_messages.specs.Transactions.{transaction, transaction_header};
 ghost use Rattle.saw_messages.specs.Batches.{batch, batch_header, batch_list};
 ghost use Rattle.saw_messages.specs.Blocks.{block, block_header};
@@ -15,7 +15,7 @@ use std::alloc::Global;
 
 /// Reads a transaction, or tells the first fault.
 pub fn decode_transaction(alloc: Global, bytes: &[u8]) -> Result<Transaction, MessageFault>
-    ensures { Gives result (transaction bytes.now) }
+    ensures { IsReading result (transaction bytes.now) }
 {
     decode(alloc, bytes)
 }
@@ -25,63 +25,63 @@ pub fn decode_transaction_header(
     alloc: Global,
     bytes: &[u8],
 ) -> Result<TransactionHeader, MessageFault>
-    ensures { Gives result (transaction_header bytes.now) }
+    ensures { IsReading result (transaction_header bytes.now) }
 {
     decode(alloc, bytes)
 }
 
 /// Reads a batch, or tells the first fault.
 pub fn decode_batch(alloc: Global, bytes: &[u8]) -> Result<Batch, MessageFault>
-    ensures { Gives result (batch bytes.now) }
+    ensures { IsReading result (batch bytes.now) }
 {
     decode(alloc, bytes)
 }
 
 /// Reads a batch header, or tells the first fault.
 pub fn decode_batch_header(alloc: Global, bytes: &[u8]) -> Result<BatchHeader, MessageFault>
-    ensures { Gives result (batch_header bytes.now) }
+    ensures { IsReading result (batch_header bytes.now) }
 {
     decode(alloc, bytes)
 }
 
 /// Reads a batch list, or tells the first fault.
 pub fn decode_batch_list(alloc: Global, bytes: &[u8]) -> Result<BatchList, MessageFault>
-    ensures { Gives result (batch_list bytes.now) }
+    ensures { IsReading result (batch_list bytes.now) }
 {
     decode(alloc, bytes)
 }
 
 /// Reads a block, or tells the first fault.
 pub fn decode_block(alloc: Global, bytes: &[u8]) -> Result<Block, MessageFault>
-    ensures { Gives result (block bytes.now) }
+    ensures { IsReading result (block bytes.now) }
 {
     decode(alloc, bytes)
 }
 
 /// Reads a block header, or tells the first fault.
 pub fn decode_block_header(alloc: Global, bytes: &[u8]) -> Result<BlockHeader, MessageFault>
-    ensures { Gives result (block_header bytes.now) }
+    ensures { IsReading result (block_header bytes.now) }
 {
     decode(alloc, bytes)
 }
 
 /// Reads a receipt, or tells the first fault.
 pub fn decode_receipt(alloc: Global, bytes: &[u8]) -> Result<Receipt, MessageFault>
-    ensures { Gives result (receipt bytes.now) }
+    ensures { IsReading result (receipt bytes.now) }
 {
     decode(alloc, bytes)
 }
 
 /// Reads a state change, or tells the first fault.
 pub fn decode_state_change(alloc: Global, bytes: &[u8]) -> Result<StateChange, MessageFault>
-    ensures { Gives result (state_change bytes.now) }
+    ensures { IsReading result (state_change bytes.now) }
 {
     decode(alloc, bytes)
 }
 
 /// Reads an event, or tells the first fault.
 pub fn decode_event(alloc: Global, bytes: &[u8]) -> Result<Event, MessageFault>
-    ensures { Gives result (event bytes.now) }
+    ensures { IsReading result (event bytes.now) }
 {
     decode(alloc, bytes)
 }

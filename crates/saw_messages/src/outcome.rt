@@ -18,7 +18,7 @@ pub enum Reason {
     DependencyFailed,
     /// More requests than are answered.
     TooManyRequests,
-    /// A processor elsewhere refused it.
+    /// An external processor refused it.
     Remote,
     /// The family's own number, above 100.
     Family(u16),

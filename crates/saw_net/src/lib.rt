@@ -1,4 +1,4 @@
-//! Links to and from processors elsewhere over connections of this machine.
+//! Links to and from external processors over connections of this machine.
 #![tactic(auto)]
 
 mod links;

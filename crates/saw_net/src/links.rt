@@ -1,4 +1,4 @@
-//! Connections to and from processors elsewhere, on this machine alone.
+//! Connections to and from external processors, on this machine alone.
 
 ghost use Rattle.std.specs.Prelude.{◌≡◌, false, length, All, IfOk};
 

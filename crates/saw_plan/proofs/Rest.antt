@@ -12,7 +12,7 @@ use Rattle.saw_plan.specs.declared.sorted.DropCause.{DropCause}
 use Rattle.saw_plan.specs.declared.sorted.Sorted.{Sorted}
 
 -- what is sorted, and then what the rules make of the rest, is what they make of all
-pub record GoesOn (there now : Ids) (place : ℕ) (rest all : List BatchShape) (sorting : Sorting) : Type 0 where
+pub record SortsRest (there now : Ids) (place : ℕ) (rest all : List BatchShape) (sorting : Sorting) : Type 0 where
   pub plan : sorting.plan ++ kept_by (causes now rest) rest ≡ kept_by (causes there all) all
   pub places : sorting.places ++ places_by place (causes now rest) ≡ places_by 0 (causes there all)
   pub dropped : sorting.dropped ++ dropped_by place (causes now rest) ≡ dropped_by 0 (causes there all)
@@ -34,8 +34,8 @@ module _ (place : ℕ) (batch : BatchShape) (others : List (Option DropCause)) (
   dropped_more None = refl
   dropped_more (Some cause) = append_assoc sorting.dropped (record { place = place; cause = cause } ∷ []) (dropped_by (place + 1) others)
 
-step : (there now : Ids) (place : ℕ) (batch : BatchShape) (rest all : List BatchShape) (sorting : Sorting) → GoesOn there now place (batch ∷ rest) all sorting
-    → GoesOn there (after_batch (batch_cause now batch) now batch) (place + 1) rest all (with_batch (batch_cause now batch) place batch sorting)
+step : (there now : Ids) (place : ℕ) (batch : BatchShape) (rest all : List BatchShape) (sorting : Sorting) → SortsRest there now place (batch ∷ rest) all sorting
+    → SortsRest there (after_batch (batch_cause now batch) now batch) (place + 1) rest all (with_batch (batch_cause now batch) place batch sorting)
 step there now place batch rest all sorting so_far =
     let cause = batch_cause now batch in
     let others = causes (after_batch cause now batch) rest in
@@ -48,26 +48,26 @@ step there now place batch rest all sorting so_far =
 
 pub goes_on : (there now : Ids) (batches : List BatchShape) (place : ℕ) (batch : BatchShape) → place < length batches → batch ≡ get_or batches place batch
     → (sorting new : Sorting) → new ≡ with_batch (batch_cause now batch) place batch sorting
-    → GoesOn there now place (drop place batches) batches sorting
-    → GoesOn there (after_batch (batch_cause now batch) now batch) (place + 1) (drop (place + 1) batches) batches new
+    → SortsRest there now place (drop place batches) batches sorting
+    → SortsRest there (after_batch (batch_cause now batch) now batch) (place + 1) (drop (place + 1) batches) batches new
 goes_on there now batches place batch below here sorting new is so_far =
     let cut : drop place batches ≡ batch ∷ drop (place + 1) batches = rw (drop_more batches place batch below, ← here) refl in
     rw is
     (step there now place batch (drop (place + 1) batches) batches sorting
-    (subst (λ (rest : List BatchShape). GoesOn there now place rest batches sorting) cut so_far))
+    (subst (λ (rest : List BatchShape). SortsRest there now place rest batches sorting) cut so_far))
 
 -- nothing is sorted, and all is left
 pub begins : (there : Ids) (all : List BatchShape) (sorting : Sorting) → sorting ≡ record { plan = []; places = []; dropped = [] }
-    → GoesOn there there 0 all all sorting
+    → SortsRest there there 0 all all sorting
 begins there all sorting is = rw is (record { plan = refl; places = refl; dropped = refl; grown = refl })
 
 -- nothing is left
 pub ends : (there now : Ids) (place : ℕ) (batches : List BatchShape) (sorted : Sorted) → length batches ≤ place
-    → GoesOn there now place (drop place batches) batches (sorting_of sorted)
+    → SortsRest there now place (drop place batches) batches (sorting_of sorted)
     → IsSorted there batches sorted
 ends there now place batches sorted over so_far =
     let none = drop_all place batches over in
-    let all = subst (λ (rest : List BatchShape). GoesOn there now place rest batches (sorting_of sorted)) none so_far in
+    let all = subst (λ (rest : List BatchShape). SortsRest there now place rest batches (sorting_of sorted)) none so_far in
     record {
       plan = sym (append-nil (sorting_of sorted).plan) ∙ all.plan;
       places = sym (append-nil (sorting_of sorted).places) ∙ all.places;
@@ -76,7 +76,7 @@ ends there now place batches sorted over so_far =
 
 -- and what is known then is what is known after all
 pub grown : (there now : Ids) (place : ℕ) (batches : List BatchShape) (sorting : Sorting) → length batches ≤ place
-    → GoesOn there now place (drop place batches) batches sorting
+    → SortsRest there now place (drop place batches) batches sorting
     → now ≡ after_batches there batches
 grown there now place batches sorting over so_far =
     ap (after_batches now) (sym (drop_all place batches over)) ∙ so_far.grown

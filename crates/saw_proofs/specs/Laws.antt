@@ -30,7 +30,7 @@ Holds m address (Ok (Present value)) = value_at m address ≡ Some value
 Holds m address (Ok Absent) = value_at m address ≡ None
 Holds m address (Err fault) = ⊤
 
--- what a proof shows under a root is so in each map of the root, or its nodes and the map's contain a clash
+-- what a proof shows under a root is so in each map of the root, or its nodes and the map's contain a hash collision
 abbrev pub CheckedEntriesAre : (List ℕ → List ℕ) → Type 0
 CheckedEntriesAre hash = (root address : List ℕ) (proof : List (List ℕ)) (answer : Result Found ProofFault) (m : StateMap)
     → is_address address ≡ true → AreAddresses (finite.entries m) → root_of_map hash m ≡ root

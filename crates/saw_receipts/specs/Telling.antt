@@ -1,4 +1,4 @@
--- Whether batches and blocks go to processors that tell their actions.
+-- Whether batches and blocks go to deterministic processors.
 use Rattle.std.specs.Prelude.{ℕ, Bool, true, List, map, Result, Ok, Err}
 use Rattle.saw_context.specs.Outcome.{Processors}
 use Rattle.saw_context.specs.Possible.{are_told}

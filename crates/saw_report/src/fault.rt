@@ -1,4 +1,4 @@
-//! The words of faults and losses.
+//! The words of faults and rejected batches.
 
 ghost use Rattle.std.specs.Prelude.{◌≡◌, ◌++◌, codes, OnOk};
 ghost use Rattle.saw_report.specs.Lines.{spaced, spaced_or, batch_fault_text, structure_text, cause_text, policy_text, reason_number, said_text, fault_text, loss_text};

@@ -1,4 +1,4 @@
-//! The lines of blocks, of the head, of entries, of losses, of receipts and of batches.
+//! The lines of blocks, of the head, of entries, of rejected batches, of receipts and of batches.
 
 ghost use Rattle.std.specs.Prelude.{◌≡◌, ◌++◌, length, sum_by, option_copied, is_some, IfOk, OnOk};
 ghost use Rattle.saw_receipts.specs.Verdicts.{is_accepted};

@@ -12,7 +12,7 @@ use std::alloc::AllocError;
 /// What ends a run before its answer is whole. Each has its line on the notes.
 #[derive(Debug, Drop)]
 pub enum RunFault {
-    /// The words are of no form.
+    /// The arguments are invalid.
     Words,
     /// The stream ends after `have` of the `want` bytes of a frame's length or content.
     Truncated { have: u32, want: u32 },
@@ -24,7 +24,7 @@ pub enum RunFault {
     Blocks,
     Read,
     Write,
-    /// A processor elsewhere failed.
+    /// An external processor failed.
     Peer,
     /// Two different nodes of one hash were met.
     Collision { kept: Node, given: Node },

@@ -20,7 +20,7 @@ use Rattle.saw_runs.specs.Told.{hash_at, IsTold, IsToldBy}
 use Rattle.saw_runs.specs.Tables.{at_byte}
 use Rattle.saw_runs.specs.Lowers.{AreFor, IsFor, Stands, hashed_pair, kid_pair, lower_hash}
 use Rattle.saw_runs.specs.Pieces.{EachIs, IsPieceBelow}
-use Rattle.saw_runs.specs.Changes.{IsRunOf, IsRunOfOne, AddsPiece, ClosesAll, Finishes, GoesOn, IsClosed}
+use Rattle.saw_runs.specs.Changes.{IsRunOf, IsRunOfOne, AddsPiece, ClosesAll, Finishes, OpensOnlyKid, IsClosed}
 use Rattle.saw_runs.specs.declared.run.Run.{Run}
 use Rattle.saw_runs.specs.declared.pieces.NewPiece.{NewPiece}
 use Rattle.saw_runs.specs.declared.lowers.Lower.{Lower}
@@ -128,7 +128,7 @@ module _ (hash : List ℕ → List ℕ) (read : List ℕ → Option Entry) where
   none_is e = cc
 
   one_told : (es : Entries) (levels : ℕ) (place : List ℕ) (before : List NewPiece) (kid : Kid) (answer : Option Run) → levels < 35
-      → GoesOn read kid answer → next_bytes es place ≡ kid.byte ∷ [] → has_under es (place ++ kid.byte ∷ []) ≡ true
+      → OpensOnlyKid read kid answer → next_bytes es place ≡ kid.byte ∷ [] → has_under es (place ++ kid.byte ∷ []) ≡ true
       → IsFor hash (IsRead read) (IsReadOr read before) es levels (place ++ kid.byte ∷ []) (Some kid.lower)
       → Stands hash (IsReadOr read (before ++ [])) es (suc levels) place answer
   unfolding IsTold
@@ -150,7 +150,7 @@ module _ (hash : List ℕ → List ℕ) (read : List ℕ → Option Entry) where
             (subst (λ q. IsTold hash (IsReadOr read before) es (suc levels) place q run.bottom) (sym goes.2) whole),
       )
 
-  pub finish_one : (kids : List Kid) (kid : Kid) (answer : Option Run) (old : List NewPiece) → kids ≡ kid ∷ [] → GoesOn read kid answer
+  pub finish_one : (kids : List Kid) (kid : Kid) (answer : Option Run) (old : List NewPiece) → kids ≡ kid ∷ [] → OpensOnlyKid read kid answer
       → Finishes hash read kids answer old old
   unfolding EachIs
   finish_one kids kid answer old single goes = record {

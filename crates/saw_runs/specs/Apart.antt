@@ -97,6 +97,6 @@ abbrev pub IsNodeAt : (List ℕ → List ℕ) → (List ℕ → Entry → Type 0
 IsNodeAt hash Known (OfNode shape) place node = node ≡ shape
 IsNodeAt hash Known (OfRun path bottom) place node = IsTopOf hash Known (drop place path) bottom node
 
--- two nodes clash, whatever new pieces come behind the second one's
+-- two nodes collide, whatever new pieces come behind the second one's
 abbrev pub IsClashWith : (List ℕ → List ℕ) → (List ℕ → Option Entry) → List NewPiece → NewPiece → StoreFault → Type 0
 IsClashWith hash read before new fault = (behind : List NewPiece) → IsClashOf hash read (before ++ new ∷ behind) fault

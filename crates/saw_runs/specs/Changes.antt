@@ -115,10 +115,10 @@ pub record ClosesAll (hash : List ℕ → List ℕ) (kids : List Kid) (children 
   pub runs : EachIs (λ before entry. IsRunOfOne kids entry) [] news
 
 -- what an only kid is opened to, with its byte in front
-abbrev pub GoesOn : (List ℕ → Option Entry) → Kid → Option Run → Type 0
-GoesOn read kid None =
+abbrev pub OpensOnlyKid : (List ℕ → Option Entry) → Kid → Option Run → Type 0
+OpensOnlyKid read kid None =
     (path : List ℕ) × (bottom : Option (List ℕ)) × IsOpened read (Some kid.lower) path bottom × ((bottom ≡ None) ⊎ (35 ≤ length path))
-GoesOn read kid (Some run) =
+OpensOnlyKid read kid (Some run) =
     (path : List ℕ) × IsOpened read (Some kid.lower) path (Some run.bottom) × (run.path.items ≡ kid.byte ∷ path)
 
 -- ---- at the root

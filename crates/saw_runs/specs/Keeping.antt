@@ -1,4 +1,4 @@
--- What is kept under hashes, what new pieces add to it, and what clashes there.
+-- What is kept under hashes, what new pieces add to it, and what collides there.
 use Rattle.std.specs.Prelude.{◌≡◌, ◌≢◌, ◌⊎◌, ⊤, ℕ, List, [], ◌∷◌, ◌++◌, Option, Some}
 use Rattle.saw_node.specs.Nodes.{Shape, encoding_of, shape_of}
 use Rattle.saw_store.specs.declared.fault.StoreFault.{StoreFault}

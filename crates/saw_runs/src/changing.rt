@@ -7,7 +7,7 @@ ghost use Rattle.saw_node.specs.Nodes.{shape_of};
 ghost use Rattle.saw_runs.specs.Entries.{Entry};
 ghost use Rattle.saw_runs.specs.Entries.Entry.{OfNode};
 ghost use Rattle.saw_runs.specs.Places.{EndsGroup, FitsSome};
-ghost use Rattle.saw_runs.specs.Changes.{AddsPiece, ChangesBelow, ChangesLeaf, Closes, ClosesAll, Finishes, GoesOn, IsOnly, MakesLeaf, OnTop};
+ghost use Rattle.saw_runs.specs.Changes.{AddsPiece, ChangesBelow, ChangesLeaf, Closes, ClosesAll, Finishes, OpensOnlyKid, IsOnly, MakesLeaf, OnTop};
 ghost use Rattle.saw_runs.specs.Readings.{read_at};
 
 use crate::kids::{kids_of, lower_at, put_at};
@@ -185,7 +185,7 @@ pub(crate) fn finished<H: NodeHasher>(
 
 // The run that goes on down an only kid. Of no part or of one that is too long, which no map has, there is none.
 fn gone_on<H>(tables: &Tables<H>, kid: &Kid) -> Option<Run>
-    ensures { GoesOn (read_at tables.now) kid.now result }
+    ensures { OpensOnlyKid (read_at tables.now) kid.now result }
 {
     let (path, bottom) = opened(tables, Some(&kid.lower));
     let Some(bottom) = bottom else {

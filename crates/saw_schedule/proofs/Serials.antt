@@ -7,7 +7,7 @@ use Rattle.saw_messages.specs.declared.outcome.Outcome.{Outcome}
 use Rattle.saw_messages.specs.declared.outcome.Outcome.TheVariants.{Ok, Invalid}
 use Rattle.saw_context.proofs.Coming.{from_told}
 use Rattle.saw_context.specs.Outcome.{Processors, map_after}
-use Rattle.saw_context.specs.Possible.{GoesOn, MayCome, MayComeFrom, MayComeOfBatch}
+use Rattle.saw_context.specs.Possible.{ThenOthers, MayCome, MayComeFrom, MayComeOfBatch}
 use Rattle.saw_context.specs.Serial.{failed_with, left_by, names_one}
 use Rattle.saw_context.specs.declared.batch_result.BatchResult.{BatchResult}
 use Rattle.saw_machine.proofs.Runs.{moves-are-serial}
@@ -41,7 +41,7 @@ module _ (processors : Processors) (txs : List TxShape) where
   -- what comes behind an outcome
   goes-on : (Others : List Change → BatchResult → Type 0) (Onward : StateMap → BatchResult → Type 0) (state : StateMap) (outcome : Outcome)
       (result : BatchResult) → ((changes : List Change) (others : BatchResult) → Others changes others → Onward (map_after state changes) others)
-      → machine.GoesOn Others outcome result → GoesOn Onward state outcome result
+      → machine.ThenOthers Others outcome result → ThenOthers Onward state outcome result
   goes-on Others Onward state (Ok changes events) result onward goes = (goes.0, onward changes goes.0 goes.1, goes.2)
   goes-on Others Onward state (Invalid reason) result onward goes = goes
 

@@ -17,7 +17,7 @@ use Rattle.saw_ready.specs.Queues.{Waits, with_first}
 use Rattle.saw_ready.specs.Resets.{IsFailed, failed_mark}
 use Rattle.saw_ready.specs.declared.mark.Mark.{Mark}
 use Rattle.saw_ready.specs.declared.mark.Mark.TheVariants as marks
-use Rattle.saw_schedule.specs.Shows.{Shows, is_edge, mark_of}
+use Rattle.saw_schedule.specs.Shows.{ShowsMachine, is_edge, mark_of}
 use Rattle.saw_schedule.proofs.Marking.{again-marked, at-edge, edge-at}
 use Rattle.saw_schedule.proofs.Meetings.{and-left, and-right, or-left, or-right}
 
@@ -38,7 +38,7 @@ same-flags false false f g = refl
 
 -- ---- what stands on a failed batch
 
-module _ (order : Order) (st : State) (q : Waits) (size : ℕ) (hits : List Bool) (shows : Shows order st q) (len : length hits ≡ length q.marks)
+module _ (order : Order) (st : State) (q : Waits) (size : ℕ) (hits : List Bool) (shows : ShowsMachine order st q) (len : length hits ≡ length q.marks)
     (are : AreHits q.preds st.first (st.first + size) hits) where
   abbrev edges : ℕ → ℕ → Bool
   edges = is_edge q.preds
@@ -90,7 +90,7 @@ module _ (order : Order) (st : State) (q : Waits) (size : ℕ) (hits : List Bool
 
 -- ---- after the first batch
 
-module _ (order : Order) (st : State) (q : Waits) (size : ℕ) (rest : List ℕ) (is : st.rest ≡ size ∷ rest) (shows : Shows order st q) where
+module _ (order : Order) (st : State) (q : Waits) (size : ℕ) (rest : List ℕ) (is : st.rest ≡ size ∷ rest) (shows : ShowsMachine order st q) where
   pub count-next : length q.marks ≡ st.first + size + sum rest
   count-next =
       let more : sum (size ∷ rest) ≡ size + sum rest = sum_by-cons (λ x. x) size rest in
@@ -106,7 +106,7 @@ module _ (order : Order) (st : State) (q : Waits) (size : ℕ) (rest : List ℕ)
       not-lt i n l = grind arith
 
   -- the queue of the next state after an applied batch
-  pub applied-shows : (outcomes : List Outcome) → Shows order (settled order st.slots st.attempts st.results st.first size rest (Applied outcomes)) (with_first q (st.first + size))
+  pub applied-shows : (outcomes : List Outcome) → ShowsMachine order (settled order st.slots st.attempts st.results st.first size rest (Applied outcomes)) (with_first q (st.first + size))
   applied-shows outcomes = record {
     first = refl;
     count = count-next;
@@ -121,7 +121,7 @@ module _ (order : Order) (st : State) (q : Waits) (size : ℕ) (rest : List ℕ)
   pub failed-shows : (new : Waits) (t : ℕ) (reason : Reason) → ((j : ℕ) → st.first ≤ j → is_closed (st.slots j) ≡ false)
       → new.preds ≡ q.preds → new.starts ≡ q.starts → new.first ≡ st.first + size
       → IsFailed q.preds st.first (st.first + size) q.marks new.marks
-      → Shows order (settled order st.slots st.attempts st.results st.first size rest (Failed t reason)) new
+      → ShowsMachine order (settled order st.slots st.attempts st.results st.first size rest (Failed t reason)) new
   failed-shows new t reason open_ preds starts first failed = record {
     first = first;
     count = failed.long ∙ count-next;

@@ -9,7 +9,7 @@ use Rattle.saw_ready.specs.Edges.{target}
 use Rattle.saw_ready.specs.Marks.{is_met, is_invalid, is_valid, is_waiting}
 use Rattle.saw_ready.specs.Queues.{MayTake, Waits, with_mark}
 use Rattle.saw_ready.specs.declared.mark.Mark.TheVariants as marks
-use Rattle.saw_schedule.specs.Shows.{Shows, is_edge, mark_of}
+use Rattle.saw_schedule.specs.Shows.{ShowsMachine, is_edge, mark_of}
 use Rattle.saw_schedule.proofs.Marking.{at-edge, edge-at, marked-invalid, marked-valid, marked-waiting}
 use Rattle.saw_schedule.proofs.Meetings.{or-right}
 
@@ -24,7 +24,7 @@ below a b v lt = grind arith
 
 -- ---- what may be taken
 
-module _ (order : Order) (st : State) (q : Waits) (i : ℕ) (shows : Shows order st q) where
+module _ (order : Order) (st : State) (q : Waits) (i : ℕ) (shows : ShowsMachine order st q) where
   by-edges : MayTake q i → IsReadyBy (is_edge q.preds) st i
   by-edges may =
       let inside = may.inside in
@@ -71,8 +71,8 @@ module _ (order : Order) (st : State) (q : Waits) (i : ℕ) (shows : Shows order
 
 -- ---- a slot is changed
 
-pub slot-shows : (order : Order) (st : State) (attempts : ℕ → ℕ) (q : Waits) (i : ℕ) (slot : Slot) → i < length q.marks → Shows order st q
-    → Shows order (record st { slots = put st.slots i slot; attempts = attempts }) (with_mark q i (mark_of slot))
+pub slot-shows : (order : Order) (st : State) (attempts : ℕ → ℕ) (q : Waits) (i : ℕ) (slot : Slot) → i < length q.marks → ShowsMachine order st q
+    → ShowsMachine order (record st { slots = put st.slots i slot; attempts = attempts }) (with_mark q i (mark_of slot))
 slot-shows order st attempts q i slot inside shows = record {
   first = shows.first;
   count = length-set q.marks i (mark_of slot) ∙ shows.count;

@@ -117,9 +117,9 @@ Finishes old new done (ends.Foreign difference) =
     (new ≡ with_step old (Finish done)) × RunsIn (state_of old) done.ticket × (difference_in (txs_in old) (state_of old) done ≡ Some difference)
 
 -- what giving a job back does, by the answer
-abbrev pub Gives : History → History → Ticket → Given → Type 0
-Gives old new ticket gifts.Back = (new ≡ with_step old (GiveBack ticket)) × RunsIn (state_of old) ticket
-Gives old new ticket gifts.Stale = (new ≡ old) × (RunsIn (state_of old) ticket → ⊥)
+abbrev pub GivesBack : History → History → Ticket → Given → Type 0
+GivesBack old new ticket gifts.Back = (new ≡ with_step old (GiveBack ticket)) × RunsIn (state_of old) ticket
+GivesBack old new ticket gifts.Stale = (new ≡ old) × (RunsIn (state_of old) ticket → ⊥)
 
 -- all batches are settled
 abbrev pub is_over : History → Bool

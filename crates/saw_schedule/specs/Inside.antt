@@ -24,7 +24,7 @@ use Rattle.saw_schedule.specs.Layering.{AreLastsOf}
 use Rattle.saw_schedule.specs.LookedUp.{do_read_whole}
 use Rattle.saw_schedule.specs.Layout.{ends_of}
 use Rattle.saw_schedule.specs.Histories.{History, IsReplay, order_in, sizes_in, state_of, txs_in}
-use Rattle.saw_schedule.specs.Shows.{Shows, is_edge}
+use Rattle.saw_schedule.specs.Shows.{ShowsMachine, is_edge}
 use Rattle.saw_schedule.specs.declared.kept.Kept.{Kept}
 use Rattle.saw_schedule.specs.declared.lasts.Lasts.{Lasts}
 use Rattle.saw_schedule.specs.declared.slots.Slots.{Slots}
@@ -102,7 +102,7 @@ running_in all = sum_by one_if_running all
 
 -- the slots are those of a state; `sizes` are those of all batches
 pub record AreSlotsOf (order : Order) (sizes : List ℕ) (st : State) (steps : List Step) (slots : Slots) : Type 0 where
-  pub shows : Shows order st slots.queue
+  pub shows : ShowsMachine order st slots.queue
   pub ends : slots.ends.items ≡ ends_of 0 sizes
   pub hits_long : length slots.hits ≡ length slots.queue.marks
   pub idle : IsEmpty slots.hits

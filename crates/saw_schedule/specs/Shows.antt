@@ -38,7 +38,7 @@ is_edge edges j i = list_any (λ target. target == j) (targets_of edges i)
 
 -- each slot has its mark, all pairs of the precedence follow from the edges, which lead to earlier ones, and each
 -- unsettled transaction has the first number of its batch
-pub record Shows (order : Order) (st : State) (q : Waits) : Type 0 where
+pub record ShowsMachine (order : Order) (st : State) (q : Waits) : Type 0 where
   pub first : q.first ≡ st.first
   pub count : length q.marks ≡ st.first + sum st.rest
   pub marks : (i : ℕ) → i < length q.marks → get_or q.marks i marks.Waiting ≡ mark_of (st.slots i)

@@ -19,7 +19,7 @@ ghost use Rattle.saw_schedule.specs.Jobs.{IsJobAt};
 ghost use Rattle.saw_schedule.specs.Inside.{AreSlotsOf, IsPlacedAt, IsRunning};
 ghost use Rattle.saw_schedule.specs.Orders.{names_in};
 ghost use Rattle.saw_schedule.specs.Shows.{is_closed_mark, is_edge, mark_by, targets_of};
-ghost use Rattle.saw_schedule.specs.Histories.{Finishes, Gives, IsReplay, Takes, begun, is_over, order_in, sizes_in, state_of, txs_in};
+ghost use Rattle.saw_schedule.specs.Histories.{Finishes, GivesBack, IsReplay, Takes, begun, is_over, order_in, sizes_in, state_of, txs_in};
 
 use crate::agreement::difference_kept;
 use crate::begun::new_slots;
@@ -338,7 +338,7 @@ impl Schedule {
 
     /// Gives a job back without a result. It takes no memory.
     pub fn give_back(&mut self, ticket: Ticket) -> Given
-        ensures { Gives self.old self.new ticket result }
+        ensures { GivesBack self.old self.new ticket result }
     {
         if !runs(&self.slots, ticket) {
             return Given::Stale;

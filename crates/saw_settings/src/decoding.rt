@@ -1,6 +1,6 @@
 //! Messages of the family read from bytes.
 
-ghost use Rattle.saw_wire.specs.MessageFaults.{Gives};
+ghost use Rattle.saw_wire.specs.MessageFaults.{IsReading};
 ghost use Rattle.saw_settings.specs.Messages.{setting, settings_payload, setting_proposal, setting_vote};
 ghost use Rattle.saw_settings.specs.Candidates.{setting_candidates};
 
@@ -12,28 +12,28 @@ use std::alloc::Global;
 
 /// Reads what is kept at an address, or tells the first fault.
 pub fn decode_setting(alloc: Global, bytes: &[u8]) -> Result<Setting, MessageFault>
-    ensures { Gives result (setting bytes.now) }
+    ensures { IsReading result (setting bytes.now) }
 {
     decode(alloc, bytes)
 }
 
 /// Reads a payload, or tells the first fault.
 pub fn decode_settings_payload(alloc: Global, bytes: &[u8]) -> Result<SettingsPayload, MessageFault>
-    ensures { Gives result (settings_payload bytes.now) }
+    ensures { IsReading result (settings_payload bytes.now) }
 {
     decode(alloc, bytes)
 }
 
 /// Reads a proposal, or tells the first fault.
 pub fn decode_setting_proposal(alloc: Global, bytes: &[u8]) -> Result<SettingProposal, MessageFault>
-    ensures { Gives result (setting_proposal bytes.now) }
+    ensures { IsReading result (setting_proposal bytes.now) }
 {
     decode(alloc, bytes)
 }
 
 /// Reads a vote, or tells the first fault.
 pub fn decode_setting_vote(alloc: Global, bytes: &[u8]) -> Result<SettingVote, MessageFault>
-    ensures { Gives result (setting_vote bytes.now) }
+    ensures { IsReading result (setting_vote bytes.now) }
 {
     decode(alloc, bytes)
 }
@@ -43,7 +43,7 @@ pub fn decode_setting_candidates(
     alloc: Global,
     bytes: &[u8],
 ) -> Result<SettingCandidates, MessageFault>
-    ensures { Gives result (setting_candidates bytes.now) }
+    ensures { IsReading result (setting_candidates bytes.now) }
 {
     decode(alloc, bytes)
 }

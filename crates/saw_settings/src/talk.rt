@@ -5,7 +5,7 @@ ghost use Rattle.saw_messages.specs.Reasons.{invalid};
 ghost use Rattle.saw_messages.specs.declared.talk.Action.{Action};
 ghost use Rattle.saw_messages.specs.declared.talk.Reply.{Reply};
 ghost use Rattle.saw_messages.specs.declared.talk.Turn.{Turn};
-ghost use Rattle.saw_wire.specs.MessageFaults.{Gives};
+ghost use Rattle.saw_wire.specs.MessageFaults.{IsReading};
 ghost use Rattle.saw_wire.specs.MessageReading.{reading};
 ghost use Rattle.saw_settings.specs.Requests.{Due, Goes, and_then, body_by, done, done_by, message_at, readable, update_of};
 ghost use Rattle.saw_settings.specs.Turns.{replies_from, seen, told_before};
@@ -33,7 +33,7 @@ pub struct Talk<'a> {
 }
 
 fn read<M: Message>(alloc: Global, bytes: &[u8]) -> Result<M, MessageFault>
-    ensures { Gives result (reading M.of M.fault bytes.now) }
+    ensures { IsReading result (reading M.of M.fault bytes.now) }
 {
     decode(alloc, bytes)
 }

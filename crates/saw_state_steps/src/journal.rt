@@ -1,5 +1,5 @@
-//! A journal, call by call: `limit N`, and then calls. Blocks lie in the folder `blocks`. Nodes are hashed as in a state, or
-//! so that different ones meet.
+//! A journal, call by call: `limit N`, and then calls. Blocks lie in the folder `blocks`. Nodes are hashed as in a
+//! state, or so that different ones meet.
 
 use crate::states::put_listed;
 use saw_journal::{Journal, JournalFault};
@@ -92,7 +92,7 @@ fn accept<T: Threads + Wait + Sync, H: NodeHasher>(
     }
 }
 
-/// A word for a full journal or two nodes that clash; other faults end the script.
+/// A word for a full journal or two nodes that collide; other faults end the script.
 fn put_fault<H: NodeHasher>(
     alloc: Global,
     out: &mut Vec<u8>,

@@ -22,7 +22,7 @@ use Rattle.saw_context.specs.Views.{Layers, over}
 use Rattle.saw_context.specs.declared.reads.Read.{Read}
 use Rattle.saw_context.proofs.Alike.{AreAlike, followed_alike}
 use Rattle.saw_context.proofs.Each.{all_both, all_map}
-use Rattle.saw_station.specs.Spoken.{Gives, IsSpoken}
+use Rattle.saw_station.specs.Spoken.{IsSpokenBy, IsSpoken}
 use Rattle.saw_station.proofs.Replays.{replay, replay_gives, replay_last, replay_own}
 
 -- ---- the recorded reads as a map
@@ -85,7 +85,7 @@ module _ (processors : Processors) (tx : TxShape) (base : StateMap) (layers : La
   abbrev talk : Talk
   talk = record { turns = turns; own = spoken.own; events = events; asked = map as_asked reads }
 
-  module _ (next : List Turn → Action) (gives : Gives next turns) (is : next turns ≡ last) where
+  module _ (next : List Turn → Action) (gives : IsSpokenBy next turns) (is : next turns ≡ last) where
     over_recorded : conversation next tx.header (recorded reads) ≡ talk
     over_recorded =
         let whole : conversation next tx.header (over base layers) ≡ talk = spoken.spoken next gives is in

@@ -4,7 +4,7 @@ use Rattle.std.specs.List.{AllByRecursion}
 use Rattle.saw_messages.specs.Reasons.{has_own_reason}
 use Rattle.saw_messages.specs.declared.talk.Action.{Action}
 use Rattle.saw_messages.specs.declared.talk.Turn.{Turn}
-use Rattle.saw_station.specs.Spoken.{Gives}
+use Rattle.saw_station.specs.Spoken.{IsSpokenBy}
 
 -- the action of the turn behind as many turns, and the last action behind them all
 abbrev pub replay : List Turn → Action → List Turn → Action
@@ -17,7 +17,7 @@ replay_at [] back turn last = refl
 replay_at (first ∷ front) back turn last = replay_at front back turn last
 
 -- it gives the actions of the turns
-pub replay_gives : (said : List Turn) (last : Action) → Gives (replay said last) said
+pub replay_gives : (said : List Turn) (last : Action) → IsSpokenBy (replay said last) said
 replay_gives said last front back turn e = ap (λ (all : List Turn). replay all last front) e ∙ replay_at front back turn last
 
 -- and the last action after them

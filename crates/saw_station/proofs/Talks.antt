@@ -22,7 +22,7 @@ use Rattle.saw_context.specs.SoundResults.{IsOf, IsOfBase, IsSeen, as_asked}
 use Rattle.saw_context.specs.Views.{Layers}
 use Rattle.saw_context.specs.declared.reads.Read.{Read}
 use Rattle.saw_context.proofs.Each.{all_append}
-use Rattle.saw_station.specs.Spoken.{Gives, IsSpoken}
+use Rattle.saw_station.specs.Spoken.{IsSpokenBy, IsSpoken}
 use Rattle.saw_station.specs.TalkSteps.{Step, Follows, IsOfLast, KeepsStep, fits}
 use Rattle.saw_station.proofs.Giving.{gives_none, gives_push, gives_front, gives_last}
 use Rattle.saw_station.proofs.Recorded.{asked_is, reads_of_map, reads_seen, reads_of_base}
@@ -112,9 +112,9 @@ pub record IsSoFar (tells : Bool) (next : List Turn → Action) (header : Transa
   pub header_is : access.header ≡ header
   pub base_is : access.base ≡ base
   pub layers_is : access.layers ≡ layers
-  pub spoken : (f : List Turn → Action) → Gives f turns
+  pub spoken : (f : List Turn → Action) → IsSpokenBy f turns
       → conversation f access.header (map_of_access access) ≡ followed f access.header (map_of_access access) left (talk_of turns access)
-  pub told : tells ≡ true → Gives next turns
+  pub told : tells ≡ true → IsSpokenBy next turns
   pub reasons : AllByRecursion (λ turn. has_own_reason turn.action ≡ true) turns
   pub of_map : AllByRecursion (IsOf (map_of_access access)) access.reads
   pub seen : AllByRecursion (IsSeen access.layers) access.reads

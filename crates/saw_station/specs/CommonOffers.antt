@@ -1,4 +1,4 @@
--- What several processors elsewhere all offer.
+-- What several external processors all offer.
 use Rattle.std.specs.Prelude.{Bool, List, [], ◌∷◌}
 use Rattle.std.specs.List.{filter, list_all}
 use Rattle.saw_station.specs.Serving.{is_offered}

@@ -15,8 +15,8 @@ use Rattle.saw_context.specs.Views.{Layers, over}
 use Rattle.saw_context.specs.declared.reads.Read.{Read}
 
 -- a function gives the action of each turn, after the turns before it
-abbrev pub Gives : (List Turn → Action) → List Turn → Type 0
-Gives next turns = (front back : List Turn) (turn : Turn) → turns ≡ front ++ turn ∷ back → next front ≡ turn.action
+abbrev pub IsSpokenBy : (List Turn → Action) → List Turn → Type 0
+IsSpokenBy next turns = (front back : List Turn) (turn : Turn) → turns ≡ front ++ turn ∷ back → next front ≡ turn.action
 
 -- Turns and a last action that came of a conversation over the base with the view on top: it is the conversation of
 -- each function that gives these actions, and the function that is told is one. Each read is recorded as it was answered.
@@ -24,9 +24,9 @@ pub record IsSpoken (tells : Bool) (next : List Turn → Action) (header : Trans
     (reads : List Read) : Type 0 where
   pub own : Overlay
   pub made : changes ≡ changes_of own
-  pub spoken : (f : List Turn → Action) → Gives f turns → f turns ≡ last
+  pub spoken : (f : List Turn → Action) → IsSpokenBy f turns → f turns ≡ last
       → conversation f header (over base layers) ≡ record { turns = turns; own = own; events = events; asked = map as_asked reads }
-  pub told : tells ≡ true → Gives next turns × (next turns ≡ last)
+  pub told : tells ≡ true → IsSpokenBy next turns × (next turns ≡ last)
   pub reasons : AllByRecursion (λ turn. has_own_reason turn.action ≡ true) turns
   pub last_reason : has_own_reason last ≡ true
   pub of_map : AllByRecursion (IsOf (over base layers)) reads

@@ -1,4 +1,4 @@
-//! What several processors elsewhere all offer.
+//! What several external processors all offer.
 
 ghost use Rattle.std.specs.Prelude.{◌≡◌, map, IfOk};
 ghost use Rattle.std.specs.List.{filter, list_all};

@@ -75,7 +75,7 @@ pub trait Station: Send + Drop {
         ensures later { faults self.old ≤ faults self.new }
         ensures cause { IsErrOf result StationFault.PeerFailed → Rose (faults self.old) (faults self.new) };
 
-    /// Its own reasons are that of a processor elsewhere, or a family's number.
+    /// Its own reasons are that of an external processor, or a family's number.
     ghost own_reasons: { (tx : TxShape) (turns : List Turn) → has_own_reason (next tx turns) ≡ true };
 }
 

@@ -8,7 +8,7 @@ use Rattle.saw_context.proofs.Coming.{changes_addresses}
 use Rattle.saw_context.proofs.Each.{all_append}
 use Rattle.saw_context.proofs.OnTop.{map_after-append}
 use Rattle.saw_context.specs.Outcome.{Processors, map_after}
-use Rattle.saw_context.specs.Possible.{GoesOn, MayComeFrom, MayComeOfAll, MayComeOfBatch}
+use Rattle.saw_context.specs.Possible.{ThenOthers, MayComeFrom, MayComeOfAll, MayComeOfBatch}
 use Rattle.saw_context.specs.Serial.{behind, failed_with, left_after, left_by, map_after_all, names_one}
 use Rattle.saw_context.specs.declared.batch_result.BatchResult.{BatchResult}
 use Rattle.saw_context.specs.declared.batch_result.BatchResult.TheVariants.{Applied, Failed}
@@ -87,7 +87,7 @@ module _ (processors : Processors) where
   by_outcome : (failed : List TxShape) (m : StateMap) (tx : TxShape) (txs : List TxShape) (result : BatchResult) (outcome : Outcome)
       → ((changes : List Change) (events : List Event) → outcome ≡ outcomes.Ok changes events → AtAddresses changes)
       → ((n : StateMap) (others : BatchResult) → MayComeOfBatch processors failed n txs others → IsResult txs others)
-      → GoesOn (λ n others. MayComeOfBatch processors failed n txs others) m outcome result → IsResult (tx ∷ txs) result
+      → ThenOthers (λ n others. MayComeOfBatch processors failed n txs others) m outcome result → IsResult (tx ∷ txs) result
   by_outcome failed m tx txs result (outcomes.Ok changes events) at later goes =
       subst (IsResult (tx ∷ txs)) (sym goes.2)
       (is_behind tx txs (outcomes.Ok changes events) goes.0 (at changes events refl) (later (map_after m changes) goes.0 goes.1))

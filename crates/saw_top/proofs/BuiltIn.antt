@@ -1,4 +1,4 @@
--- That the built-in processors tell their actions and refuse by their own reasons; and where all is told.
+-- That the built-in processors are deterministic and refuse by their own reasons; and where all is told.
 use Rattle.std.proofs.Common.{◌≡◌, inl, inr, ℕ, Bool, true, List, [], ◌∷◌, map, Result, Ok, Err, refl, sym, subst}
 use Rattle.std.proofs.lemmas.Bool.{and_from}
 use Rattle.std.specs.List.{list_all}

@@ -13,7 +13,7 @@ use Rattle.saw_report.specs.RunFaults.{fault_of_sink}
 use Rattle.saw_top.specs.Claims.{TellsProof, checked_line}
 use Rattle.saw_top.specs.Outside.{End, WritesFront}
 
--- a part of a line is a front of it
+-- a part of a line is a prefix of it
 pub front_of : (old new : Option (List ℕ)) (line text : List ℕ) → line ≡ text → (n : ℕ) × (n < length line) × Appends old new (take n line)
     → WritesFront text old new
 front_of old new line text is (n, less, part) =

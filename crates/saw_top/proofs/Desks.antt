@@ -1,4 +1,4 @@
--- Desks with equal offers, whose processors tell their actions.
+-- Desks with equal offers, whose processors are deterministic.
 use Rattle.std.proofs.Common.{◌≡◌, ◌⊎◌, ◌<◌, ◌≤◌, inl, inr, ℕ, true, List, [], ◌∷◌, ◌++◌, length, length-append, Option, Some, None, ap}
 use Rattle.std.proofs.Common.{arith}
 use Rattle.std.specs.Prelude.{is_some}
@@ -65,7 +65,7 @@ module _ {R : Type 0} (faults : R → ℕ) (offered : R → List Offer) where
 
 -- ---- all is told
 
--- with a remote that tells its actions, or none
+-- with a deterministic remote, or none
 pub tells_all : (next : TxShape → List Turn → Action) (offers : List Offer) → TellsAll (processors_at next true offers)
 tells_all next offers = all_families next offers
 

@@ -65,7 +65,7 @@ no_front text old = ([], text, refl, Appends-nil old)
 front_more : (text more : List ℕ) (old new : Option (List ℕ)) → WritesFront text old new → WritesFront (text ++ more) old new
 front_more text more old new (written, rest, is, wrote) = (written, rest ++ more, ap (λ (l : List ℕ). l ++ more) is ∙ append_assoc written rest more, wrote)
 
--- a front of what stands behind a text that was written
+-- a prefix of what stands behind a text that was written
 front_behind : (all : List ℕ) (old mid new : Option (List ℕ)) (text more : List ℕ) → all ≡ text ++ more → Appends old mid text
     → WritesFront more mid new → WritesFront all old new
 front_behind all old mid new text more is first (written, rest, same, wrote) = (
@@ -231,7 +231,7 @@ module _ (judging : Judging) (rules : Rules) (waiting : Waiting) (task : Task) (
         ends = shows_by ledger e judged.ends;
       }
 
-  -- all blocks were judged, and then the end was written, or a front of it
+  -- all blocks were judged, and then the end was written, or a prefix of it
   module _ (out told : End (List ℕ)) (refused : Bool) (ledger : Ledger) (judged : Judges judging task.lines bytes left old mid ledger (Ok refused))
       (end : AtEnd) (is : ending_of rules waiting task.ending run ≡ end) where
     abbrev last : Sides
@@ -466,7 +466,7 @@ module _ (processors : Processors) (own : HasOwnReasons processors) (task : Task
               unwritten task.lines before middle judged.aside (answer_for ways task (Ok ready) bytes).noted,
             ))
 
-    -- the end was written behind all blocks, or a front of it
+    -- the end was written behind all blocks, or a prefix of it
     module _ (refused : Bool) (judged : JudgesFor processors accepts task.lines before middle ledger (Ok refused)) (out told : End (List ℕ))
         (counts : List ℕ) (since : SomeRose middle.remotes counts → SomeRose before.remotes counts) (result : Result ℕ RunFault)
         (finish : Finishes processors accepts ready.waiting task.ending ledger refused middle.output out middle.notes told middle.remotes counts result) where

@@ -45,7 +45,7 @@ use Rattle.saw_top.proofs.Judgements.{left_same}
 use Rattle.saw_top.proofs.Steps.{Steps, no_room, steps}
 use Rattle.saw_top.proofs.Streams.{Reads-push, all_before, at_end, nothing_at, stream_ended, stream_faulty, stream_full, stream_goes_on, stream_some, stream_too_many}
 
--- ---- fronts of a text
+-- ---- prefixes of a text
 
 -- a piece of which a part was written
 pub front_cut : (text : List ℕ) (old mid new : Option (List ℕ)) (written piece more : List ℕ) (n : ℕ) → text ≡ written ++ (piece ++ more)
@@ -57,7 +57,7 @@ front_cut text old mid new written piece more n whole first second =
     ∙ sym (append_assoc written (take n piece) (drop n piece ++ more)) in
     (written ++ take n piece, drop n piece ++ more, parts, Appends-trans old mid new written (take n piece) first second)
 
--- ---- nodes that clash
+-- ---- nodes that collide
 
 module _ (hash : List ℕ → List ℕ) (accepted : List Kept) (ledger : Ledger) (after : IsAfter accepted ledger) (m : StateMap) where
   -- a node of a known map is one of the empty map or of an accepted block's
@@ -505,8 +505,8 @@ module _ (processors : Processors) (accepts : Accepts) (lines : Lines) where
             (λ bytes was. let is = at_put accepts lines at.ways runs was in step ways_on bytes is (there is)) at.so;
       }
 
-  -- a frame was read whose block has no verdict, since it found no room, two nodes clashed, a processor failed or memory was
-  -- refused
+  -- a frame was read whose block has no verdict, since it found no room, two nodes clashed, a processor failed or
+  -- memory was refused
   module _ {place : ℕ} {first now old mid : Option (List ℕ)} {refused : Bool} {ledger : Ledger}
       (at : SoFar place first now old mid refused ledger) (next : Option (List ℕ)) (content : Vec ℕ) (below : place < max_frames)
       (told : FrameGives max_length now next (Ok (Some content))) (after_it : Ledger) where

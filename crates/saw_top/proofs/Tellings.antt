@@ -65,7 +65,7 @@ by_block refused (Some content) status is = by_refused refused status is
 
 -- ---- texts
 
--- a part of a text is a front of it
+-- a part of a text is a prefix of it
 pub part_front : (text : List ℕ) (n : ℕ) (old new : Option (List ℕ)) → Appends old new (take n text) → WritesFront text old new
 part_front text n old new wrote = (take n text, drop n text, sym (take-append-drop n text), wrote)
 
@@ -245,7 +245,7 @@ module _ (processors : Processors) (accepts : Accepts) (signing : Signing) (batc
   abbrev waiting : Waiting
   waiting = record { signing = signing; batches = batches }
 
-  -- what was made was told, or a front of it
+  -- what was made was told, or a prefix of it
   pub finishes_made : (made : Made) → Makes processors accepts (record { signing = signing; batches = batches }) ledger (Ok made) → (result : Result ℕ RunFault)
       → Tells (text_with (block_in made)) (flat_map loss_line made.dropped ++ refusal_text made.refusal) (code_with refused (block_in made)) old new told told_new result
       → Finishes processors accepts waiting Candidate ledger refused old new told told_new counts news result

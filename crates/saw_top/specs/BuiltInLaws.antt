@@ -10,6 +10,6 @@ use Rattle.saw_top.specs.World.{TellsAll, processors_alone}
 abbrev pub RefuseByOwn : Processors → Type 0
 RefuseByOwn processors = (tx : TxShape) (turns : List Turn) → has_own_reason (processors.next tx turns) ≡ true
 
--- they do, and tell their actions
+-- they do, and are deterministic
 abbrev pub BuiltInTell : Type 0
 BuiltInTell = TellsAll processors_alone × RefuseByOwn processors_alone

@@ -25,13 +25,14 @@ abbrev pub TellsAlike : RunFault → Type 0
 TellsAlike (Collision kept given) = AreAlike kept given
 TellsAlike fault = ⊤
 
--- and they clash as a block is judged behind a journal, by some way to run its batches
+-- and they collide as a block is judged behind a journal, by some way to run its batches
 abbrev pub ClashesBy : Processors → Accepts → Ledger → List ℕ → RunFault → Type 0
 ClashesBy processors accepts old content (Collision kept given) = (runs : Runs) × RunsBy processors runs
     × Clashes (rules_with first_half accepts runs) old.states old.blocks content kept given
 ClashesBy processors accepts old content fault = ⊤
 
--- two nodes that clash: the given one is of a map, and the kept one of that map, of the empty one, or of one among others
+-- two nodes that collide: the given one is of a map, and the kept one of that map, of the empty one, or of one among
+-- others
 pub record ClashIn (hash : List ℕ → List ℕ) (m : StateMap) (others : List StateMap) (kept given : Node) : Type 0 where
   pub given_of : IsNodeOf hash (finite.entries m) (shape_of given)
   pub kept_of : (of : StateMap) × ((of ≡ m) ⊎ ((of ≡ no_entries) ⊎ IsAmong of others))

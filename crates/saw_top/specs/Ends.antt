@@ -62,8 +62,8 @@ end_at rules waiting Candidate ledger refused = end_of_candidate rules waiting l
 
 -- ---- what was written
 
--- lines were told, then a text was written, and this status came of it; or a front of both, since writing failed or memory
--- was refused
+-- lines were told, then a text was written, and this status came of it; or a prefix of both, since writing failed or
+-- memory was refused
 pub record Tells (text lines : List ℕ) (code : ℕ) (old new told_old told_new : End (List ℕ)) (result : Result ℕ RunFault) : Type 0 where
   pub output : WritesFront text old.tells new.tells
   pub notes : WritesFront lines told_old.tells told_new.tells
@@ -83,7 +83,7 @@ IsOfEnd runs.Memory = Unit {0}
 IsOfEnd fault = ⊥
 
 module _ (end : AtEnd) (ledger : Ledger) (old new told_old told_new : End (List ℕ)) where
-  -- two nodes clash, of which one is of the map that a candidate would leave; nothing was written or told
+  -- two nodes collide, of which one is of the map that a candidate would leave; nothing was written or told
   pub record ClashesAt (kept given : Node) : Type 0 where
     pub m : StateMap
     pub made : end.made ≡ Some m
@@ -105,7 +105,7 @@ module _ (end : AtEnd) (ledger : Ledger) (old new told_old told_new : End (List 
     pub order : (new.tells ≡ old.tells) ⊎ Appends told_old.tells told_new.tells end.noted
     pub by : WritesBy result
 
--- What was done behind all blocks: the end was written, by some way to run batches, or a front of it.
+-- What was done behind all blocks: the end was written, by some way to run batches, or a prefix of it.
 module _ (processors : Processors) (accepts : Accepts) (waiting : Waiting) (ending : Ending) (ledger : Ledger) (refused : Bool)
     (old new told_old told_new : End (List ℕ)) (counts new_counts : List ℕ) where
   pub record Finishes (result : Result ℕ RunFault) : Type 0 where

@@ -1,4 +1,4 @@
--- What a run does: it gives the answer, or a front of it and the fault that ended it.
+-- What a run does: it gives the answer, or a prefix of it and the fault that ended it.
 use Rattle.std.specs.Prelude.{◌≡◌, ◌≢◌, ◌⊎◌, ◌↔◌, ◌<◌, ◌≤◌, ◌||◌, ℕ, Bool, true, false, List, [], ◌∷◌, ◌++◌, length, slice_get, take, is_some, Option, Some, None, Result, Ok, Err, IfSome, if◌then◌else◌}
 use Rattle.std.specs.Io.KnownBytes.{Appends, Consumes, IsAtEnd}
 use Rattle.saw_address.specs.Maps.{StateMap}
@@ -47,8 +47,8 @@ module _ (answer : Answer) (bytes : List ℕ) (left : Option (List ℕ)) (writte
     pub notes : Appends written.told_old written.told_new answer.noted
     pub code : status ≡ answer.status
 
-  -- What was read is whole frames that have a verdict, with their lines written, and at most what comes next. So nothing is
-  -- read behind a block without room, or behind as many frames as may be.
+  -- What was read is whole frames that have a verdict, with their lines written, and at most what comes next. So
+  -- nothing is read behind a block without room, or behind as many frames as may be.
   pub record LinesInTime : Type 0 where
     pub frames : List (List ℕ)
     pub rest : List ℕ
@@ -73,9 +73,9 @@ module _ (answer : Answer) (bytes : List ℕ) (left : Option (List ℕ)) (writte
     pub output : Appends written.old written.new (answer.output_for (length frames))
     pub notes : Appends written.told_old written.told_new (answer.noted_for (length frames))
 
-  -- Two different nodes of one hash were met: one of the map that the next block would leave, and one of that map, of the
-  -- empty one, or of one that an earlier accepted block leaves. What was read is the frames that have their lines, and that
-  -- block.
+  -- Two different nodes of one hash were met: one of the map that the next block would leave, and one of that map, of
+  -- the empty one, or of one that an earlier accepted block leaves. What was read is the frames that have their lines,
+  -- and that block.
   pub record MeetsClash (kept given : Node) : Type 0 where
     pub frames : List (List ℕ)
     pub content : List ℕ
@@ -88,8 +88,8 @@ module _ (answer : Answer) (bytes : List ℕ) (left : Option (List ℕ)) (writte
     pub notes : Appends written.told_old written.told_new (answer.noted_for (length frames))
     pub clash : ClashIn first_half m (answer.maps_for (length frames)) kept given
 
-  -- The same of a candidate: one of the map that it would leave, and one of that map, of the empty one, or of one that an
-  -- accepted block leaves. All blocks have their lines, and nothing else was written or told.
+  -- The same of a candidate: one of the map that it would leave, and one of that map, of the empty one, or of one that
+  -- an accepted block leaves. All blocks have their lines, and nothing else was written or told.
   pub record MeetsClashBehind (kept given : Node) : Type 0 where
     pub frames : List (List ℕ)
     pub reads : Reads frames bytes []
@@ -118,7 +118,7 @@ module _ (answer : Answer) (bytes : List ℕ) (left : Option (List ℕ)) (writte
   EndsBy (Err FileFailed) = Unit {0}
   EndsBy (Err fault) = HasFault fault
 
-  -- however a run came to its end, a front of both was written, and each line in time; and all of it, by how it did
+  -- however a run came to its end, a prefix of both was written, and each line in time; and all of it, by how it did
   pub record WritesAnswer (came : Result ℕ RunFault) : Type 0 where
     pub output : WritesFront answer.output written.old written.new
     pub notes : WritesFront answer.noted written.told_old written.told_new
@@ -242,14 +242,15 @@ DoesAsked given (Some (Generate wish)) before after came =
     (files : Files) → Generates (given files).signing wish before after came
 DoesAsked given (Some (Check claim)) before after came = ChecksClaim claim before after came
 
--- What holds for the bytes that are unread, where they are told. For a new stream and a claim it holds whatever they are.
+-- What holds for the bytes that are unread, where they are told. For a new stream and a claim it holds whatever they
+-- are.
 abbrev pub WhereRead : Option Asked → Option (List ℕ) → (List ℕ → Type 0) → Type 0
 WhereRead None told holds = IfSome told holds
 WhereRead (Some (Judge wish)) told holds = IfSome told holds
 WhereRead (Some (Generate wish)) told holds = (bytes : List ℕ) → holds bytes
 WhereRead (Some (Check claim)) told holds = (bytes : List ℕ) → holds bytes
 
--- What was asked is told where each transaction that it names goes to a processor that tells its actions. A new stream, a
+-- What was asked is told where each transaction that it names goes to a deterministic processor. A new stream, a
 -- claim and invalid arguments go to nobody.
 abbrev pub IsToldFor : World → Option Asked → List ℕ → Type 0
 IsToldFor world None bytes = Unit {0}
@@ -270,8 +271,8 @@ asks_external (Some (Check claim)) = false
 abbrev pub untold_status : RunFault → ℕ
 untold_status fault = if is_told fault then 7 else status_of fault
 
--- The same by how much of the line was told. One of two nodes is made in memory: where there is none nothing of it is told,
--- and behind a byte of it the status stays.
+-- The same by how much of the line was told. One of two nodes is made in memory: where there is none nothing of it is
+-- told, and behind a byte of it the status stays.
 abbrev pub UntoldBy : Bool → RunFault → ℕ → ℕ → Type 0
 UntoldBy true fault count status = (status ≡ status_of fault) ⊎ ((status ≡ 7) × (count ≡ 0))
 UntoldBy false fault count status = status ≡ untold_status fault
@@ -295,16 +296,16 @@ TellsEnd (Err fault) before after status =
 -- ---- the two promises of a run
 
 module _ (given : Files → World) (words : List (List ℕ)) (before after : Outside) (status : ℕ) where
-  -- output, notes and status are the answer, where memory was not refused, no two different nodes of one hash were met and
-  -- no call failed
+  -- output, notes and status are the answer, where memory was not refused, no two different nodes of one hash were met
+  -- and no call failed
   abbrev pub Answers : World → Ways → List ℕ → Type 0
   Answers world ways bytes = (status ≡ 7) ⊎ ((status ≡ 9)
       ⊎ (SomeFailed before after
       ⊎ ((answer : Answer) × IsAnswerOf ways world words bytes answer × IsWritten answer (sides_of before after) status)))
 
-  -- Where all is told, it is the answer of batches that are run one after another. Else it is that of some ways to run the
-  -- batches of each block, and those that are published, of which each may come of their processors. It is so for some files,
-  -- which are those that are told.
+  -- Where all is told, it is the answer of batches that are run one after another. Else it is that of some ways to run
+  -- the batches of each block, and those that are published, of which each may come of their processors. It is so for
+  -- some files, which are those that are told.
   pub record IsAnswered : Type 0 where
     pub files : Files
     pub held : IfSome before.shelf.tells (λ told. files ≡ told)

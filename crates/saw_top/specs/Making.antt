@@ -36,8 +36,8 @@ module _ (signing : Signing) (ledger : Ledger) (publication : Publication) where
   content_if =
       if has_no_block publication then None else Some (content_of first_half signing (parent_at ledger.blocks) publication.draft)
 
-  -- what was made is the block, the refusal and the losses; or, if there is a block, two nodes clash, of which one is of the
-  -- map that it leaves
+  -- what was made is the block, the refusal and the rejected batches; or, if there is a block, two nodes collide, of
+  -- which one is of the map that it leaves
   abbrev pub MakesAs : Result Made RunFault → Type 0
   MakesAs (Ok made) =
       (block_in made ≡ content_if) × (made.refusal ≡ publication.refusal) × (made.dropped ≡ losses_from 0 publication.draft.fates)

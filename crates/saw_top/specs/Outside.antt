@@ -85,7 +85,7 @@ sides old new told_old told_new = record { old = old; new = new; told_old = told
 abbrev pub sides_of : Outside → Outside → Sides
 sides_of before after = sides before.output.tells after.output.tells before.notes.tells after.notes.tells
 
--- a front of a text was written
+-- a prefix of a text was written
 abbrev pub WritesFront : List ℕ → Option (List ℕ) → Option (List ℕ) → Type 0
 WritesFront text old new = (written : List ℕ) × (more : List ℕ) × (text ≡ written ++ more) × Appends old new written
 

@@ -66,8 +66,8 @@ module _ (judging : Judging) (lines : Lines) where
     pub part : List ℕ
     pub written : Appends old new (report_to bytes (length frames) ++ part)
 
-  -- Two different nodes of one hash were met behind whole frames that have their lines: one of the map that the next block
-  -- would leave, and one of that map, of the empty one, or of one that an earlier accepted block leaves.
+  -- Two different nodes of one hash were met behind whole frames that have their lines: one of the map that the next
+  -- block would leave, and one of that map, of the empty one, or of one that an earlier accepted block leaves.
   pub record StopsAtClash (bytes : List ℕ) (left old new : Option (List ℕ)) (kept given : Node) : Type 0 where
     pub frames : List (List ℕ)
     pub content : List ℕ
@@ -108,7 +108,7 @@ module _ (judging : Judging) (lines : Lines) where
   JudgesBy bytes left old new ledger (Err Memory) = Unit {0}
   JudgesBy bytes left old new ledger (Err fault) = JudgesTo bytes old new fault
 
-  -- however it ended, a front of the lines was written, and each in time
+  -- however it ended, a prefix of the lines was written, and each in time
   pub record Judges (bytes : List ℕ) (left old new : Option (List ℕ)) (ledger : Ledger)
       (result : Result Bool RunFault) : Type 0 where
     pub front : WritesFront (report_in bytes) old new

@@ -1,4 +1,4 @@
--- Whether what is asked for goes to processors that tell their actions.
+-- Whether what is asked for goes to deterministic processors.
 use Rattle.std.specs.Prelude.{◌≡◌, ℕ, Bool, true, List, Result, Ok, Err}
 use Rattle.std.specs.List.{list_all}
 use Rattle.saw_context.specs.Outcome.{Processors}

@@ -9,7 +9,7 @@ use Rattle.saw_top.specs.Answers.{Prepared}
 use Rattle.saw_top.specs.Telling.{IsTold}
 use Rattle.saw_top.specs.World.{processors_with}
 
--- where there are no external processors, or they tell their actions, all is told, whatever is asked for
+-- where there are no external processors, or they are deterministic, all is told, whatever is asked for
 abbrev pub AllIsTold : Type 0
 AllIsTold =
     (next : TxShape → List Turn → Action) (tells : Bool) (offers : List (List Offer)) (ready : Result Prepared RunFault) (bytes : List ℕ)

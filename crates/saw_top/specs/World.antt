@@ -36,8 +36,8 @@ abbrev pub world_with : Accepts → Signing → Processors → Files → World
 world_with accepts signing processors files =
     record { accepts = accepts; signing = signing; processors = processors; files = files }
 
--- How batches are run: those of the block at each place of a stream, and those of a candidate behind it. Where an external
--- processor does not tell its actions, each time they are run is a way of its own.
+-- How batches are run: those of the block at each place of a stream, and those of a candidate behind it. Where an
+-- external processor does not tell its actions, each time they are run is a way of its own.
 pub record Ways : Type 0 where
   pub blocks : ℕ → Runs
   pub candidate : Runs
@@ -74,13 +74,13 @@ rules_with hash accepts runs = rules_by hash accepts governed runs
 abbrev pub rules_at : Judging → ℕ → Rules
 rules_at judging place = rules_with first_half judging.accepts (judging.ways place)
 
--- processors of which each tells its actions
+-- processors of which each is deterministic
 abbrev pub TellsAll : Processors → Type 0
 TellsAll processors = (family version : List ℕ) → processors.tells family version ≡ true
 
 -- ---- who answers transactions
 
--- The built-in families, the identity family, and besides what stations all offer. Where those do not tell their actions,
+-- The built-in families, the identity family, and besides what stations all offer. Where those are not deterministic,
 -- the actions of the identity family beside them count as not told, too.
 abbrev pub processors_beside : (TxShape → List Turn → Action) → Bool → List (List Offer) → Processors
 processors_beside next tells offers = processors_at (with_identity next) tells (identity_offers (common offers))

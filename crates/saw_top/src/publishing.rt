@@ -1,5 +1,5 @@
-//! What is published behind the head: a candidate of waiting batches. On the notes are those that it leaves out, and why the
-//! policy refuses it.
+//! What is published behind the head: a candidate of waiting batches. On the notes are those that it leaves out, and
+//! why the policy refuses it.
 
 ghost use Rattle.std.specs.Prelude.{◌≡◌, ◌≤◌, ◌<◌, ◌^◌, ◌++◌, ◌⊎◌, ℕ, length, take, IfErr, OnErr, OnOk, IsErrOf};
 ghost use Rattle.std.specs.Io.KnownBytes.{Appends};
@@ -34,8 +34,8 @@ use std::alloc::Global;
 use std::sync::Wait;
 use std::thread::Threads;
 
-/// A candidate's block, if a batch is applied and the policy does not refuse it; why it refuses; and the batches that are left
-/// out.
+/// A candidate's block, if a batch is applied and the policy does not refuse it; why it refuses; and the batches that
+/// are left out.
 #[derive(Drop)]
 struct Made {
     block: Option<Vec<u8>>,
@@ -148,7 +148,8 @@ fn write_block<O: Sink>(output: &mut O, block: &[u8]) -> Result<(), RunFault>
     Ok(())
 }
 
-// Tells what was made, and gives the status: losses and refusal on the notes, and then the block on the output.
+// Tells what was made, and gives the status: rejected batches and refusal on the notes, and then the block on the
+// output.
 fn tell<O: Sink, N: Sink>(
     alloc: Global,
     output: &mut O,
@@ -168,8 +169,8 @@ fn tell<O: Sink, N: Sink>(
     Ok(Status::new(if refused { 1 } else { 0 }))
 }
 
-/// Publishes a candidate of waiting batches behind the head, tells those that it leaves out and why it is refused, if it is,
-/// and gives the status. The desks keep their offers and their remotes.
+/// Publishes a candidate of waiting batches behind the head, tells those that it leaves out and why it is refused, if
+/// it is, and gives the status. The desks keep their offers and their remotes.
 pub(crate) fn publish<
     T: Threads + Wait + Sync,
     O: Sink,

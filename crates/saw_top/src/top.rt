@@ -288,29 +288,33 @@ fn carry_out<
 /// Answers the words and the block stream, and tells on the notes why a run ended early. The words are those after the
 /// program's name; the shelf has the files that they name.
 ///
-/// `apply` writes a line for each block and then the head's. The others tell the refused blocks on the notes: `state` writes
-/// the entries of the head's state, `receipts` the receipts of the head's branch, a line each, and `status --batch ID` the
-/// block of that branch that holds the batch, or `UNKNOWN`. `publish --batches NAME` tells which batches of that list it leaves
-/// out, and writes a frame with the block of the others behind the head, if one is applied. Each takes `--workers N` (1 to
-/// 64; 4 where none is given), which shows in no answer, and `--attest NAME`; `state` takes `--prefix P`. The attestation
-/// list is fetched before the batch list, and a file that both name once. `generate --start N --blocks N --batches N` and
-/// `--conflicts N` (0 to 100; 10 where none is given) reads and fetches nothing, and writes a new stream of blocks, all of
-/// whose batches apply. `prove --address A` writes the proof of what the head's state has at an address, a line for each node,
-/// and `check --root R --address A --proof NAME` reads no stream and tells what the proof in that file shows of a state of
-/// which only the root is known.
+/// `apply` writes a line for each block and then the head's. The others tell the refused blocks on the notes: `state`
+/// writes the entries of the head's state, `receipts` the receipts of the head's branch, a line each, and
+/// `status --batch ID` the block of that branch that holds the batch, or `UNKNOWN`. `prove --address A` writes the proof
+/// of what the head's state has at an address, a line for each node. `events --type T` writes the events of this type
+/// of the head's branch, a line each: behind the block of `--from ID` where it is given, and with a text at a key where
+/// `--key K --value V` are. `publish --batches NAME` tells which batches of that list it leaves out, and writes a frame
+/// with the block of the others behind the head, if one is applied. Each takes `--workers N` (1 to 64; 4 where none is
+/// given), which shows in no answer, and `--attest NAME`; `state` takes `--prefix P`. The attestation list is fetched
+/// before the batch list, and a file that both name once.
 ///
-/// The status is 0 where all was done, and of `apply` and `publish` 1 where a block was refused, of `publish` also where no
-/// batch is applied, and of `check` where the proof is rejected; 2 for invalid arguments; 3 for a stream that is none; 4 where reading failed, 5 where writing failed, 7
-/// where memory was refused; 8 where there is nothing to list, no block that holds the batch, or no head; 9 where two different nodes
-/// of one hash were met; 10 where no more blocks can be accepted; 11 for a file that is missing, too long, not read or bad.
+/// `generate --start N --blocks N --batches N` and `--conflicts N` (0 to 100; 10 where none is given) reads and fetches
+/// nothing, and writes a new stream of blocks, all of whose batches apply. `check --root R --address A --proof NAME`
+/// reads no stream and tells what the proof in that file shows of a state of which only the root is known.
 ///
-/// Each external processor in `remotes` begins before any file is fetched, but for `generate`, `check` and invalid arguments. As
-/// many of them as there are workers are used, or all, each at a desk of its own, and behind the run all are in their places
-/// again. What they all offer is theirs, but for the built-in families and the identity family, which are served here. The
-/// status is 6 where one of them failed.
+/// The status is 0 where all was done, and of `apply` and `publish` 1 where a block was refused, of `publish` also
+/// where no batch is applied, and of `check` where the proof is rejected; 2 for invalid arguments; 3 for a stream that
+/// is none; 4 where reading failed, 5 where writing failed, 7 where memory was refused; 8 where there is nothing to
+/// list, no block that holds the batch, or no head; 9 where two different nodes of one hash were met; 10 where no more
+/// blocks can be accepted; 11 for a file that is missing, too long, not read or bad.
 ///
-/// A block, and a candidate, is judged by what the state of its parent sets: which families may transact, by which rules, and
-/// whose signatures are permitted.
+/// Each external processor in `remotes` begins before any file is fetched, but for `generate`, `check` and invalid
+/// arguments. As many of them as there are workers are used, or all, each at a desk of its own, and behind the run all
+/// are in their places again. What they all offer is theirs, but for the built-in families and the identity family,
+/// which are served here. The status is 6 where one of them failed.
+///
+/// A block, and a candidate, is judged by what the state of its parent sets: which families may transact, by which
+/// rules, and whose signatures are permitted.
 pub fn run<
     T: Threads + Wait + Sync,
     S: Source,
@@ -333,19 +337,19 @@ pub fn run<
     remotes: &mut Vec<R>,
 ) -> Status
     requires unbegun { All (λ remote. R.begun remote ≡ false) remotes.old.items }
-    // Unless memory was refused (7), two different nodes of one hash were met (9) or a call failed, output,
-    // notes and status are the answer, where input and output tell their bytes and verifier and signer are functions, as
-    // their traits say. It is the answer of batches that are run one after another where each transaction goes to a
-    // processor that tells its actions, and else that of some ways to run them, of which each may come of their
-    // processors. It rests on nothing more. Files that are not told are some files. A new stream, and what a proof
-    // shows, is the answer whatever the input tells.
+    // Unless memory was refused (7), two different nodes of one hash were met (9) or a call failed, output, notes and
+    // status are the answer, where input and output tell their bytes and verifier and signer are functions, as their
+    // traits say. It is the answer of batches that are run one after another where each transaction goes to a
+    // deterministic processor, and else that of some ways to run them, of which each may come of their processors. It
+    // rests on nothing more. Files that are not told are some files. A new stream, and what a proof shows, is the answer
+    // whatever the input tells.
     ensures answered { let signing : Signing = record { key = G.key_text signer.now; signature = G.signature signer.now } in
         let world = outside S.Source O.Sink N.Sink F.Shelf R.faults in
         let processors = processors_with R.next R.tells (map R.offered remotes.new.items) in
         IsAnswered (world_with (V.accepts verifier.now) signing processors) (map string_bytes words.now)
         (world input.old output.old notes.old shelf.old remotes.old.items)
         (world input.new output.new notes.new shelf.new remotes.new.items) result }
-    // However it ended: a front of the answer, each line in time, and on the notes why.
+    // However it ended: a prefix of the answer, each line in time, and on the notes why.
     ensures ended { let signing : Signing = record { key = G.key_text signer.now; signature = G.signature signer.now } in
         let world = outside S.Source O.Sink N.Sink F.Shelf R.faults in
         let processors = processors_with R.next R.tells (map R.offered remotes.new.items) in
@@ -355,8 +359,8 @@ pub fn run<
     // Invalid arguments, a new stream and a claim ask nothing of external processors.
     ensures unasked { asks_external (asked_of (map string_bytes words.now)) ≡ false
         → remotes.new.items ≡ remotes.old.items }
-    // Else all of them have begun, in order and before a file is fetched or a byte is read or written, unless the status is 6
-    // or 7: then those behind the one that did not begin were not asked.
+    // Else all of them have begun, in order and before a file is fetched or a byte is read or written, unless the
+    // status is 6 or 7: then those behind the one that did not begin were not asked.
     ensures begun { asks_external (asked_of (map string_bytes words.now)) ≡ true
         → HaveBegun R.begun remotes.old.items remotes.new.items ((input.new ≡ input.old)
         × (output.new ≡ output.old) × (shelf.new ≡ shelf.old) × ((result ≡ 6) ⊎ (result ≡ 7))) }

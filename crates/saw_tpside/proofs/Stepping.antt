@@ -8,7 +8,7 @@ use Rattle.saw_link.specs.declared.fault.LinkFault.TheVariants as links
 use Rattle.saw_link.specs.declared.passed.Passed.{Passed}
 use Rattle.saw_link.specs.declared.passed.Passed.TheVariants.{Sent, Received}
 use Rattle.saw_tpside.specs.ProcessorConversation.{Serves, none, sends, takes, after_sent, due, taken}
-use Rattle.saw_tpside.specs.ServedLinks.{EndsBy, EndsHere, GoesOn, HasServed, HasStepped, HasTaken, of_link}
+use Rattle.saw_tpside.specs.ServedLinks.{EndsBy, EndsHere, ServesOn, HasServed, HasStepped, HasTaken, of_link}
 use Rattle.saw_tpside.specs.declared.fault.TpFault.{TpFault}
 use Rattle.saw_tpside.specs.declared.fault.TpFault.TheVariants.{Failed, Breach, OutOfMemory}
 use Rattle.saw_tpside.specs.declared.serve.Stepped.{Stepped}
@@ -49,7 +49,7 @@ link_ends p links.OutOfMemory e told later before after is adds rose =
 
 -- the frame that was due was sent
 pub goes_on_sent : (p : Serving) (frame : List ℕ) (told later : Option (List Passed)) → due p ≡ Some frame → Adds told (Sent frame ∷ []) later
-    → GoesOn p told later (after_sent p)
+    → ServesOn p told later (after_sent p)
 goes_on_sent p frame told later due_is adds = record {
   passed = Sent frame ∷ [];
   adds = adds;
@@ -58,7 +58,7 @@ goes_on_sent p frame told later due_is adds = record {
 
 -- a frame of the station was taken
 pub goes_on_taken : (p next : Serving) (frame : List ℕ) (told later : Option (List Passed)) → due p ≡ None → taken p frame ≡ Some next
-    → Adds told (Received frame ∷ []) later → GoesOn p told later next
+    → Adds told (Received frame ∷ []) later → ServesOn p told later next
 goes_on_taken p next frame told later none_due took adds = record {
   passed = Received frame ∷ [];
   adds = adds;
@@ -86,7 +86,7 @@ pub record SoFar (start : Serving) (told later : Option (List Passed)) (p : Serv
 pub at_first : (start : Serving) (told : Option (List Passed)) → SoFar start told told start
 at_first start told = record { passed = []; serves = none; adds = adds_none told }
 
-pub one_more : (start p next : Serving) (told between later : Option (List Passed)) → SoFar start told between p → GoesOn p between later next
+pub one_more : (start p next : Serving) (told between later : Option (List Passed)) → SoFar start told between p → ServesOn p between later next
     → SoFar start told later next
 one_more start p next told between later so_far goes = record {
   passed = so_far.passed ++ goes.passed;

@@ -12,7 +12,7 @@ use Rattle.saw_tpside.specs.ProcessorConversation.{AreOffers, IsVersion, after_s
 use Rattle.saw_tpside.specs.Understood.{IsUnderstood}
 use Rattle.saw_tpside.specs.declared.serving.Serving.{Serving}
 
--- a station cannot tell by which reason a processor elsewhere refuses
+-- a station cannot tell by which reason an external processor refuses
 abbrev pub as_remote : Action → Action
 as_remote (actions.Get places) = actions.Get places
 as_remote (actions.Set entries) = actions.Set entries

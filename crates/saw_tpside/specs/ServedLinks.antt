@@ -41,7 +41,7 @@ pub record HasServed (start : Serving) (result : Result ℕ TpFault) (told later
 -- ---- one frame of it
 
 -- a frame passed, by which the conversation goes on
-pub record GoesOn (p : Serving) (told later : Option (List Passed)) (next : Serving) : Type 0 where
+pub record ServesOn (p : Serving) (told later : Option (List Passed)) (next : Serving) : Type 0 where
   pub passed : List Passed
   pub adds : Adds told passed later
   pub serves : (start : Serving) (before : List Passed) → Serves start before p → Serves start (before ++ passed) next
@@ -53,7 +53,7 @@ pub record EndsHere (p : Serving) (result : Result ℕ TpFault) (told later : Op
   pub adds : Adds told last later
 
 abbrev pub HasStepped : Serving → Result Stepped TpFault → Option (List Passed) → Option (List Passed) → ℕ → ℕ → Type 0
-HasStepped p (Ok (On next)) told later before after = GoesOn p told later next
+HasStepped p (Ok (On next)) told later before after = ServesOn p told later next
 HasStepped p (Ok (Over number)) told later before after = EndsHere p (Ok number) told later before after
 HasStepped p (Err fault) told later before after = EndsHere p (Err fault) told later before after
 

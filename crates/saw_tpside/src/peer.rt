@@ -17,7 +17,7 @@ use std::alloc::Global;
 use std::marker::Model;
 
 /// A link to a processor of the three built-in families. It registers its offers, and its actions are those of the
-/// families, each refusal for the reason of a processor elsewhere; it refuses each other family. The calls are counted
+/// families, each refusal for the reason of an external processor; it refuses each other family. The calls are counted
 /// from 0, sending and receiving together.
 pub struct FamilyPeer {
     // None once a frame was not legal.

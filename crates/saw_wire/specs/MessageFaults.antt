@@ -13,9 +13,9 @@ wrapped (wires.LongVarint at) = Wire (wires.LongVarint at)
 wrapped wires.OutOfMemory = OutOfMemory
 
 -- what was returned is what reading gives, unless memory ran out
-abbrev pub Gives : {A : Type 0} → Result A MessageFault → Result A MessageFault → Type 0
-Gives (Ok x) read = read ≡ Ok x
-Gives (Err e) read = (e ≡ OutOfMemory) ⊎ (read ≡ Err e)
+abbrev pub IsReading : {A : Type 0} → Result A MessageFault → Result A MessageFault → Type 0
+IsReading (Ok x) read = read ≡ Ok x
+IsReading (Err e) read = (e ≡ OutOfMemory) ⊎ (read ≡ Err e)
 
 infixr 9 ◌<|>◌
 -- the first of two faults
