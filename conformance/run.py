@@ -230,6 +230,12 @@ def is_help(words):
     return any(re.fullmatch("-h|--help|help|-V|--version", word) for word in words)
 
 
+def is_live(words):
+    """Whether a program that has readers takes the words and waits for them; a run without readers refuses them."""
+    found = re.fullmatch(r"apply --live[= ](\d+) --readers[= ](\d+)", " ".join(words))
+    return bool(found) and 1 <= int(found[1]) <= 65535 and 1 <= int(found[2]) <= 64
+
+
 def refused(program, words, seconds):
     said = Said(program, words, b"", seconds=seconds)
     if (said.output, said.notes, said.status) == (b"", b"fault 2 words\n", "2"):
@@ -254,6 +260,8 @@ def jobs_of(given):
             continue
         if is_help(words):
             left["help or version is asked for"] += 1
+        elif is_live(words):
+            left["readers are waited for"] += 1
         else:
             jobs.append((repr(words), lambda words=words: refused(given.program, words, given.seconds)))
     return jobs, left

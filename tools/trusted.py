@@ -2,7 +2,7 @@
 
 Usage: trusted.py              by file: the lines, those for `apply`, and those for `apply` without the built-in families
        trusted.py --names      the same, with the names of the definitions
-       trusted.py --laws       the further lines of the laws of saw_top, of run_processor and of listen_wish
+       trusted.py --laws       the further lines of the laws of saw_top, and of its calls beside `run`
        trusted.py --unreached  the spec files that no clause of a public function, trait or type reaches
 
 A definition is an item of a file crates/CRATE/specs/FILE.antt, or of a module in it, with its equations. It is reached
@@ -503,7 +503,7 @@ FAMILIES = {
 LAWS = [("BranchLaws", "MapBehindIsBranch"), ("BranchLaws", "EventsLeaveState"), ("BuiltInLaws", "BuiltInTell"),
         ("TellingLaws", "AllIsTold"), ("CandidateLaws", "CandidateIsAccepted"), ("GeneratedLaws", "GeneratedStreamIsCommitted"),
         ("Laws", "FramesAreRead"), ("OptionLaws", "OrderOfOptionsDoesNotShow")]
-CALLS = [("processor", "run_processor"), ("opening", "listen_wish")]
+CALLS = [("processor", "run_processor"), ("opening", "listen_wish"), ("beside", "apply_beside"), ("hosting", "run_live")]
 
 
 def reach(start, types, srcs, books, without=()):

@@ -25,18 +25,22 @@ history pass = map head_in (view_of pass).seen
 abbrev pub published : LivePass → StateMap
 published pass = over no_entries pass.layers
 
+-- and the root of that
+abbrev pub published_root : LivePass → List ℕ
+published_root pass = pass.root
+
 -- it has published nothing
 pub record IsFresh (hash : List ℕ → List ℕ) (pass : LivePass) : Type 0 where
-  pub root : pass.root ≡ root_of_map hash no_entries
+  pub root : published_root pass ≡ root_of_map hash no_entries
   pub map : published pass ≡ no_entries
 
 -- the map that it published last is known to a state
 abbrev pub IsKnownIn : States → LivePass → Type 0
-IsKnownIn states pass = state_at states pass.root ≡ Some (published pass)
+IsKnownIn states pass = state_at states (published_root pass) ≡ Some (published pass)
 
 -- nothing but what it knows of the cell's list may differ
 pub record IsSame (old new : LivePass) : Type 0 where
-  pub root : new.root ≡ old.root
+  pub root : published_root new ≡ published_root old
   pub map : published new ≡ published old
   pub first : publishes new ≡ publishes old
 

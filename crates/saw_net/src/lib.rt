@@ -1,6 +1,9 @@
-//! Links to and from external processors over connections of this machine.
+//! Connections of this machine: links to and from external processors, and readers.
 #![tactic(auto)]
 
+mod ends;
 mod links;
+mod readers;
 
 pub use links::{Connection, accept_links, connect_link};
+pub use readers::{Asker, accept_readers};

@@ -2,21 +2,21 @@
 
 ghost use Rattle.std.specs.Prelude.{◌≡◌, false, length, All, IfOk};
 
+use crate::ends::{at_port, ends_of, listen};
 use saw_io::{StdSink, StdSource};
 use saw_link::{RemoteStation, StreamLink};
 use saw_station::Station;
 use std::alloc::Global;
 use std::io;
-use std::net::{Ipv4Addr, Net, SocketAddr, TcpListener, TcpStream};
+use std::net::{Net, TcpListener, TcpStream};
 
 /// The two ends of a connection.
 pub type Connection = StreamLink<StdSource<TcpStream>, StdSink<TcpStream>>;
 
 /// A link over a connection. Each frame is sent at once.
 fn link_over(stream: TcpStream) -> io::Result<Connection> {
-    stream.set_nodelay(true)?;
-    let reader = stream.try_clone()?;
-    Ok(StreamLink::new(StdSource::new(reader), StdSink::new(stream)))
+    let (source, sink) = ends_of(stream)?;
+    Ok(StreamLink::new(source, sink))
 }
 
 /// Accepts so many connections on a port of 127.0.0.1, one after another.
@@ -30,7 +30,7 @@ pub fn accept_links<R: Net<Listener = TcpListener, Stream = TcpStream>>(
     ensures unbegun { IfOk result (λ remotes. All
         (λ remote. ⟦<RemoteStation<Connection> as Station>⟧.begun remote ≡ false) remotes.items) }
 {
-    let listener = TcpListener::bind(rt, SocketAddr::from((Ipv4Addr::LOCALHOST, port)))?;
+    let listener = listen(rt, port)?;
     let mut remotes = Vec::new(alloc);
     for _ in 0..count {
         let (stream, _) = listener.accept()?;
@@ -41,6 +41,6 @@ pub fn accept_links<R: Net<Listener = TcpListener, Stream = TcpStream>>(
 
 /// Connects to a port of 127.0.0.1.
 pub fn connect_link<R: Net<Stream = TcpStream>>(rt: &R, port: u16) -> io::Result<Connection> {
-    let stream = TcpStream::connect(rt, SocketAddr::from((Ipv4Addr::LOCALHOST, port)))?;
+    let stream = TcpStream::connect(rt, at_port(port))?;
     link_over(stream)
 }

@@ -1,6 +1,7 @@
 //! Each law is called once.
 
 use saw_node::{OneByte, Sha512Half};
+use saw_station::NoStation;
 
 #[test]
 fn laws_of_bytes_and_addresses(_rt: HostRuntime) {
@@ -99,6 +100,7 @@ fn laws_of_blocks_and_streams(_rt: HostRuntime) {
     saw_journal::kept_is_left();
     saw_journal::faults_have_numbers();
     saw_journal::told_is_said_serially();
+    saw_journal::told_is_answered_serially::<NoStation>();
     saw_generate::every_batch_applies();
     saw_generate::draws_of_seven();
     saw_top::frames_are_read();

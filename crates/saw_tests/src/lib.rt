@@ -1,4 +1,5 @@
-//! Calls of each law, the lines of the faults of a run, and a processor over a connection.
+//! Calls of each law, the lines of the faults of a run, what words open, readers beside a run, and a processor over a
+//! connection.
 #![tactic(auto)]
 
 #[cfg(test)]
@@ -7,3 +8,7 @@ mod laws;
 mod lines;
 #[cfg(test)]
 mod loopback;
+#[cfg(test)]
+mod opened;
+#[cfg(test)]
+mod readers;

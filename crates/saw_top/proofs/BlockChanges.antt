@@ -24,7 +24,7 @@ use Rattle.saw_messages.specs.declared.receipt.Event.{Event}
 use Rattle.saw_messages.specs.declared.receipt.Receipt.{Receipt}
 use Rattle.saw_messages.specs.declared.receipt.StateChange.{StateChange}
 use Rattle.saw_plan.specs.BatchShapes.{ids_of, txs_of}
-use Rattle.saw_receipts.specs.Receipts.{receipt, receipts, told}
+use Rattle.saw_receipts.specs.Receipts.{receipts, told}
 use Rattle.saw_receipts.specs.declared.block.BatchRecord.{BatchRecord}
 
 -- ---- the changes of results

@@ -61,3 +61,7 @@ all_is_told next tells lists ready bytes (inl none) =
 all_is_told next tells lists ready bytes (inr told) =
     subst (λ (tells : Bool). IsTold (processors_with next tells lists) ready bytes) (sym told)
     (told_so (processors_with next true lists) (told_with next lists) ready bytes)
+
+-- without external processors all blocks are
+pub frames_told : (frames : List (List ℕ)) → list_all (tell_block processors_alone) frames ≡ true
+frames_told frames = frames_so processors_alone (tells_all (with_identity (λ tx turns. actions.Invalid Remote)) (identity_offers [])) frames

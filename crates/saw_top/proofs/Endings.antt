@@ -12,7 +12,7 @@ use Rattle.saw_report.specs.declared.run_fault.RunFault.TheVariants.{Truncated, 
 use Rattle.saw_generate.specs.Streams.{stream}
 use Rattle.saw_top.specs.Answers.{IsAnswerBy, IsAnswerTo, Prepared, answer_to, prepared, task_by}
 use Rattle.saw_top.specs.Claims.{ChecksBy, TellsProof, checked_line, checked_status, nodes_of}
-use Rattle.saw_top.specs.Command.{Asked, Check, Claim, Generate, Judge, Wish, asked_of}
+use Rattle.saw_top.specs.Command.{Asked, Check, Claim, Generate, Judge, Wish}
 use Rattle.saw_top.specs.EndingFaults.{is_told}
 use Rattle.saw_top.specs.Headline.{ChecksClaim, DoesAsked, DoesJob, EndsBy, IsWritten, HasCause, HasEnded, HasFault, IsAnswered, IsToldFor, IsWhole, WritesAnswerOf, TellsEnd, TellsFault, WhereRead, WritesBy}
 use Rattle.saw_node.specs.Contents.{Node}
@@ -276,10 +276,10 @@ module _ (given : Files → World) (before after : Outside) (notes : End (List �
         comes = λ bytes. of_claim claim came done at.0 (ap (λ (all : Files). all claim.proof) (shelved at.0) ∙ at.2) bytes told;
       }
 
-pub answered : (given : Files → World) → ((files : Files) → HasOwnReasons (given files).processors) → ((files : Files) → (given files).files ≡ files) → (words : List (List ℕ)) (before after : Outside)
-    (status : ℕ) → HasEnded given words before after status → IsAnswered given words before after status
-answered given own shelved words before after status ended =
-    let holds = by_asked given before after ended.notes status own shelved (asked_of words) ended.came ended.done ended.told in
+pub answered : (given : Files → World) → ((files : Files) → HasOwnReasons (given files).processors) → ((files : Files) → (given files).files ≡ files) → (asked : Option Asked) (before after : Outside)
+    (status : ℕ) → HasEnded given asked before after status → IsAnswered given asked before after status
+answered given own shelved asked before after status ended =
+    let holds = by_asked given before after ended.notes status own shelved asked ended.came ended.done ended.told in
     record {
       files = holds.files;
       held = holds.held;

@@ -14,6 +14,7 @@ pub mod BlockChanges
 pub mod ToldBranches
 pub mod Streams
 pub mod Standings
+pub mod Hearing
 pub mod Desks
 pub mod OneByOne
 pub mod Listed
@@ -22,6 +23,7 @@ pub mod Makings
 pub mod Tellings
 pub mod Doing
 pub mod OptionWords
+pub mod FewReaders
 pub mod OptionOrder
 pub mod Prefixes
 pub mod BuiltIn
@@ -33,7 +35,10 @@ pub mod Seating
 pub mod Counting
 pub mod Seated
 pub mod Wrapped
+pub mod Guests
 pub mod Carrying
+pub mod HearingJobs
+pub mod Heads
 pub mod Endings
 pub mod Frames
 pub mod NextBlocks

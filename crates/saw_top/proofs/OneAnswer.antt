@@ -57,7 +57,7 @@ module _ (processors : Processors) (ways : Ways) (may : AreWays processors ways)
   abbrev last_serial : Rules
   last_serial = rules_with first_half accepts (serially processors).candidate
 
-  history_told : (frames : List (List ℕ)) → list_all (tell_block processors) frames ≡ true
+  pub history_told : (frames : List (List ℕ)) → list_all (tell_block processors) frames ≡ true
       → history judging 0 frames [] ≡ history one_by_one 0 frames []
   history_told frames told =
       history_same accepts ways.blocks (serially processors).blocks frames 0

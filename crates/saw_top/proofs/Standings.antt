@@ -30,6 +30,7 @@ use Rattle.saw_top.specs.History.{History, IsAmong, Said, ended, history, is_ref
 use Rattle.saw_top.specs.History as histories
 use Rattle.saw_top.specs.StreamJudging.{IsPrompt, IsUpToDate, Judges, JudgesBy, JudgesSomehow, JudgesTo, StopsAtClash, TakesNext, report_in, report_to}
 use Rattle.saw_top.specs.Clashing.{AreAlike, ClashIn, ClashesBy, LeavesUnjudged}
+use Rattle.saw_top.specs.Following.{cuts}
 use Rattle.saw_top.specs.Limits.{max_frames, max_length}
 use Rattle.saw_top.specs.Outside.{WritesFront}
 use Rattle.saw_top.specs.Reports.{line_of, report, said_of}
@@ -87,8 +88,8 @@ module _ (judging : Judging) (lines : Lines) where
   abbrev report_on : List (List ℕ) → List ℕ
   report_on frames = report lines 0 (so_far frames).said
 
-  -- before the frame at this place is read
-  pub record IsAt (place : ℕ) (bytes : List ℕ) (now old new : Option (List ℕ)) (refused : Bool) (ledger : Ledger) : Type 0 where
+  -- before the frame at this place is read; what is said so far was heard
+  pub record IsAt (Heard : List Said → Type 0) (place : ℕ) (bytes : List ℕ) (now old new : Option (List ℕ)) (refused : Bool) (ledger : Ledger) : Type 0 where
     pub frames : List (List ℕ)
     pub rest : List ℕ
     pub left : now ≡ Some rest
@@ -98,11 +99,12 @@ module _ (judging : Judging) (lines : Lines) where
     pub written : Appends old new (report lines 0 (history judging 0 frames []).said)
     pub some : refused ≡ some_refused (history judging 0 frames []).said
     pub stands : IsAfter (history judging 0 frames []).accepted ledger
+    pub heard : Heard (history judging 0 frames []).said
 
   -- ---- what is shown of a stream, by where its judging stands
 
-  module _ {place : ℕ} {bytes : List ℕ} {now old mid : Option (List ℕ)} {refused : Bool} {ledger : Ledger}
-      (at : IsAt place bytes now old mid refused ledger) where
+  module _ {Heard : List Said → Type 0} {place : ℕ} {bytes : List ℕ} {now old mid : Option (List ℕ)} {refused : Bool} {ledger : Ledger}
+      (at : IsAt Heard place bytes now old mid refused ledger) where
     abbrev seen : History
     seen = so_far at.frames
 
@@ -151,6 +153,44 @@ module _ (judging : Judging) (lines : Lines) where
         let count : length (run_of judging bytes).said ≡ length seen.said + length more = ap (λ (h : History). length h.said) (run_at others some.2)
         ∙ length-append seen.said more in
         ((reported, _, report_at others some.2, at.written), omega (arith, count, length-said judging at.frames 0 [] at.room))
+
+    -- what is said of the whole stream begins with what was said
+    pub said_first : place ≤ max_frames → (more : List Said) × ((run_of judging bytes).said ≡ seen.said ++ more)
+    said_first fits =
+        let some = stream_some max_frames at.frames bytes at.rest at.reads (omega (arith, at.count)) in
+        let others : Stream = record { frames = some.0; fault = some.1 } in
+        ((behind others).said, ap (λ (h : History). h.said) (run_at others some.2))
+
+    -- and it is all of it where nothing stands behind the frames
+    said_last : (fault : Option RunFault) → FollowedBy (no_frames fault) → (run_of judging bytes).said ≡ seen.said
+    said_last fault is = ap (λ (h : History). h.said) (run_last fault is)
+
+    pub fault_said : (next : Option (List ℕ)) (e : FrameFault) → FrameGives max_length now next (Err e) → place < max_frames
+        → cuts (fault_of_frame e) ≡ false → (run_of judging bytes).said ≡ seen.said
+    fault_said next (frames.Truncated have want) told below whole =
+        said_last (Some (Truncated have want))
+        (stream_faulty max_frames at.frames bytes at.rest at.reads (omega (arith, at.count)) (frames.Truncated have want) (rw at.left at told))
+    fault_said next (frames.TooLong size) told below whole =
+        said_last (Some (TooLong size))
+        (stream_faulty max_frames at.frames bytes at.rest at.reads (omega (arith, at.count)) (frames.TooLong size) (rw at.left at told))
+    fault_said next frames.ReadFailed told below whole = absurd cc
+    fault_said next frames.OutOfMemory told below whole = absurd cc
+
+    pub end_said : (next : Option (List ℕ)) → place < max_frames → FrameGives max_length now next (Ok None) → (run_of judging bytes).said ≡ seen.said
+    end_said next below told =
+        let read = rw at.left at told in
+        said_last None (stream_ended max_frames at.frames bytes at.rest at.reads (omega (arith, at.count)) read.0 read.2)
+
+    pub full_said : place ≤ max_frames → max_frames ≤ place → IfSome now (λ left. true ≡ (length left == 0)) → (run_of judging bytes).said ≡ seen.said
+    full_said fits over none =
+        let test : true ≡ (length at.rest == 0) = rw at.left at none in
+        said_last None (stream_full max_frames at.frames bytes at.rest at.reads (omega (arith, at.count)) (omega (arith, at.count)) (sym test))
+
+    pub over_said : place ≤ max_frames → max_frames ≤ place → IfSome now (λ left. false ≡ (length left == 0)) → (run_of judging bytes).said ≡ seen.said
+    over_said fits over some =
+        let test : false ≡ (length at.rest == 0) = rw at.left at some in
+        said_last (Some Frames)
+        (stream_too_many max_frames at.frames bytes at.rest at.reads (omega (arith, at.count)) (omega (arith, at.count)) (sym test))
 
     -- these frames are the first of the stream
     front_is : place ≤ max_frames → take (length at.frames) (stream_of bytes).frames ≡ at.frames
@@ -310,6 +350,13 @@ module _ (judging : Judging) (lines : Lines) where
             ends_here next after_it (Err Blocks) (omega arith) taken
             (fault_at (before content.items others) goes_on ∙ ap (λ (h : History). fault_in h others.fault) none, subst (Appends old mid) (sym text) at.written)
 
+        pub no_room_said : IsFull by_runs ledger content.items → (run_of judging bytes).said ≡ seen.said
+        no_room_said full =
+            let none = no_room judging (length at.frames) seen.accepted content.items ledger at.stands
+            (subst (λ (rules : Rules). IsFull rules ledger content.items) here full) others.frames in
+            ap (λ (h : History). h.said) (run_at (before content.items others) goes_on) ∙ ap (λ (h : History). seen.said ++ h.said) none
+            ∙ append-nil seen.said
+
         -- two different nodes of one hash were met
         clash_here : (kept given : Node) → AreAlike kept given → Clashes by_runs ledger.states ledger.blocks content.items kept given
             → StopsAtClash judging lines bytes next old mid kept given
@@ -369,6 +416,14 @@ module _ (judging : Judging) (lines : Lines) where
                     (record { front = front; prompt = prompt; ends = tt })
               ]
 
+          -- and so the whole stream goes on
+          pub judged_said : (more : List Said) × ((run_of judging bytes).said ≡ seen.said ++ said ∷ more)
+          judged_said = (
+            (history judging (length at.frames + 1) others.frames step.next).said,
+            ap (λ (h : History). h.said) (run_at (before content.items others) goes_on)
+                ∙ ap (λ (h : History). seen.said ++ h.said) (step.goes others.frames),
+          )
+
           -- its line was written
           behind_it : so_far (at.frames ++ content.items ∷ []) ≡ after seen (histories.before said (ended step.next false))
           unfolding history
@@ -386,9 +441,10 @@ module _ (judging : Judging) (lines : Lines) where
               ap (λ (h : History). some_refused h.said) behind_it ∙ list_any-append is_refused seen.said (said ∷ [])
               ∙ or_false (some_refused seen.said) (is_refused said)
 
-          pub line_written : (new : Option (List ℕ)) (more : Bool) → Appends mid new (line_of lines place said) → more ≡ (refused || is_refused said)
-              → IsAt (place + 1) bytes next old new more after_it
-          line_written new more wrote is =
+          pub line_written : {Hears : List Said → Type 0} → (new : Option (List ℕ)) (more : Bool) → Appends mid new (line_of lines place said)
+              → more ≡ (refused || is_refused said) → (Heard seen.said → Hears (seen.said ++ said ∷ []))
+              → IsAt Hears (place + 1) bytes next old new more after_it
+          line_written {Hears} new more wrote is hears =
               let read = rw at.left at told in
               let shown : Appends mid new line = subst (λ (p : ℕ). Appends mid new (line_of lines p said)) (sym at.count) wrote in
               record {
@@ -401,22 +457,23 @@ module _ (judging : Judging) (lines : Lines) where
                 written = subst (Appends old new) (sym report_is) (Appends-trans old mid new reported line at.written shown);
                 some = is ∙ ap (λ (b : Bool). b || is_refused said) at.some ∙ sym some_is;
                 stands = subst (λ (h : History). IsAfter h.accepted after_it) (sym behind_it) step.stands;
+                heard = subst (λ (h : History). Hears h.said) (sym behind_it) (hears at.heard);
               }
 
 -- ---- by some way to run the batches of each block
 
 -- what comes of it, where the input tells its bytes
-so_by : (first : Option (List ℕ)) (P Q : List ℕ → Type 0) → ((bytes : List ℕ) → P bytes → Q bytes) → IfSome first P → IfSome first Q
+pub so_by : (first : Option (List ℕ)) (P Q : List ℕ → Type 0) → ((bytes : List ℕ) → P bytes → Q bytes) → IfSome first P → IfSome first Q
 so_by None P Q goes so = tt
 so_by (Some bytes) P Q goes so = goes bytes so
 
 -- where the batches of the next block are run so, the judging stands as before
-module _ (accepts : Accepts) (lines : Lines) (ways : ℕ → Runs) (runs : Runs) {place : ℕ} {bytes : List ℕ} {now old new : Option (List ℕ)}
-    {refused : Bool} {ledger : Ledger} (at : IsAt (by_ways accepts ways) lines place bytes now old new refused ledger) where
+module _ (accepts : Accepts) (lines : Lines) (ways : ℕ → Runs) (runs : Runs) {Heard : List Said → Type 0} {place : ℕ} {bytes : List ℕ}
+    {now old new : Option (List ℕ)} {refused : Bool} {ledger : Ledger} (at : IsAt (by_ways accepts ways) lines Heard place bytes now old new refused ledger) where
   same_so_far : history (by_ways accepts ways) 0 at.frames [] ≡ history (by_ways accepts (put ways place runs)) 0 at.frames []
   same_so_far = before_put accepts ways place runs at.frames (omega (arith, at.count))
 
-  at_put : IsAt (by_ways accepts (put ways place runs)) lines place bytes now old new refused ledger
+  pub at_put : IsAt (by_ways accepts (put ways place runs)) lines Heard place bytes now old new refused ledger
   at_put = record {
     frames = at.frames;
     rest = at.rest;
@@ -427,21 +484,22 @@ module _ (accepts : Accepts) (lines : Lines) (ways : ℕ → Runs) (runs : Runs)
     written = subst (λ (h : History). Appends old new (report lines 0 h.said)) same_so_far at.written;
     some = at.some ∙ ap (λ (h : History). some_refused h.said) same_so_far;
     stands = subst (λ (h : History). IsAfter h.accepted ledger) same_so_far at.stands;
+    heard = subst (λ (h : History). Heard h.said) same_so_far at.heard;
   }
 
 module _ (processors : Processors) (accepts : Accepts) (lines : Lines) where
   -- where it stands, of an input that may not tell its bytes
-  pub record SoFar (place : ℕ) (first now old new : Option (List ℕ)) (refused : Bool) (ledger : Ledger) : Type 0 where
+  pub record SoFar (Heard : List Said → Type 0) (place : ℕ) (first now old new : Option (List ℕ)) (refused : Bool) (ledger : Ledger) : Type 0 where
     pub ways : ℕ → Runs
     pub may : (place : ℕ) → RunsBy processors (ways place)
-    pub so : IfSome first (λ bytes. IsAt (by_ways accepts ways) lines place bytes now old new refused ledger)
+    pub so : IfSome first (λ bytes. IsAt (by_ways accepts ways) lines Heard place bytes now old new refused ledger)
 
-  pub start : (ways : ℕ → Runs) → ((place : ℕ) → RunsBy processors (ways place)) → (first old : Option (List ℕ)) (ledger : Ledger)
-      → IsAfter [] ledger → SoFar 0 first first old old false ledger
+  pub start : {Heard : List Said → Type 0} → (ways : ℕ → Runs) → ((place : ℕ) → RunsBy processors (ways place)) → (first old : Option (List ℕ)) (ledger : Ledger)
+      → IsAfter [] ledger → Heard [] → SoFar Heard 0 first first old old false ledger
   unfolding history
-  start ways may first old ledger stands = record { ways = ways; may = may; so = begin first }
+  start {Heard} ways may first old ledger stands nothing = record { ways = ways; may = may; so = begin first }
     where
-      begin : (first : Option (List ℕ)) → IfSome first (λ bytes. IsAt (by_ways accepts ways) lines 0 bytes first old old false ledger)
+      begin : (first : Option (List ℕ)) → IfSome first (λ bytes. IsAt (by_ways accepts ways) lines Heard 0 bytes first old old false ledger)
       begin None = tt
       begin (Some bytes) = record {
         frames = [];
@@ -453,12 +511,13 @@ module _ (processors : Processors) (accepts : Accepts) (lines : Lines) where
         written = Appends-nil old;
         some = refl;
         stands = stands;
+        heard = nothing;
       }
 
-  module _ {place : ℕ} {first now old mid : Option (List ℕ)} {refused : Bool} {ledger : Ledger}
-      (at : SoFar place first now old mid refused ledger) (next new : Option (List ℕ)) where
+  module _ {Heard : List Said → Type 0} {place : ℕ} {first now old mid : Option (List ℕ)} {refused : Bool} {ledger : Ledger}
+      (at : SoFar Heard place first now old mid refused ledger) (next new : Option (List ℕ)) where
     abbrev Was : (ℕ → Runs) → List ℕ → Type 0
-    Was ways bytes = IsAt (by_ways accepts ways) lines place bytes now old mid refused ledger
+    Was ways bytes = IsAt (by_ways accepts ways) lines Heard place bytes now old mid refused ledger
 
     -- the judging ended
     pub so_ends : (after_it : Ledger) (result : Result Bool RunFault)
@@ -478,7 +537,7 @@ module _ (processors : Processors) (accepts : Accepts) (lines : Lines) where
       may_on : (n : ℕ) → RunsBy processors (put at.ways place runs n)
       may_on = put_may processors at.ways place runs at.may by
 
-      there : {bytes : List ℕ} → (is : Was ways_on bytes) → ways_on (length is.frames) ≡ runs
+      pub there : {bytes : List ℕ} → (is : Was ways_on bytes) → ways_on (length is.frames) ≡ runs
       there is = ap ways_on is.count ∙ put_there at.ways place runs
 
       -- and the judging ended
@@ -494,23 +553,23 @@ module _ (processors : Processors) (accepts : Accepts) (lines : Lines) where
       }
 
       -- or it goes on
-      pub so_more : (more : Bool) (after_it : Ledger)
+      pub so_more : {Hears : List Said → Type 0} → (more : Bool) (after_it : Ledger)
           → ((ways : ℕ → Runs) (bytes : List ℕ) (is : Was ways bytes) → ways (length is.frames) ≡ runs
-          → IsAt (by_ways accepts ways) lines (place + 1) bytes next old new more after_it)
-          → SoFar (place + 1) first next old new more after_it
-      so_more more after_it step = record {
+          → IsAt (by_ways accepts ways) lines Hears (place + 1) bytes next old new more after_it)
+          → SoFar Hears (place + 1) first next old new more after_it
+      so_more {Hears} more after_it step = record {
         ways = ways_on;
         may = may_on;
-        so = so_by first (Was at.ways) (λ bytes. IsAt (by_ways accepts ways_on) lines (place + 1) bytes next old new more after_it)
+        so = so_by first (Was at.ways) (λ bytes. IsAt (by_ways accepts ways_on) lines Hears (place + 1) bytes next old new more after_it)
             (λ bytes was. let is = at_put accepts lines at.ways runs was in step ways_on bytes is (there is)) at.so;
       }
 
   -- a frame was read whose block has no verdict, since it found no room, two nodes clashed, a processor failed or
   -- memory was refused
-  module _ {place : ℕ} {first now old mid : Option (List ℕ)} {refused : Bool} {ledger : Ledger}
-      (at : SoFar place first now old mid refused ledger) (next : Option (List ℕ)) (content : Vec ℕ) (below : place < max_frames)
+  module _ {Heard : List Said → Type 0} {place : ℕ} {first now old mid : Option (List ℕ)} {refused : Bool} {ledger : Ledger}
+      (at : SoFar Heard place first now old mid refused ledger) (next : Option (List ℕ)) (content : Vec ℕ) (below : place < max_frames)
       (told : FrameGives max_length now next (Ok (Some content))) (after_it : Ledger) where
-    ends_unsaid : (e : RunFault) → ((ways : ℕ → Runs) (bytes : List ℕ) (is : IsAt (by_ways accepts ways) lines place bytes now old mid refused ledger)
+    ends_unsaid : (e : RunFault) → ((ways : ℕ → Runs) (bytes : List ℕ) (is : IsAt (by_ways accepts ways) lines Heard place bytes now old mid refused ledger)
         → JudgesBy (by_ways accepts ways) lines bytes next old mid after_it (Err e))
         → JudgesSomehow processors accepts lines first next old mid after_it (Err e)
     ends_unsaid e ends = so_ends at next mid after_it (Err e) (λ ways bytes is.

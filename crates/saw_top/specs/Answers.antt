@@ -15,7 +15,7 @@ use Rattle.saw_verify.specs.Lists.{attests, first_bad_line}
 use Rattle.saw_wire.specs.declared.fault.MessageFault.{MessageFault}
 use Rattle.saw_generate.specs.Streams.{stream}
 use Rattle.saw_top.specs.Claims.{checked_line, checked_status, nodes_of}
-use Rattle.saw_top.specs.Command.{Asked, Check, Claim, Generate, Judge, Wish, asked_of}
+use Rattle.saw_top.specs.Command.{Asked, Check, Claim, Generate, Judge, Wish}
 use Rattle.saw_top.specs.Limits.{max_batches, max_list}
 use Rattle.saw_top.specs.Publishing.{Waiting}
 use Rattle.saw_top.specs.Run.{Answer, faulty, task_answer, written}
@@ -108,7 +108,3 @@ module _ (ways : Ways) where
   IsAnswerBy world (Some (Judge wish)) bytes answer = answer ≡ answer_to world (Some wish) bytes
   IsAnswerBy world (Some (Generate wish)) bytes answer = answer ≡ written (stream world.signing wish) 0
   IsAnswerBy world (Some (Check claim)) bytes answer = IsAnswerTo claim (nodes_of (world.files claim.proof)) answer
-
-  -- and to words
-  abbrev pub IsAnswerOf : World → List (List ℕ) → List ℕ → Answer → Type 0
-  IsAnswerOf world words bytes answer = IsAnswerBy world (asked_of words) bytes answer

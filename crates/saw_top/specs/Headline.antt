@@ -14,10 +14,10 @@ use Rattle.saw_report.specs.declared.run_fault.RunFault.TheVariants.{Words, Trun
 use Rattle.saw_publish.specs.Candidates.{Signing}
 use Rattle.saw_generate.specs.Streams.{stream}
 use Rattle.saw_generate.specs.declared.wish.GenerateWish.{GenerateWish}
-use Rattle.saw_top.specs.Answers.{IsAnswerOf, Prepared, answer_for, prepared, task_by}
+use Rattle.saw_top.specs.Answers.{IsAnswerBy, Prepared, answer_for, prepared, task_by}
 use Rattle.saw_top.specs.Claims.{Checks}
 use Rattle.saw_top.specs.Clashing.{AreAlike, ClashIn}
-use Rattle.saw_top.specs.Command.{Asked, Check, Claim, Generate, Judge, Wish, asked_of}
+use Rattle.saw_top.specs.Command.{Asked, Check, Claim, Generate, Judge, Wish}
 use Rattle.saw_top.specs.EndingFaults.{is_told}
 use Rattle.saw_top.specs.StreamJudging.{StopsAtLength, TakesNext}
 use Rattle.saw_top.specs.Limits.{max_frames}
@@ -295,13 +295,13 @@ TellsEnd (Err fault) before after status =
 
 -- ---- the two promises of a run
 
-module _ (given : Files → World) (words : List (List ℕ)) (before after : Outside) (status : ℕ) where
+module _ (given : Files → World) (asked : Option Asked) (before after : Outside) (status : ℕ) where
   -- output, notes and status are the answer, where memory was not refused, no two different nodes of one hash were met
   -- and no call failed
   abbrev pub Answers : World → Ways → List ℕ → Type 0
   Answers world ways bytes = (status ≡ 7) ⊎ ((status ≡ 9)
       ⊎ (SomeFailed before after
-      ⊎ ((answer : Answer) × IsAnswerOf ways world words bytes answer × IsWritten answer (sides_of before after) status)))
+      ⊎ ((answer : Answer) × IsAnswerBy ways world asked bytes answer × IsWritten answer (sides_of before after) status)))
 
   -- Where all is told, it is the answer of batches that are run one after another. Else it is that of some ways to run
   -- the batches of each block, and those that are published, of which each may come of their processors. It is so for
@@ -309,15 +309,15 @@ module _ (given : Files → World) (words : List (List ℕ)) (before after : Out
   pub record IsAnswered : Type 0 where
     pub files : Files
     pub held : IfSome before.shelf.tells (λ told. files ≡ told)
-    pub gives : WhereRead (asked_of words) before.input.tells (λ bytes. let world = given files in
-        IsToldFor world (asked_of words) bytes → Answers world (serially world.processors) bytes)
+    pub gives : WhereRead asked before.input.tells (λ bytes. let world = given files in
+        IsToldFor world asked bytes → Answers world (serially world.processors) bytes)
     pub ways : Ways
     pub may : AreWays (given files).processors ways
-    pub comes : WhereRead (asked_of words) before.input.tells (Answers (given files) ways)
+    pub comes : WhereRead asked before.input.tells (Answers (given files) ways)
 
   -- How it ended: what it came to, what was done up to there, and what the notes tell then.
   pub record HasEnded : Type 0 where
     pub came : Result ℕ RunFault
     pub notes : End (List ℕ)
-    pub done : DoesAsked given (asked_of words) before (record after { notes = notes }) came
+    pub done : DoesAsked given asked before (record after { notes = notes }) came
     pub told : TellsEnd came notes after.notes status

@@ -9,6 +9,7 @@ pub mod Numbers
 pub mod Listening
 pub mod Table
 pub mod Command
+pub mod LiveWords
 pub mod Opening
 pub mod Plans
 pub mod Wishes
@@ -20,6 +21,8 @@ pub mod Fetching
 pub mod Claims
 pub mod Run
 pub mod Answers
+pub mod Following
+pub mod Readers
 pub mod Telling
 pub mod Seats
 pub mod Wrapping

@@ -8,7 +8,7 @@ use Rattle.saw_tpside.specs.ServedLinks.{HasServed}
 use Rattle.saw_tpside.specs.declared.fault.TpFault.{TpFault}
 use Rattle.saw_tpside.specs.declared.fault.TpFault.TheVariants.{Failed, Breach, OutOfMemory}
 use Rattle.saw_top.specs.declared.opening.Wish.{Wish}
-use Rattle.saw_top.specs.declared.opening.Wish.TheVariants.{Plain, Listen, Connect}
+use Rattle.saw_top.specs.declared.opening.Wish.TheVariants.{Plain, Listen, Live, Connect}
 
 -- what it registers
 abbrev pub family_offers : List Offer
@@ -30,4 +30,5 @@ pub record HasRun (status : ℕ) (told later : Option (List Passed)) (before aft
 abbrev pub HasProcessed : Wish → ℕ → Option (List Passed) → Option (List Passed) → ℕ → ℕ → Type 0
 HasProcessed Plain status told later before after = (status ≡ 2) × (later ≡ told) × (after ≡ before)
 HasProcessed (Listen port remotes) status told later before after = (status ≡ 2) × (later ≡ told) × (after ≡ before)
+HasProcessed (Live port readers) status told later before after = (status ≡ 2) × (later ≡ told) × (after ≡ before)
 HasProcessed (Connect port) status told later before after = HasRun status told later before after

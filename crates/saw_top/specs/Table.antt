@@ -38,6 +38,12 @@ listen = codes "--listen"
 abbrev pub remotes : List ℕ
 remotes = codes "--remotes"
 
+abbrev pub live : List ℕ
+live = codes "--live"
+
+abbrev pub readers : List ℕ
+readers = codes "--readers"
+
 abbrev pub prefix : List ℕ
 prefix = codes "--prefix"
 
@@ -95,3 +101,7 @@ options_of Events = common (event_type ∷ from ∷ key ∷ text ∷ [])
 options_of Check = root ∷ address ∷ proof ∷ []
 options_of Generate = start ∷ blocks ∷ batches ∷ conflicts ∷ []
 options_of Tp = connect ∷ []
+
+-- the options of `apply` beside readers
+abbrev pub live_options : List (List ℕ)
+live_options = workers ∷ attest ∷ live ∷ readers ∷ []

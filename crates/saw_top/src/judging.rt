@@ -64,8 +64,8 @@ pub(crate) fn judge<T: Threads + Wait + Sync, R: Station, V: Verifier>(
     }
 }
 
-// The block that was accepted last.
-fn latest(journal: &Journal<Sha512Half>) -> Option<&BlockRecord>
+/// The block that was accepted last.
+pub(crate) fn latest(journal: &Journal<Sha512Half>) -> Option<&BlockRecord>
     ensures { option_copied result ≡ slice_get journal.now.blocks (length journal.now.blocks - 1) }
 {
     let blocks = journal.blocks();

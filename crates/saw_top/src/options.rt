@@ -53,7 +53,8 @@ fn common_by<'a, G: Given<'a>>(given: &G) -> Option<u64>
     }
 }
 
-fn apply_by<'a, G: Given<'a>>(given: &G) -> Option<Plan<'a>>
+/// What the options of `apply` say, of which those of readers are no part.
+pub(crate) fn apply_by<'a, G: Given<'a>>(given: &G) -> Option<Plan<'a>>
     ensures { option_map plan_wish result ≡ apply_by (G.value given.now) }
 {
     let workers = common_by(given)?;

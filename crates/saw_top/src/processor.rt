@@ -55,5 +55,9 @@ pub fn run_processor<L: Link, R: Wait>(
             port: _,
             remotes: _,
         } => Status::new(2),
+        Wish::Live {
+            port: _,
+            readers: _,
+        } => Status::new(2),
     }
 }

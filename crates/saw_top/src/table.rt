@@ -32,6 +32,9 @@ pub const KINDS: [Kind; 10] = [
     Kind::Tp,
 ];
 
+/// The options of `apply` beside readers, each at most once and in any order.
+pub(crate) const LIVE_OPTIONS: [&str; 4] = ["--workers", "--attest", "--live", "--readers"];
+
 impl Kind {
     /// Its name.
     pub fn name(self) -> &'static str
@@ -93,7 +96,8 @@ impl Kind {
     /// What it does, and its options, of which COMMON stands for those of each command on blocks.
     pub fn about(self) -> &'static str {
         match self {
-            Kind::Apply => "Judge each block of the stream, and write a line for each [COMMON]",
+            Kind::Apply =>
+                "Judge each block of the stream, and write a line for each [--live, --readers, COMMON]",
             Kind::State => "List the entries of the head's state [--prefix, COMMON]",
             Kind::Receipts => "List the receipts of the head's branch [COMMON]",
             Kind::Status => "Tell which block of the head's branch holds a batch [--batch, COMMON]",

@@ -1,11 +1,16 @@
 //! The top call.
 
-ghost use Rattle.std.specs.Prelude.{◌≡◌, ◌⊎◌, ◌≤◌, ◌<◌, [], true, false, Some, All, length, map, string_bytes};
+ghost use Rattle.std.specs.Prelude.{◌≡◌, ◌⊎◌, ◌≤◌, ◌<◌, ◌^◌, [], true, false, Some, All, length, map, string_bytes};
+ghost use Rattle.std.specs.FinMap as finite;
+ghost use Rattle.saw_address.specs.Maps.{no_entries};
 ghost use Rattle.saw_generate.specs.Streams.{stream};
+ghost use Rattle.saw_merkle.specs.States.{knows, state_at};
+ghost use Rattle.saw_node.specs.Hashes.{first_half};
 ghost use Rattle.saw_publish.specs.Candidates.{Signing};
 ghost use Rattle.saw_station.specs.CommonOffers.{common};
 ghost use Rattle.saw_station.specs.Serving.{processors_at};
 ghost use Rattle.saw_top.specs.Command.{asked_of};
+ghost use Rattle.saw_top.specs.Following.{Follows, HearsJob};
 ghost use Rattle.saw_top.specs.Headline.{DoesAsked, DoesJob, HasEnded, IsAnswered, WritesBy, asks_external};
 ghost use Rattle.saw_top.specs.Outside.{outside, outside_with, shelf_end, sink_end};
 ghost use Rattle.saw_top.specs.Seats.{FailsEarly, HaveBegun};
@@ -15,6 +20,7 @@ ghost use Rattle.saw_top.specs.World.{processors_alone, processors_beside, proce
 use crate::Status;
 use crate::claim::check_claim;
 use crate::command::{Command, Job, read_command};
+use crate::following::{Follower, Unfollowed};
 use crate::notes::tell;
 use crate::prepare::prepare;
 use crate::seats::{begin_each, seat, unseat};
@@ -39,10 +45,12 @@ fn judge_begun<
     V: Verifier,
     G: Signer,
     R: Station,
+    L,
+    W: Follower<L>,
 >(
     rt: &T,
     alloc: Global,
-    job: Job<'_>,
+    job: &Job<'_>,
     input: &mut S,
     output: &mut O,
     notes: &mut N,
@@ -50,30 +58,34 @@ fn judge_begun<
     verifier: &V,
     signer: &G,
     remotes: &mut Vec<R>,
+    shared: &L,
+    follower: &mut W,
 ) -> Result<Status, RunFault>
     requires some { 0 < length remotes.old.items }
     requires begun { All (λ remote. R.begun remote ≡ true) remotes.old.items }
+    requires belongs { W.belongs shared.now follower.old }
+    requires knows { state_at (knows first_half finite.empty no_entries) (W.root follower.old) ≡ Some (W.map follower.old) }
+    requires few { W.follows ≡ true → length (W.heads follower.old) < 2 ^ 32 }
     ensures carries { let signing : Signing = record { key = G.key_text signer.now; signature = G.signature signer.now } in
         let world = outside S.Source O.Sink N.Sink F.Shelf R.faults in
         let processors = processors_at R.next R.tells (common (map R.offered remotes.new.items)) in
-        DoesJob (world_with (V.accepts verifier.now) signing processors) (Some (wish_in job.entry))
+        DoesJob (world_with (V.accepts verifier.now) signing processors) (Some (wish_in job.now))
         (world input.old output.old notes.old shelf.old remotes.old.items)
         (world input.new output.new notes.new shelf.new remotes.new.items) result }
+    ensures heard { let signing : Signing = record { key = G.key_text signer.now; signature = G.signature signer.now } in
+        HearsJob (world_with (V.accepts verifier.now) signing (processors_at R.next R.tells (common (map R.offered remotes.new.items))))
+        (Some (wish_in job.now)) (F.files shelf.old) (Follows W.follows (W.heads follower.old) (W.heads follower.new))
+        (S.unread input.old) result }
+    ensures belongs { W.belongs shared.now follower.new }
     ensures begun { All (λ remote. R.begun remote ≡ true) remotes.new.items }
 {
-    let Job {
-        workers,
-        task,
-        attest,
-        batches,
-    } = job;
-    let ready = prepare(alloc, attest, batches, shelf, verifier)?;
+    let ready = prepare(alloc, job.attest, job.batches, shelf, verifier)?;
     let offers = common_offers(alloc, remotes)?;
-    let mut desks = seat(alloc, workers, remotes, offers)?;
+    let mut desks = seat(alloc, job.workers, remotes, offers)?;
     let came = do_task(
         rt,
         alloc,
-        &task,
+        &job.task,
         input,
         output,
         notes,
@@ -81,6 +93,8 @@ fn judge_begun<
         signer,
         ready.batches.as_slice(),
         &mut desks,
+        shared,
+        follower,
     );
     unseat(desks, remotes);
     came
@@ -96,10 +110,12 @@ fn judge_beside<
     V: Verifier,
     G: Signer,
     R: Station,
+    L,
+    W: Follower<L>,
 >(
     rt: &T,
     alloc: Global,
-    job: Job<'_>,
+    job: &Job<'_>,
     input: &mut S,
     output: &mut O,
     notes: &mut N,
@@ -107,15 +123,25 @@ fn judge_beside<
     verifier: &V,
     signer: &G,
     stations: &mut Vec<R>,
+    shared: &L,
+    follower: &mut W,
 ) -> Result<Status, RunFault>
     requires some { 0 < length stations.old.items }
     requires begun { All (λ station. R.begun station ≡ true) stations.old.items }
+    requires belongs { W.belongs shared.now follower.old }
+    requires knows { state_at (knows first_half finite.empty no_entries) (W.root follower.old) ≡ Some (W.map follower.old) }
+    requires few { W.follows ≡ true → length (W.heads follower.old) < 2 ^ 32 }
     ensures carries { let signing : Signing = record { key = G.key_text signer.now; signature = G.signature signer.now } in
         let world = outside S.Source O.Sink N.Sink F.Shelf R.faults in
         let processors = processors_beside R.next R.tells (map R.offered stations.new.items) in
-        DoesJob (world_with (V.accepts verifier.now) signing processors) (Some (wish_in job.entry))
+        DoesJob (world_with (V.accepts verifier.now) signing processors) (Some (wish_in job.now))
         (world input.old output.old notes.old shelf.old stations.old.items)
         (world input.new output.new notes.new shelf.new stations.new.items) result }
+    ensures heard { let signing : Signing = record { key = G.key_text signer.now; signature = G.signature signer.now } in
+        HearsJob (world_with (V.accepts verifier.now) signing (processors_beside R.next R.tells (map R.offered stations.new.items)))
+        (Some (wish_in job.now)) (F.files shelf.old) (Follows W.follows (W.heads follower.old) (W.heads follower.new))
+        (S.unread input.old) result }
+    ensures belongs { W.belongs shared.now follower.new }
     ensures count { length stations.new.items ≡ length stations.old.items }
     ensures begun { All (λ station. R.begun station ≡ true) stations.new.items }
 {
@@ -131,13 +157,15 @@ fn judge_beside<
         verifier,
         signer,
         &mut wrapped,
+        shared,
+        follower,
     );
     unwrap(wrapped, stations);
     came
 }
 
-// Does a job with the blocks of the input, without external processors.
-fn judge_alone<
+/// Does a job with the blocks of the input, without external processors.
+pub(crate) fn judge_alone<
     T: Threads + Wait + Sync,
     S: Source,
     O: Sink,
@@ -145,21 +173,33 @@ fn judge_alone<
     F: Shelf,
     V: Verifier,
     G: Signer,
+    L,
+    W: Follower<L>,
 >(
     rt: &T,
     alloc: Global,
-    job: Job<'_>,
+    job: &Job<'_>,
     input: &mut S,
     output: &mut O,
     notes: &mut N,
     shelf: &mut F,
     verifier: &V,
     signer: &G,
+    shared: &L,
+    follower: &mut W,
 ) -> Result<Status, RunFault>
+    requires belongs { W.belongs shared.now follower.old }
+    requires knows { state_at (knows first_half finite.empty no_entries) (W.root follower.old) ≡ Some (W.map follower.old) }
+    requires few { W.follows ≡ true → length (W.heads follower.old) < 2 ^ 32 }
     ensures carries { let signing : Signing = record { key = G.key_text signer.now; signature = G.signature signer.now } in
-        DoesJob (world_with (V.accepts verifier.now) signing processors_alone) (Some (wish_in job.entry))
+        DoesJob (world_with (V.accepts verifier.now) signing processors_alone) (Some (wish_in job.now))
         (outside_with S.Source O.Sink N.Sink input.old output.old notes.old (shelf_end F.Shelf shelf.old) [])
         (outside_with S.Source O.Sink N.Sink input.new output.new notes.new (shelf_end F.Shelf shelf.new) []) result }
+    ensures heard { let signing : Signing = record { key = G.key_text signer.now; signature = G.signature signer.now } in
+        HearsJob (world_with (V.accepts verifier.now) signing (processors_alone))
+        (Some (wish_in job.now)) (F.files shelf.old) (Follows W.follows (W.heads follower.old) (W.heads follower.new))
+        (S.unread input.old) result }
+    ensures belongs { W.belongs shared.now follower.new }
 {
     let mut stations = nobody(alloc, job.workers)?;
     judge_beside(
@@ -173,6 +213,8 @@ fn judge_alone<
         verifier,
         signer,
         &mut stations,
+        shared,
+        follower,
     )
 }
 
@@ -189,7 +231,7 @@ fn judge<
 >(
     rt: &T,
     alloc: Global,
-    job: Job<'_>,
+    job: &Job<'_>,
     input: &mut S,
     output: &mut O,
     notes: &mut N,
@@ -202,7 +244,7 @@ fn judge<
     ensures carries { let signing : Signing = record { key = G.key_text signer.now; signature = G.signature signer.now } in
         let world = outside S.Source O.Sink N.Sink F.Shelf R.faults in
         let processors = processors_with R.next R.tells (map R.offered remotes.new.items) in
-        DoesJob (world_with (V.accepts verifier.now) signing processors) (Some (wish_in job.entry))
+        DoesJob (world_with (V.accepts verifier.now) signing processors) (Some (wish_in job.now))
         (world input.old output.old notes.old shelf.old remotes.old.items)
         (world input.new output.new notes.new shelf.new remotes.new.items) result }
     ensures begun { HaveBegun R.begun remotes.old.items remotes.new.items ((input.new ≡ input.old)
@@ -211,11 +253,32 @@ fn judge<
     begin_each(alloc, remotes)?;
     if remotes.is_empty() {
         return judge_alone(
-            rt, alloc, job, input, output, notes, shelf, verifier, signer,
+            rt,
+            alloc,
+            job,
+            input,
+            output,
+            notes,
+            shelf,
+            verifier,
+            signer,
+            &(),
+            &mut Unfollowed,
         );
     }
     judge_beside(
-        rt, alloc, job, input, output, notes, shelf, verifier, signer, remotes,
+        rt,
+        alloc,
+        job,
+        input,
+        output,
+        notes,
+        shelf,
+        verifier,
+        signer,
+        remotes,
+        &(),
+        &mut Unfollowed,
     )
 }
 
@@ -278,7 +341,7 @@ fn carry_out<
     match command {
         None => Err(RunFault::Words),
         Some(Command::Judge(job)) => judge(
-            rt, alloc, job, input, output, notes, shelf, verifier, signer, remotes,
+            rt, alloc, &job, input, output, notes, shelf, verifier, signer, remotes,
         ),
         Some(Command::Generate(wish)) => write_stream(rt, alloc, &wish, output, signer),
         Some(Command::Check { claim, proof }) => check_claim(alloc, &claim, proof, output, shelf),
@@ -346,14 +409,14 @@ pub fn run<
     ensures answered { let signing : Signing = record { key = G.key_text signer.now; signature = G.signature signer.now } in
         let world = outside S.Source O.Sink N.Sink F.Shelf R.faults in
         let processors = processors_with R.next R.tells (map R.offered remotes.new.items) in
-        IsAnswered (world_with (V.accepts verifier.now) signing processors) (map string_bytes words.now)
+        IsAnswered (world_with (V.accepts verifier.now) signing processors) (asked_of (map string_bytes words.now))
         (world input.old output.old notes.old shelf.old remotes.old.items)
         (world input.new output.new notes.new shelf.new remotes.new.items) result }
     // However it ended: a prefix of the answer, each line in time, and on the notes why.
     ensures ended { let signing : Signing = record { key = G.key_text signer.now; signature = G.signature signer.now } in
         let world = outside S.Source O.Sink N.Sink F.Shelf R.faults in
         let processors = processors_with R.next R.tells (map R.offered remotes.new.items) in
-        HasEnded (world_with (V.accepts verifier.now) signing processors) (map string_bytes words.now)
+        HasEnded (world_with (V.accepts verifier.now) signing processors) (asked_of (map string_bytes words.now))
         (world input.old output.old notes.old shelf.old remotes.old.items)
         (world input.new output.new notes.new shelf.new remotes.new.items) result }
     // Invalid arguments, a new stream and a claim ask nothing of external processors.

@@ -15,7 +15,7 @@ const WRITE: u8 = 5;
 const MEMORY: u8 = 7;
 
 /// Each option, the name of its value, and what it says.
-const OPTIONS: [(&str, &str, &str); 18] = [
+const OPTIONS: [(&str, &str, &str); 20] = [
     (
         "workers",
         "N",
@@ -32,6 +32,12 @@ const OPTIONS: [(&str, &str, &str); 18] = [
         "A port of 127.0.0.1 to which processors connect; with --remotes",
     ),
     ("remotes", "N", "How many of them: 1 to 64"),
+    (
+        "live",
+        "PORT",
+        "A port of 127.0.0.1 to which readers connect; with --readers, without --listen",
+    ),
+    ("readers", "N", "How many of them: 1 to 64"),
     ("connect", "PORT", "The port of 127.0.0.1 that listens"),
     ("prefix", "P", "Only entries whose address begins with this"),
     ("batch", "ID", "A batch, by its header signature"),

@@ -3,12 +3,13 @@
 
 mod help;
 
-ghost use Rattle.std.specs.Prelude.{◌≡◌, false, All};
+ghost use Rattle.std.specs.Prelude.{◌≡◌, ◌≤◌, ◌<◌, false, length, All};
+ghost use Rattle.saw_live.specs.declared.reader.ReaderEnd.TheVariants.{Open};
 
 use saw_io::{DirShelf, StdSink, StdSource};
-use saw_net::{Connection, accept_links, connect_link};
+use saw_net::{Asker, Connection, accept_links, accept_readers, connect_link};
 use saw_station::{NoStation, Station};
-use saw_top::{Wish, listen_wish, run, run_processor};
+use saw_top::{Wish, listen_wish, run, run_live, run_processor};
 use saw_verify::{DevSigner, DevVerifier};
 use saw_wire::Text;
 use std::alloc::Global;
@@ -95,6 +96,58 @@ where
     }
 }
 
+// Answers the words, beside these readers.
+fn answer_beside<T: Threads + Wait + Sync>(
+    rt: &T,
+    host: &HostRuntime,
+    words: &[String],
+    readers: &mut Vec<Asker>,
+) -> ExitCode
+    requires open { All (λ reader. reader.end ≡ Open) readers.old.items }
+    requires few { length readers.old.items < 4294967295 }
+{
+    let alloc = host.alloc();
+    let Some(signer) = signer(alloc) else {
+        return ExitCode::from(MEMORY);
+    };
+    let mut input = StdSource::new(host.reader());
+    let mut output = StdSink::new(io::writer(host));
+    let mut notes = StdSink::new(host.stderr());
+    let mut shelf = DirShelf::new(host);
+    let status = run_live(
+        rt,
+        alloc,
+        words,
+        &mut input,
+        &mut output,
+        &mut notes,
+        &mut shelf,
+        &DevVerifier,
+        &signer,
+        readers,
+    );
+    ExitCode::from(status.code())
+}
+
+// Answers the words, beside so many readers that connect to a port.
+fn answer_with_readers<T>(
+    rt: &T,
+    host: &HostRuntime,
+    words: &[String],
+    port: u16,
+    count: u32,
+) -> ExitCode
+where
+    T: Threads + Wait + Sync + Net<Listener = TcpListener, Stream = TcpStream>,
+    requires { count ≤ 64 }
+{
+    match accept_readers(rt, host.alloc(), port, count) {
+        Ok(mut readers) => answer_beside(rt, host, words, &mut readers),
+        Err(e) if e.kind() == ErrorKind::OutOfMemory => ExitCode::from(MEMORY),
+        Err(_) => ExitCode::from(PEER),
+    }
+}
+
 // Connects to a port, once a program listens there.
 fn connect<T: Clock + Net<Stream = TcpStream>>(rt: &T, port: u16) -> io::Result<Connection> {
     for _ in 1..TRIES {
@@ -135,6 +188,7 @@ fn main(rt: HostRuntime) -> ExitCode {
     }
     match listen_wish(&words) {
         Wish::Listen { port, remotes } => answer_with_links(&rt, &rt, &words, port, remotes),
+        Wish::Live { port, readers } => answer_with_readers(&rt, &rt, &words, port, readers),
         Wish::Connect { port } => serve(&rt, &rt, &words, port),
         Wish::Plain => {
             let mut remotes: Vec<NoStation> = Vec::new(alloc);

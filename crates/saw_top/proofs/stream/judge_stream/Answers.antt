@@ -9,16 +9,18 @@ use Rattle.saw_io.specs.declared.fault.FrameFault.TheVariants as frames
 use Rattle.saw_node.specs.Hashes.{first_half}
 use Rattle.saw_report.specs.RunFaults.{fault_of_frame}
 use Rattle.saw_report.specs.declared.run_fault.RunFault.{RunFault}
-use Rattle.saw_report.specs.declared.run_fault.RunFault.TheVariants.{Blocks, Collision, Memory, Peer, Read}
+use Rattle.saw_report.specs.declared.run_fault.RunFault.TheVariants.{Blocks, Collision, Frames, Memory, Peer, Read}
 use Rattle.saw_receipts.proofs.Ways.{is_by_serial}
 use Rattle.saw_station.proofs.Finished.{processors_own}
 use Rattle.saw_station.specs.Serving.{processors_at}
 use Rattle.saw_top.specs.Clashing.{LeavesUnjudged, TellsAlike}
 use Rattle.saw_top.specs.EndingFaults.{IsOfStream}
+use Rattle.saw_top.specs.Reports.{said_of}
 use Rattle.saw_top.specs.World.{serially}
 use Rattle.saw_top.proofs.Branching.{known_first}
 use Rattle.saw_top.proofs.Desks.{failed_rose}
-use Rattle.saw_top.proofs.Standings.{all_there, line_cut, line_written, no_more, not_judged, probe_fault, read_fault, so_ends, so_ends_by, so_more, start, too_many}
+use Rattle.saw_top.proofs.Hearing.{cut_line, few_more, hears, hears_by, nothing_heard, one_heard, part_heard, same_heard, unjudged_heard, whole_heard}
+use Rattle.saw_top.proofs.Standings.{all_there, end_said, fault_said, full_said, judged_said, line_cut, line_written, no_more, not_judged, over_said, probe_fault, read_fault, said_first, so_ends, so_ends_by, so_more, start, too_many}
 use Rattle.saw_top.proofs.stream.judge_stream.Goals as goal
 
 pub loop-place-init : goal.loop-place-init
@@ -35,11 +37,15 @@ loop-place-init g c =
             limit = c.requires.limit;
             kept = tt;
             known = λ root m is. inl (known_first first_half c.args.journal.now.states c.requires.states root m is);
-          });
+          })
+          (nothing_heard g.W.Follower.follows (g.W.Follower.heads c.args.follower.now));
       wrote = ([], Appends-nil (g.O.Sink.written c.args.output.now));
       desks = keep_all g.R.Station.faults g.R.Station.offered c.args.desks.now;
       input_later = omega arith;
       output_later = omega arith;
+      belongs = c.requires.belongs;
+      knows = c.requires.knows;
+      few = λ yes. omega arith;
     }
 
 pub returns-in_err-read_frame-clause-judges : goal.returns-in_err-read_frame-clause-judges
@@ -88,7 +94,8 @@ loop-place-preserved g c =
       so_far = so_more _ _ c.args.lines c.loop-place.invariant.so_far _ _ says.0 says.1 _ _ (λ ways bytes at run_so.
           line_written _ c.args.lines at _ c.in-Some.content c.loop-place-test.true some says.0 run_so c.in_ok-verdict-in-Some.verdict
           c.judge.new.journal says.2 c.in_ok-verdict-in-Some.ensures.stays _ _
-          c.in_ok-tell_block-in-Some.ensures.ok (ap (λ b. c.loop-place.refused || not b) c.is_accepted.ensures));
+          c.in_ok-tell_block-in-Some.ensures.ok (ap (λ b. c.loop-place.refused || not b) c.is_accepted.ensures)
+          (one_heard (said_of c.in_ok-verdict-in-Some.verdict c.judge.new.journal.blocks) c.in_ok-tell_head-in-Some.ensures.ok));
       wrote = (
         c.loop-place.invariant.wrote.0 ++ _,
         Appends-trans _ _ _ c.loop-place.invariant.wrote.0 _ c.loop-place.invariant.wrote.1
@@ -97,6 +104,10 @@ loop-place-preserved g c =
       desks = keeps_all_trans _ _ _ _ c.judge.new.desks c.loop-place.invariant.desks c.in_ok-verdict-in-Some.ensures.desks;
       input_later = omega arith;
       output_later = omega arith;
+      belongs = c.in_ok-tell_head-in-Some.ensures.belongs;
+      knows = c.in_ok-tell_head-in-Some.ensures.knows;
+      few = few_more g.W.Follower.follows (g.W.Follower.heads c.args.follower.now) (g.W.Follower.heads c.loop-place.follower)
+          (g.W.Follower.heads c.tell_head.new.follower) c.loop-place.place _ c.loop-place.invariant.few c.in_ok-tell_head-in-Some.ensures.ok;
     }
 
 pub returns-in_err-has_ended-clause-judges : goal.returns-in_err-has_ended-clause-judges
@@ -203,3 +214,112 @@ returns-in_err-verdict-in-Some-clause-peer g c =
     failed_rose g.R.Station.faults g.R.Station.offered c.args.desks.now c.judge.new.desks since
     (failed_since g.R.Station.faults g.R.Station.offered c.args.desks.now c.loop-place.desks c.judge.new.desks c.loop-place.invariant.desks
     (e.cause (ap Err peer))))
+
+-- ---- who follows
+
+pub tell_head-requires-clause-knows : goal.tell_head-requires-clause-knows
+tell_head-requires-clause-knows g c =
+    c.in_ok-verdict-in-Some.ensures.stays (g.W.Follower.root c.loop-place.follower) (g.W.Follower.map c.loop-place.follower) c.loop-place.invariant.knows
+
+pub tell_head-requires-clause-room : goal.tell_head-requires-clause-room
+tell_head-requires-clause-room g c = λ yes.
+    omega (arith, c.loop-place.invariant.few yes, c.requires.few yes, c.loop-place-test.true)
+
+pub returns-in_err-tell_head-in-Some-clause-judges : goal.returns-in_err-tell_head-in-Some-clause-judges
+returns-in_err-tell_head-in-Some-clause-judges g c =
+    let some = rw c.in-Some.is at c.in_ok-read_frame.ensures.told in
+    let failed = c.from_residual-in_err-tell_head-in-Some in
+    let p = err_from_is_err_and failed.result failed.ensures.1 in
+    let is : c.in_err-tell_head-in-Some.field-0.0 ≡ Memory = c.in_err-tell_head-in-Some.ensures.fault in
+    rw (p.1, p.2, is) (not_judged _ _ c.args.lines c.loop-place.invariant.so_far _ c.in-Some.content c.loop-place-test.true some c.judge.new.journal
+    Memory tt (λ is. absurd cc) tt)
+
+pub returns-in_err-tell_head-in-Some-clause-kind : goal.returns-in_err-tell_head-in-Some-clause-kind
+returns-in_err-tell_head-in-Some-clause-kind g c =
+    let failed = c.from_residual-in_err-tell_head-in-Some in
+    let p = err_from_is_err_and failed.result failed.ensures.1 in
+    let is : c.in_err-tell_head-in-Some.field-0.0 ≡ Memory = c.in_err-tell_head-in-Some.ensures.fault in
+    rw (p.1, p.2, is) refl
+
+pub returns-in_err-tell_head-in-Some-clause-nodes : goal.returns-in_err-tell_head-in-Some-clause-nodes
+returns-in_err-tell_head-in-Some-clause-nodes g c =
+    let failed = c.from_residual-in_err-tell_head-in-Some in
+    let p = err_from_is_err_and failed.result failed.ensures.1 in
+    let is : c.in_err-tell_head-in-Some.field-0.0 ≡ Memory = c.in_err-tell_head-in-Some.ensures.fault in
+    rw (p.1, p.2, is) tt
+
+pub returns-in_err-tell_head-in-Some-clause-desks : goal.returns-in_err-tell_head-in-Some-clause-desks
+returns-in_err-tell_head-in-Some-clause-desks g c =
+    keeps_all_trans _ _ _ _ c.judge.new.desks c.loop-place.invariant.desks c.in_ok-verdict-in-Some.ensures.desks
+
+pub returns-in_err-read_frame-clause-heard : goal.returns-in_err-read_frame-clause-heard
+returns-in_err-read_frame-clause-heard g c =
+    let failed = c.from_residual in
+    let p = err_from_is_err_and failed.result failed.ensures.1 in
+    let e = c.in_err-read_frame.ensures in
+    rw (p.1, p.2) (hears _ _ c.args.lines _ c.loop-place.invariant.so_far _ (λ ways bytes at.
+    part_heard _ bytes at.heard _ (fault_said _ c.args.lines at _ _ e.told c.loop-place-test.true) (said_first _ c.args.lines at (omega arith))))
+
+pub returns-in-None-clause-heard : goal.returns-in-None-clause-heard
+returns-in-None-clause-heard g c =
+    let none = rw c.in-None.is at c.in_ok-read_frame.ensures.told in
+    hears _ _ c.args.lines _ c.loop-place.invariant.so_far _ (λ ways bytes at.
+    whole_heard _ bytes at.heard (end_said _ c.args.lines at _ c.loop-place-test.true none))
+
+pub returns-in_err-verdict-in-Some-clause-heard : goal.returns-in_err-verdict-in-Some-clause-heard
+returns-in_err-verdict-in-Some-clause-heard g c =
+    let some = rw c.in-Some.is at c.in_ok-read_frame.ensures.told in
+    let failed = c.from_residual-in_err-verdict-in-Some in
+    let p = err_from_is_err_and failed.result failed.ensures.1 in
+    let e = c.in_err-verdict-in-Some.ensures in
+    let same = kept_offers _ _ c.args.desks.now c.loop-place.desks c.loop-place.invariant.desks in
+    let full = rw (same, c.deref.ensures.value) at e.full in
+    rw (p.1, p.2) (unjudged_heard _ _ c.args.lines g.W.Follower.follows _ _ c.loop-place.invariant.so_far _ c.in-Some.content c.loop-place-test.true some
+    _ e.fault (λ is. full (ap Err is)))
+
+pub returns-in_err-tell_head-in-Some-clause-heard : goal.returns-in_err-tell_head-in-Some-clause-heard
+returns-in_err-tell_head-in-Some-clause-heard g c =
+    let failed = c.from_residual-in_err-tell_head-in-Some in
+    let p = err_from_is_err_and failed.result failed.ensures.1 in
+    let e = c.in_err-tell_head-in-Some.ensures in
+    let is : c.in_err-tell_head-in-Some.field-0.0 ≡ Memory = e.fault in
+    rw (p.1, p.2, is) (hears _ _ c.args.lines _ c.loop-place.invariant.so_far _ (λ ways bytes at.
+    part_heard _ bytes (same_heard e.err at.heard) Memory (λ whole. absurd cc)
+    (said_first _ c.args.lines at (omega arith))))
+
+pub returns-in_err-tell_block-in-Some-clause-heard : goal.returns-in_err-tell_block-in-Some-clause-heard
+returns-in_err-tell_block-in-Some-clause-heard g c =
+    let some = rw c.in-Some.is at c.in_ok-read_frame.ensures.told in
+    let failed = c.from_residual-in_err-tell_block-in-Some in
+    let p = err_from_is_err_and failed.result failed.ensures.1 in
+    let same = kept_offers _ _ c.args.desks.now c.loop-place.desks c.loop-place.invariant.desks in
+    let says = rw (same, c.deref.ensures.value) at c.in_ok-verdict-in-Some.ensures.says in
+    rw (p.1, p.2) (hears_by _ _ c.args.lines _ c.loop-place.invariant.so_far says.0 says.1 _ (λ ways bytes at run_so.
+    cut_line _ bytes _ _
+    (one_heard (said_of c.in_ok-verdict-in-Some.verdict c.judge.new.journal.blocks) c.in_ok-tell_head-in-Some.ensures.ok at.heard)
+    (judged_said _ c.args.lines at _ c.in-Some.content c.loop-place-test.true some says.0 run_so c.in_ok-verdict-in-Some.verdict
+    c.judge.new.journal says.2 c.in_ok-verdict-in-Some.ensures.stays) _ c.in_err-tell_block-in-Some.ensures.fault))
+
+pub returns-in_err-has_ended-clause-heard : goal.returns-in_err-has_ended-clause-heard
+returns-in_err-has_ended-clause-heard g c =
+    let failed = c.from_residual-in_err-has_ended in
+    let p = err_from_is_err_and failed.result failed.ensures.1 in
+    let e = c.in_err-has_ended.ensures in
+    let is : c.in_err-has_ended.field-0.0 ≡ Read = cc e.only in
+    rw (p.1, p.2, is) (hears _ _ c.args.lines _ c.loop-place.invariant.so_far _ (λ ways bytes at.
+    part_heard _ bytes at.heard Read (λ whole. absurd cc) (said_first _ c.args.lines at (omega arith))))
+
+pub returns-then-branch-clause-heard : goal.returns-then-branch-clause-heard
+returns-then-branch-clause-heard g c =
+    let e = c.in_ok-has_ended.ensures in
+    let ended = rw c.if-branch.true at e.ended in
+    hears _ _ c.args.lines _ c.loop-place.invariant.so_far _ (λ ways bytes at.
+    whole_heard _ bytes at.heard (full_said _ c.args.lines at (omega arith) (omega arith) ended))
+
+pub returns-clause-heard : goal.returns-clause-heard
+returns-clause-heard g c =
+    let e = c.in_ok-has_ended.ensures in
+    let some = rw c.if-branch.false at e.ended in
+    hears _ _ c.args.lines _ c.loop-place.invariant.so_far _ (λ ways bytes at.
+    part_heard _ bytes at.heard Frames (λ whole. over_said _ c.args.lines at (omega arith) (omega arith) some)
+    (said_first _ c.args.lines at (omega arith)))

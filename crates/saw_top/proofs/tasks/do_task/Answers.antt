@@ -6,6 +6,7 @@ use Rattle.saw_station.specs.Serving.{processors_at}
 use Rattle.saw_top.specs.Outside.{counts_of, outside_with, sink_end}
 use Rattle.saw_top.proofs.Desks.{rose_since}
 use Rattle.saw_top.proofs.Doing.{does_all, does_nothing, does_to}
+use Rattle.saw_top.proofs.Hearing.{heard_fault, heard_on, nobody_heard}
 use Rattle.saw_top.proofs.tasks.do_task.Goals as goal
 
 pub returns-in_err-journal-clause-does : goal.returns-in_err-journal-clause-does
@@ -57,3 +58,20 @@ pub returns-clause-desks : goal.returns-clause-desks
 returns-clause-desks g c =
     keeps_all_trans g.R.Station.faults g.R.Station.offered c.args.desks.now c.judge_lines.new.desks c.finish-came.new.desks
     c.in_ok-refused.ensures.desks c.finish-came.ensures.desks
+
+pub returns-in_err-journal-clause-heard : goal.returns-in_err-journal-clause-heard
+returns-in_err-journal-clause-heard g c =
+    let laws = g.met.R.Station g.world.𝓛 g.world.𝓜 g.world.𝓡 ((λ s x. x), (λ x. x), (λ x. x), λ x. x) in
+    let p = err_from_is_err_and c.from_residual.result c.from_residual.ensures.1 in
+    let processors = processors_at g.R.Station.next g.R.Station.tells (offers_at c.args.desks.now) in
+    rw (p.1, p.2) (nobody_heard processors
+    (processors_own g.R.Station.next laws.own_reasons g.R.Station.tells (offers_at c.args.desks.now)) (g.V.Verifier.accepts c.args.verifier.now)
+    g.W.Follower.follows (g.W.Follower.heads c.args.follower.now) (g.S.Source.unread c.args.input.now))
+
+pub returns-in_err-refused-clause-heard : goal.returns-in_err-refused-clause-heard
+returns-in_err-refused-clause-heard g c =
+    let p = err_from_is_err_and c.from_residual-in_err-refused.result c.from_residual-in_err-refused.ensures.1 in
+    rw (p.1, p.2) (heard_fault c.in_err-refused.ensures.heard)
+
+pub returns-clause-heard : goal.returns-clause-heard
+returns-clause-heard g c = heard_on c.finish-came.result c.in_ok-refused.ensures.heard

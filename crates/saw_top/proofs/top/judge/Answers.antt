@@ -7,6 +7,7 @@ use Rattle.saw_top.specs.Outside.{AreLater, SomeRose, outside}
 use Rattle.saw_top.specs.Seats.{StopsAt}
 use Rattle.saw_top.specs.Wishes.{wish_in}
 use Rattle.saw_top.specs.World.{processors_beside, processors_with, world_with}
+use Rattle.saw_top.proofs.Branching.{known_nothing}
 use Rattle.saw_top.proofs.Carrying.{signs, since_begun, unbegun}
 use Rattle.saw_top.proofs.Counting.{later_at, rose_at}
 use Rattle.saw_top.proofs.Seated.{written_back}
@@ -30,7 +31,7 @@ returns-in_err-begin_each g c =
     record {
       carries = rw (p.1, p.2, back)
           (unbegun (world_with (g.V.Verifier.accepts c.args.verifier.now) signing
-          (processors_with g.R.Station.next g.R.Station.tells (map offered mids))) (wish_in c.args.job)
+          (processors_with g.R.Station.next g.R.Station.tells (map offered mids))) (wish_in c.args.job.now)
           (outside g.S.Source g.O.Sink g.N.Sink g.F.Shelf faults c.args.input.now c.args.output.now c.args.notes.now c.args.shelf.now
           c.args.remotes.now.items) (map faults mids) later
           (λ files. own_with g.R.Station.next laws.own_reasons g.R.Station.tells (map offered mids)) c.in_err-begin_each.field-0.0 failed.fault
@@ -67,7 +68,7 @@ returns g c =
     let offered = g.R.Station.offered in
     let accepts = g.V.Verifier.accepts c.args.verifier.now in
     let signing = signs (g.G.Signer.key_text c.args.signer.now) (g.G.Signer.signature c.args.signer.now) in
-    let wish = wish_in c.args.job in
+    let wish = wish_in c.args.job.now in
     let mids = c.begin_each.new.remotes in
     let last = c.judge_beside.new.stations.items in
     let came = c.judge_beside.result in
@@ -88,3 +89,10 @@ returns g c =
           (subst (λ (p : Processors). DoesJob (world_with accepts signing p) (Some wish) (before mids) after came) (with_some next tells (map offered last) some) done);
       begun = inl c.judge_beside.ensures.begun;
     }
+
+-- nobody follows, who knows the empty state
+pub judge_alone-requires-clause-knows : goal.judge_alone-requires-clause-knows
+judge_alone-requires-clause-knows g c = λ κs alive. known_nothing
+
+pub judge_beside-requires-clause-knows : goal.judge_beside-requires-clause-knows
+judge_beside-requires-clause-knows g c = λ κs alive. known_nothing

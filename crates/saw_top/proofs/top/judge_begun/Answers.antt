@@ -7,12 +7,14 @@ use Rattle.saw_station.specs.DeskPlaces.{Place}
 use Rattle.saw_station.proofs.Finished.{processors_own}
 use Rattle.saw_station.specs.Serving.{processors_at}
 use Rattle.saw_station.specs.declared.offer.Offer.{Offer}
+use Rattle.saw_top.specs.Following.{Follows, HearsJob}
 use Rattle.saw_top.specs.Headline.{DoesJob}
 use Rattle.saw_top.specs.Outside.{AreLater, SomeRose, counts_of, outside, outside_with, shelf_end}
 use Rattle.saw_top.specs.Seats.{HaveOffers, remotes_at}
 use Rattle.saw_top.specs.Wishes.{wish_in}
 use Rattle.saw_top.specs.World.{world_with}
 use Rattle.saw_top.proofs.Carrying.{deskless, does_so, never_wrong, signs, unprepared, with_ready}
+use Rattle.saw_top.proofs.HearingJobs.{deskless_heard, ready_heard, unprepared_heard}
 use Rattle.saw_top.proofs.Seated.{all_later, all_offers, all_rose, are_alike, as_many, as_many_desks, offers_are, written_back}
 use Rattle.saw_top.proofs.top.judge_begun.Goals as goal
 
@@ -21,7 +23,7 @@ returns-in_err-ready g c =
     let laws = g.met.R.Station g.world.𝓛 g.world.𝓜 g.world.𝓡 ((λ s x. x), (λ x. x), (λ x. x), λ x. x) in
     let signing = signs (g.G.Signer.key_text c.args.signer.now) (g.G.Signer.signature c.args.signer.now) in
     let p = err_from_is_err_and c.from_residual.result c.from_residual.ensures.1 in
-    let job = c.args.job in
+    let job = c.args.job.now in
     record {
       carries = rw (p.1, p.2)
           (unprepared (g.V.Verifier.accepts c.args.verifier.now) signing
@@ -31,6 +33,12 @@ returns-in_err-ready g c =
           (outside g.S.Source g.O.Sink g.N.Sink g.F.Shelf g.R.Station.faults c.args.input.now c.args.output.now c.args.notes.now c.args.shelf.now
           c.args.remotes.now.items)
           (shelf_end g.F.Shelf c.prepare.new.shelf) c.in_err-ready.field-0.0 (c.in_err-ready.ensures.prepares signing));
+      heard = rw (p.1, p.2) (unprepared_heard (g.V.Verifier.accepts c.args.verifier.now) signing
+          (processors_at g.R.Station.next g.R.Station.tells (common (map g.R.Station.offered c.args.remotes.now.items)))
+          (processors_own g.R.Station.next laws.own_reasons g.R.Station.tells (common (map g.R.Station.offered c.args.remotes.now.items)))
+          (wish_in job) (shelf_end g.F.Shelf c.args.shelf.now) (shelf_end g.F.Shelf c.prepare.new.shelf) (g.S.Source.unread c.args.input.now)
+          g.W.Follower.follows (g.W.Follower.heads c.args.follower.now) c.in_err-ready.field-0.0 (c.in_err-ready.ensures.prepares signing));
+      belongs = c.requires.belongs;
       begun = c.requires.begun;
     }
 
@@ -39,7 +47,7 @@ returns-in_err-offers g c =
     let laws = g.met.R.Station g.world.𝓛 g.world.𝓜 g.world.𝓡 ((λ s x. x), (λ x. x), (λ x. x), λ x. x) in
     let signing = signs (g.G.Signer.key_text c.args.signer.now) (g.G.Signer.signature c.args.signer.now) in
     let p = err_from_is_err_and c.from_residual-in_err-offers.result c.from_residual-in_err-offers.ensures.1 in
-    let job = c.args.job in
+    let job = c.args.job.now in
     record {
       carries = rw (p.1, p.2)
           (deskless (g.V.Verifier.accepts c.args.verifier.now) signing
@@ -49,6 +57,12 @@ returns-in_err-offers g c =
           (outside g.S.Source g.O.Sink g.N.Sink g.F.Shelf g.R.Station.faults c.args.input.now c.args.output.now c.args.notes.now c.args.shelf.now
           c.args.remotes.now.items)
           (shelf_end g.F.Shelf c.prepare.new.shelf) _ (c.in_ok-ready.ensures.prepares signing));
+      heard = rw (p.1, p.2) (deskless_heard (g.V.Verifier.accepts c.args.verifier.now) signing
+          (processors_at g.R.Station.next g.R.Station.tells (common (map g.R.Station.offered c.args.remotes.now.items)))
+          (processors_own g.R.Station.next laws.own_reasons g.R.Station.tells (common (map g.R.Station.offered c.args.remotes.now.items)))
+          (wish_in job) (shelf_end g.F.Shelf c.args.shelf.now) (shelf_end g.F.Shelf c.prepare.new.shelf) (g.S.Source.unread c.args.input.now)
+          _ (c.in_ok-ready.ensures.prepares signing) g.W.Follower.follows (g.W.Follower.heads c.args.follower.now));
+      belongs = c.requires.belongs;
       begun = c.requires.begun;
     }
 
@@ -57,7 +71,7 @@ returns-in_err-desks g c =
     let laws = g.met.R.Station g.world.𝓛 g.world.𝓜 g.world.𝓡 ((λ s x. x), (λ x. x), (λ x. x), λ x. x) in
     let signing = signs (g.G.Signer.key_text c.args.signer.now) (g.G.Signer.signature c.args.signer.now) in
     let p = err_from_is_err_and c.from_residual-in_err-desks.result c.from_residual-in_err-desks.ensures.1 in
-    let job = c.args.job in
+    let job = c.args.job.now in
     let same = c.in_err-desks.ensures.err in
     record {
       carries = rw (p.1, p.2, same)
@@ -68,6 +82,12 @@ returns-in_err-desks g c =
           (outside g.S.Source g.O.Sink g.N.Sink g.F.Shelf g.R.Station.faults c.args.input.now c.args.output.now c.args.notes.now c.args.shelf.now
           c.args.remotes.now.items)
           (shelf_end g.F.Shelf c.prepare.new.shelf) _ (c.in_ok-ready.ensures.prepares signing));
+      heard = rw (p.1, p.2, same) (deskless_heard (g.V.Verifier.accepts c.args.verifier.now) signing
+          (processors_at g.R.Station.next g.R.Station.tells (common (map g.R.Station.offered c.args.remotes.now.items)))
+          (processors_own g.R.Station.next laws.own_reasons g.R.Station.tells (common (map g.R.Station.offered c.args.remotes.now.items)))
+          (wish_in job) (shelf_end g.F.Shelf c.args.shelf.now) (shelf_end g.F.Shelf c.prepare.new.shelf) (g.S.Source.unread c.args.input.now)
+          _ (c.in_ok-ready.ensures.prepares signing) g.W.Follower.follows (g.W.Follower.heads c.args.follower.now));
+      belongs = c.requires.belongs;
       begun = c.in_err-desks.ensures.begun;
     }
 
@@ -92,7 +112,7 @@ returns g c =
     let faults = g.R.Station.faults in
     let offered = g.R.Station.offered in
     let signing = signs (g.G.Signer.key_text c.args.signer.now) (g.G.Signer.signature c.args.signer.now) in
-    let job = c.args.job in
+    let job = c.args.job.now in
     let olds = c.deref_mut.result.now in
     let news = c.do_task-came.new.desks in
     let left = c.seat.new.remotes.items in
@@ -136,6 +156,16 @@ returns g c =
           does_so (processors_at g.R.Station.next g.R.Station.tells (offers_at olds)) job.task (Ok _) before after (counts_of faults olds) (counts_of faults news)
           (map faults first) (map faults last) rose c.do_task-came.result
           (never_wrong (processors_at g.R.Station.next g.R.Station.tells (offers_at olds)) job.task _ before after c.do_task-came.result does) does));
+      heard =
+          subst (λ (offers : List Offer). HearsJob (world_with (g.V.Verifier.accepts c.args.verifier.now) signing
+          (processors_at g.R.Station.next g.R.Station.tells offers)) (Some (wish_in job)) (g.F.Shelf.files c.args.shelf.now)
+          (Follows g.W.Follower.follows (g.W.Follower.heads c.args.follower.now) (g.W.Follower.heads c.do_task-came.new.follower))
+          (g.S.Source.unread c.args.input.now) c.do_task-came.result) offers
+          (ready_heard (g.V.Verifier.accepts c.args.verifier.now) signing (processors_at g.R.Station.next g.R.Station.tells (offers_at olds))
+          (processors_own g.R.Station.next laws.own_reasons g.R.Station.tells (offers_at olds)) (wish_in job) (shelf_end g.F.Shelf c.args.shelf.now)
+          (shelf_end g.F.Shelf c.prepare.new.shelf) (g.S.Source.unread c.args.input.now) _ (c.in_ok-ready.ensures.prepares signing) _
+          c.do_task-came.result c.do_task-came.ensures.heard);
+      belongs = c.do_task-came.ensures.belongs;
       begun = c.unseat.ensures.begun c.in_ok-desks.ensures.begun;
     }
 
