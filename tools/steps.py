@@ -611,14 +611,14 @@ def mark(key, message):
     return sha512(key.encode() + message)
 
 
-def transaction(payload):
-    header = record(1, KEY) + record(3, "intkey") + record(4, "1.0") + record(5, "1cf126") + record(7, "1cf126")
+def transaction(payload, family="intkey", at="1cf126"):
+    header = record(1, KEY) + record(3, family) + record(4, "1.0") + record(5, at) + record(7, at)
     header += record(9, sha512(payload)) + record(10, KEY)
     return mark(KEY, header), record(1, header) + record(2, mark(KEY, header)) + record(3, payload)
 
 
 def batch(payloads):
-    made = [transaction(payload) for payload in payloads]
+    made = [transaction(*payload) if isinstance(payload, tuple) else transaction(payload) for payload in payloads]
     header = record(1, KEY) + b"".join(record(2, name) for name, _ in made)
     return mark(KEY, header), record(1, header) + record(2, mark(KEY, header)) + b"".join(record(3, t) for _, t in made)
 
@@ -628,11 +628,12 @@ WORDS = ("committed", "stored", "full", "collision")
 
 
 class Block:
-    def __init__(self, name, previous, number, counters, batches, signer=KEY, consensus=b"Devmode"):
+    def __init__(self, name, previous, number, counters, batches, signer=KEY, consensus=b"Devmode", entries=None):
         made = [batch(payloads) for payloads in batches]
+        self.entries = left_by(counters) if entries is None else entries
         header = (b"\x08" + varint(number) if number else b"") + record(2, previous) + record(3, signer)
-        header += b"".join(record(4, i) for i, _ in made) + record(5, consensus) + record(6, counters_root(counters))
-        self.id, self.name, self.number, self.root = mark(signer, header), name, number, counters_root(counters)
+        header += b"".join(record(4, i) for i, _ in made) + record(5, consensus) + record(6, root(self.entries))
+        self.id, self.name, self.number, self.root = mark(signer, header), name, number, root(self.entries)
         with open(f"{FOLDERS['blocks']}/{name}.block", "wb") as file:
             file.write(record(1, header) + record(2, self.id) + b"".join(record(3, b) for _, b in made))
 
@@ -768,6 +769,33 @@ def branches():
     ])
 
 
+def failing():
+    """Blocks for an external processor that puts payloads behind what stands at an address, by three steps each, and fails
+    at every one of them in turn."""
+    first_at, second_at = (sha512(b"demo")[:6] + sha512(name)[:64] for name in (b"first", b"second"))
+
+    def demo(payload, at):
+        return payload, "demo", at
+
+    genesis = first("three-demo", batches=[[demo(b"one", first_at)], [demo(b"two", second_at), demo(b"three", first_at)]],
+                    entries={first_at: b"onethree", second_at: b"two"})
+    second = child("fourth-demo", genesis, batches=[[demo(b"four", second_at)]],
+                   entries={first_at: b"onethree", second_at: b"twofour"})
+    wrong = child("wrong-demo", genesis, batches=[[demo(b"five", second_at)]], entries={})
+    put("journal", "failing-steps", [
+        ("limit 10", ""),
+        (f"failing {genesis.name}.block", "failed 9\ncommitted"),
+        genesis.head(),
+        listed("", genesis.entries),
+        (f"failing {wrong.name}.block", f"failed 3\nblock 0 refused 15 Root {root({first_at: b'onethree', second_at: b'twofive'})}"),
+        genesis.head(),
+        (f"failing {second.name}.block", "failed 3\ncommitted"),
+        second.head(),
+        listed("", second.entries),
+        ("blocks", "blocks 2"),
+    ])
+
+
 # Clashes: journals whose hash of a node is the first byte of SHA-512, and zeros.
 
 
@@ -815,6 +843,7 @@ def main():
     states()
     verdicts()
     branches()
+    failing()
     clashes()
 
 

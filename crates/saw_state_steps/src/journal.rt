@@ -1,6 +1,10 @@
 //! A journal, call by call: `limit N`, and then calls. Blocks lie in the folder `blocks`. Nodes are hashed as in a
 //! state, or so that different ones meet.
 
+ghost use Rattle.std.specs.Prelude.{◌<◌, length};
+ghost use Rattle.saw_crew.specs.Desks.{HaveSameOffers};
+
+use crate::failing::accept_behind_failures;
 use crate::states::put_listed;
 use saw_journal::{Journal, JournalFault};
 use saw_messages::encode_receipt;
@@ -9,7 +13,7 @@ use saw_receipts::{BatchRecord, Parent, Verdict};
 use saw_report::{head_line, verdict_line};
 use saw_rules::NoPolicy;
 use saw_scripts::{ScriptFault, put_hex, put_number, put_word, words_of};
-use saw_station::{Desk, NoStation};
+use saw_station::{Desk, NoStation, Station};
 use saw_verify::DevVerifier;
 use saw_wire::Text;
 use std::alloc::{AllocError, Global};
@@ -48,6 +52,9 @@ fn call<T: Threads + Wait + Sync, H: NodeHasher>(
     let alloc = host.alloc();
     match words {
         ["accept", name] => accept(rt, alloc, journal, &block_in(host, name)?, out),
+        ["failing", name] => {
+            accept_behind_failures(rt, alloc, journal, &block_in(host, name)?, out)
+        }
         ["blocks"] => put_count(alloc, journal.blocks().len(), out),
         ["head"] => Ok(out.extend_from_slice(&head_line(alloc, journal.head())?)?),
         ["parent"] => put_parent(alloc, journal.parent()?, out),
@@ -63,20 +70,20 @@ fn block_in(host: &HostRuntime, name: &str) -> anyhow::Result<Vec<u8>> {
     Ok(fs::read(host, path.as_str())?)
 }
 
-/// What the journal answers to the bytes of a block, without a policy.
-fn answer<T: Threads + Wait + Sync, H: NodeHasher>(
+/// What the journal answers to the bytes of a block at these desks, without a policy.
+pub(crate) fn answer<T: Threads + Wait + Sync, H: NodeHasher, R: Station>(
     rt: &T,
-    alloc: Global,
     journal: &mut Journal<H>,
     bytes: &[u8],
-) -> anyhow::Result<Result<Verdict, JournalFault>> {
+    desks: &mut [Desk<R>],
+) -> anyhow::Result<Result<Verdict, JournalFault>>
+    requires some { 0 < length desks.old }
+    requires alike { HaveSameOffers desks.old }
+{
     if bytes.len() > 0xffff_ffff {
         return Err(ScriptFault::NoForm.into());
     }
-    let offers = Arc::new(alloc, Vec::new(alloc))?;
-    let desk: Desk<NoStation> = Desk::new(None, offers);
-    let mut desks = [desk];
-    Ok(journal.accept::<NoPolicy, _, _, _>(rt, bytes, &DevVerifier, &mut desks))
+    Ok(journal.accept::<NoPolicy, _, _, _>(rt, bytes, &DevVerifier, desks))
 }
 
 fn accept<T: Threads + Wait + Sync, H: NodeHasher>(
@@ -86,7 +93,9 @@ fn accept<T: Threads + Wait + Sync, H: NodeHasher>(
     bytes: &[u8],
     out: &mut Vec<u8>,
 ) -> anyhow::Result<()> {
-    match answer(rt, alloc, journal, bytes)? {
+    let desk: Desk<NoStation> = Desk::new(None, Arc::new(alloc, Vec::new(alloc))?);
+    let mut desks = [desk];
+    match answer(rt, journal, bytes, &mut desks)? {
         Ok(verdict) => Ok(put_verdict(alloc, out, verdict)?),
         Err(fault) => put_fault::<H>(alloc, out, fault),
     }
@@ -127,7 +136,11 @@ fn clash<H: NodeHasher>(alloc: Global, kept: &Node, given: &Node) -> Result<bool
 }
 
 /// A word for an accepted block, and the line of a refused one.
-fn put_verdict(alloc: Global, out: &mut Vec<u8>, verdict: Verdict) -> Result<(), AllocError> {
+pub(crate) fn put_verdict(
+    alloc: Global,
+    out: &mut Vec<u8>,
+    verdict: Verdict,
+) -> Result<(), AllocError> {
     match verdict {
         Verdict::Committed => out.extend_from_slice(b"committed\n"),
         Verdict::Stored => out.extend_from_slice(b"stored\n"),

@@ -1,6 +1,7 @@
 //! Runs the scripts of states and journals that lie in the folder `data`, and tells which say other lines than are stored.
 #![tactic(auto)]
 
+mod failing;
 mod journal;
 mod states;
 

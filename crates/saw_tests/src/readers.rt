@@ -228,25 +228,22 @@ fn asks<'a>(alloc: Global, told: &'a AtomicU64) -> Result<Vec<Reader<Asking<'a>,
     Ok(readers)
 }
 
+const TWO_BLOCKS: [&str; 7] = [
+    "generate",
+    "--start",
+    "1",
+    "--blocks",
+    "2",
+    "--batches",
+    "1",
+];
+
 const LIVE: [&str; 5] = ["apply", "--live", "7000", "--readers", "1"];
 
 #[test]
 fn reader_meets_apply(rt: HostRuntime) -> Result<(), Fail> {
     let alloc = rt.alloc();
-    let (_, bytes) = ran(
-        &rt,
-        alloc,
-        &[
-            "generate",
-            "--start",
-            "1",
-            "--blocks",
-            "2",
-            "--batches",
-            "1",
-        ],
-        &[],
-    )?;
+    let (_, bytes) = ran(&rt, alloc, &TWO_BLOCKS, &[])?;
     let length = first_length(&bytes);
     let first = bytes.get(..length).ok_or("a first block")?;
     let others = bytes.get(length..).ok_or("a second block")?;
@@ -271,20 +268,7 @@ fn reader_meets_apply(rt: HostRuntime) -> Result<(), Fail> {
 fn words_and_nobody_beside_a_run(rt: HostRuntime) -> Result<(), Fail> {
     let alloc = rt.alloc();
     let told = AtomicU64::new(0);
-    let (_, bytes) = ran(
-        &rt,
-        alloc,
-        &[
-            "generate",
-            "--start",
-            "1",
-            "--blocks",
-            "2",
-            "--batches",
-            "1",
-        ],
-        &[],
-    )?;
+    let (_, bytes) = ran(&rt, alloc, &TWO_BLOCKS, &[])?;
     let alone = ran(&rt, alloc, &["apply"], &bytes)?;
     let mut nobody: Vec<Reader<Asking<'_>, Told<'_>>> = Vec::new(alloc);
     let came = ran_beside(&rt, alloc, &LIVE, &mut memory(alloc, &bytes)?, &mut nobody)?;

@@ -1,0 +1,108 @@
+"""Measures what readers cost `apply`: three that ask without pause, and what a switch of the head publishes.
+
+Run by hand, never by the gate, after `rt run` has built the program:
+python3 -B bench/readers.py PROGRAM [RUNS]
+
+First the time of 20,000 transactions in 4 blocks, alone and beside three readers, in turns. Then the time of 100 blocks
+of ten new names each behind 1,000 names and behind 100,000, alone and beside a reader that does not ask: what lies
+between the two is what the switches publish. Times are those from the first byte that is fed to the last line.
+"""
+
+import multiprocessing
+import os
+import socket
+import subprocess
+import sys
+import tempfile
+import time
+
+HERE = os.path.dirname(os.path.abspath(__file__))
+sys.path[:0] = [os.path.join(HERE, "..", "demo"), os.path.join(HERE, "..", "tools"), HERE]
+
+import counters
+from ask import Asked
+from chain import names_first, stream
+from compare import made
+
+ADDRESS = counters.address("n0")
+
+
+def free_port():
+    with socket.create_server(("127.0.0.1", 0)) as listening:
+        return listening.getsockname()[1]
+
+
+def ask(port, asks, done, count):
+    """Asks without pause until the run has ended, or only once it has."""
+    asked = Asked.connected(port)
+    answers = 0
+    while not done.is_set():
+        if asks:
+            asked.ask(ADDRESS)
+            answers += 1
+        else:
+            time.sleep(0.01)
+    count.put(answers)
+
+
+def run(program, parts, readers, asks):
+    """The seconds from the last part's first byte to the last line, and how often was asked. Each part is fed once the
+    blocks before it have their lines."""
+    port, done, count = free_port(), multiprocessing.Event(), multiprocessing.Queue()
+    words = [program, "apply", "--workers", "1"]
+    words += ["--live", str(port), "--readers", str(readers)] if readers else []
+    # They begin before the pipes are there, which they would hold open.
+    others = [multiprocessing.Process(target=ask, args=(port, asks, done, count), daemon=True) for _ in range(readers)]
+    for other in others:
+        other.start()
+    child = subprocess.Popen(words, stdin=subprocess.PIPE, stdout=subprocess.PIPE)
+    for content, lines in parts[:-1]:
+        child.stdin.write(content)
+        child.stdin.flush()
+        for _ in range(lines):
+            child.stdout.readline()
+    time.sleep(1)
+    begin = time.monotonic()
+    child.stdin.write(parts[-1][0])
+    child.stdin.close()
+    line = b" "
+    while line and not line.startswith(b"head "):
+        line = child.stdout.readline()
+    seconds = time.monotonic() - begin
+    done.set()
+    answers = sum(count.get() for _ in others)
+    for other in others:
+        other.join()
+    child.wait()
+    return seconds, answers
+
+
+def beside_three(program, runs):
+    with made(program, 4, 2500, 10) as file:
+        file.seek(0)
+        parts = [(file.read(), 4)]
+    alone = min(run(program, parts, 0, False)[0] for _ in range(runs))
+    told = [run(program, parts, 3, True) for _ in range(runs)]
+    beside, answers = min(told)
+    print(f"alone {alone * 1000:.0f} ms, beside three readers {beside * 1000:.0f} ms, {beside / alone:.2f} times; {answers} answers")
+
+
+def published(program, names, runs):
+    whole, count = stream(names, 100, 10, 1)
+    first, blocks, _, _ = names_first(names)
+    parts = [(first, blocks), (whole[len(first) :], count - blocks)]
+    times = [[run(program, parts, readers, False)[0] for readers in (0, 1)] for _ in range(runs)]
+    alone, beside = (min(turn[at] for turn in times) for at in (0, 1))
+    print(f"100 blocks behind {names} names: alone {alone * 1000:.1f} ms, published {beside * 1000:.1f} ms, {(beside - alone) * 10:.3f} ms each")
+    return beside - alone
+
+
+def main():
+    program, runs = sys.argv[1], int((sys.argv[2:3] or ["5"])[0])
+    beside_three(program, runs)
+    few, many = (published(program, names, runs) for names in (1000, 100000))
+    print(f"{many / few:.2f} times")
+
+
+if __name__ == "__main__":
+    main()
