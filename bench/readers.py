@@ -21,10 +21,11 @@ sys.path[:0] = [os.path.join(HERE, "..", "demo"), os.path.join(HERE, "..", "tool
 
 import counters
 from ask import Asked
-from chain import names_first, stream
+from chain import stream
 from compare import made
 
 ADDRESS = counters.address("n0")
+BLOCKS = 100
 
 
 def free_port():
@@ -77,6 +78,14 @@ def run(program, parts, readers, asks):
     return seconds, answers
 
 
+def place_behind(content, count):
+    """Where so many frames end."""
+    at = 0
+    for _ in range(count):
+        at += 4 + int.from_bytes(content[at : at + 4], "big")
+    return at
+
+
 def beside_three(program, runs):
     with made(program, 4, 2500, 10) as file:
         file.seek(0)
@@ -88,12 +97,12 @@ def beside_three(program, runs):
 
 
 def published(program, names, runs):
-    whole, count = stream(names, 100, 10, 1)
-    first, blocks, _, _ = names_first(names)
-    parts = [(first, blocks), (whole[len(first) :], count - blocks)]
+    content, count = stream(names, BLOCKS, 10, 1)
+    end = place_behind(content, count - BLOCKS)
+    parts = [(content[:end], count - BLOCKS), (content[end:], BLOCKS)]
     times = [[run(program, parts, readers, False)[0] for readers in (0, 1)] for _ in range(runs)]
     alone, beside = (min(turn[at] for turn in times) for at in (0, 1))
-    print(f"100 blocks behind {names} names: alone {alone * 1000:.1f} ms, published {beside * 1000:.1f} ms, {(beside - alone) * 10:.3f} ms each")
+    print(f"{BLOCKS} blocks behind {names} names: alone {alone * 1000:.1f} ms, published {beside * 1000:.1f} ms, {(beside - alone) * 1000 / BLOCKS:.3f} ms each")
     return beside - alone
 
 
