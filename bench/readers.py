@@ -3,14 +3,16 @@
 Run by hand, never by the gate, after `rt run` has built the program:
 python3 -B bench/readers.py PROGRAM [RUNS]
 
-First the time of 20,000 transactions in 4 blocks, alone and beside three readers, in turns. Then the time of 100 blocks
-of ten new names each behind 1,000 names and behind 100,000, alone and beside a reader that does not ask: what lies
-between the two is what the switches publish. Times are those from the first byte that is fed to the last line.
+First the time of 20,000 transactions in 4 blocks alone, beside three readers that do not ask, and beside three that ask
+without pause, in turns: the middle of so many runs of each. Then the time of 100 blocks of ten new names each behind
+1,000 names and behind 100,000, alone and beside a reader that does not ask: what lies between the least of the two is
+what the switches publish. Times are those from the first byte that is fed to the last line.
 """
 
 import multiprocessing
 import os
 import socket
+import statistics
 import subprocess
 import sys
 import tempfile
@@ -90,10 +92,15 @@ def beside_three(program, runs):
     with made(program, 4, 2500, 10) as file:
         file.seek(0)
         parts = [(file.read(), 4)]
-    alone = min(run(program, parts, 0, False)[0] for _ in range(runs))
-    told = [run(program, parts, 3, True) for _ in range(runs)]
-    beside, answers = min(told)
-    print(f"alone {alone * 1000:.0f} ms, beside three readers {beside * 1000:.0f} ms, {beside / alone:.2f} times; {answers} answers")
+    ways = {"alone": (0, False), "beside three that do not ask": (3, False), "beside three that ask": (3, True)}
+    times = {name: [] for name in ways}
+    for _ in range(runs):
+        for name, (readers, asks) in ways.items():
+            times[name].append(run(program, parts, readers, asks)[0])
+    alone = statistics.median(times["alone"])
+    for name, some in times.items():
+        middle = statistics.median(some)
+        print(f"{name}: {middle * 1000:.0f} ms, {min(some) * 1000:.0f} to {max(some) * 1000:.0f}, {middle / alone:.2f} times")
 
 
 def published(program, names, runs):
