@@ -1,8 +1,10 @@
-//! Tests of the formats over bytes: frames, messages, CBOR, nodes, addresses, signatures and the checks of batches.
+//! Tests of the formats over bytes: frames, messages, CBOR, digests, nodes, addresses, signatures and the checks of batches.
 #![tactic(auto)]
 
 #[cfg(test)]
 mod cbor;
+#[cfg(test)]
+mod digests;
 #[cfg(test)]
 mod ends;
 #[cfg(test)]

@@ -6,6 +6,7 @@ ghost use Rattle.std.proofs.Common.{rules};
 ghost use Rattle.hex.specs.Hex.{IsBytes, encode_lower};
 ghost use Rattle.saw_node.specs.Hashes.{IsHash, first_half, one_byte, first_half_is, one_byte_is};
 
+use saw_sha::sha512_four;
 use sha2::{Digest, Sha512};
 use std::hash::{Hash, Hasher};
 use std::marker::Model;
@@ -82,6 +83,10 @@ pub trait NodeHasher: Send + Sync {
     fn hash(bytes: &[u8]) -> NodeHash
         ensures { result ≡ hash_of bytes.now };
 
+    /// Hashes four, which takes little longer than one where the processor has vectors of four words.
+    fn hash_four(a: &[u8], b: &[u8], c: &[u8], d: &[u8]) -> [NodeHash; 4]
+        ensures { result ≡ hash_of a.now ∷ hash_of b.now ∷ hash_of c.now ∷ hash_of d.now ∷ [] };
+
     /// A hash has 32 bytes.
     ghost is_hash: { (bytes : List ℕ) → IsHash (hash_of bytes) };
 }
@@ -105,6 +110,11 @@ impl NodeHasher for Sha512Half {
         half_of(&Sha512::digest(bytes))
     }
 
+    fn hash_four(a: &[u8], b: &[u8], c: &[u8], d: &[u8]) -> [NodeHash; 4] {
+        let [a, b, c, d] = sha512_four(a, b, c, d);
+        [half_of(&a), half_of(&b), half_of(&c), half_of(&d)]
+    }
+
     ghost is_hash = { first_half_is };
 }
 
@@ -120,6 +130,10 @@ impl NodeHasher for OneByte {
         let mut all = [0; 32];
         all[0] = digest[0];
         NodeHash::new(all)
+    }
+
+    fn hash_four(a: &[u8], b: &[u8], c: &[u8], d: &[u8]) -> [NodeHash; 4] {
+        [Self::hash(a), Self::hash(b), Self::hash(c), Self::hash(d)]
     }
 
     ghost is_hash = { one_byte_is };

@@ -27,3 +27,6 @@ pub mod Clashing
 pub mod OnPath
 pub mod Between
 pub mod SideBySide
+pub mod MadeRuns
+pub mod SameFronts
+pub mod Jumping

@@ -85,6 +85,12 @@ abbrev pub Begins : ℕ → List Kid → Type 0
 Begins b [] = ⊥
 Begins b (kid ∷ kids) = kid.byte ≡ b
 
+-- both begin with the same kid
+abbrev pub BeginAlike : List Kid → List Kid → Type 0
+BeginAlike [] seconds = ⊥
+BeginAlike (kid ∷ kids) [] = ⊥
+BeginAlike (kid ∷ kids) (other ∷ others) = kid ≡ other
+
 -- the byte is the least of both lists
 pub record IsFirst (b : ℕ) (firsts seconds : List Kid) : Type 0 where
   pub of_first : IsFrom b firsts

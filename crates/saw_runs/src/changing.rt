@@ -7,14 +7,15 @@ ghost use Rattle.saw_node.specs.Nodes.{shape_of};
 ghost use Rattle.saw_runs.specs.Entries.{Entry};
 ghost use Rattle.saw_runs.specs.Entries.Entry.{OfNode};
 ghost use Rattle.saw_runs.specs.Places.{EndsGroup, FitsSome};
-ghost use Rattle.saw_runs.specs.Changes.{AddsPiece, ChangesBelow, ChangesLeaf, Closes, ClosesAll, Finishes, OpensOnlyKid, IsOnly, MakesLeaf, OnTop};
+ghost use Rattle.saw_runs.specs.Changes.{AddsPiece, ChangesBelow, ChangesLeaf, Finishes, OpensOnlyKid, IsOnly, MakesLeaf, OnTop};
 ghost use Rattle.saw_runs.specs.Readings.{read_at};
 
+use crate::hashing::closed;
 use crate::kids::{kids_of, lower_at, put_at};
-use crate::lowers::{Kid, Lower, opened};
-use crate::{NewPiece, Piece, Run, Tables, hash_up};
+use crate::lowers::{Kid, opened};
+use crate::{NewPiece, Piece, Run, Tables};
 use saw_messages::Change;
-use saw_node::{Child, Node, NodeHash, NodeHasher};
+use saw_node::{Node, NodeHash, NodeHasher};
 use saw_store::hash_of_node;
 use saw_wire::Bytes;
 use std::alloc::{AllocError, Global};
@@ -195,49 +196,6 @@ fn gone_on<H>(tables: &Tables<H>, kid: &Kid) -> Option<Run>
         return None;
     }
     Some(Run::new(path, bottom).extended(kid.byte))
-}
-
-// The children that these kids are, with the runs among them that are to be kept.
-fn closed<H: NodeHasher>(
-    kids: &[Kid],
-    alloc: Global,
-    news: &mut Vec<NewPiece>,
-) -> Result<Vec<Child>, AllocError>
-    ensures { IfOk result (λ children. ClosesAll H.hash_of kids.now children.items news.old.items news.new.items) }
-{
-    let mut children = Vec::with_capacity(alloc, kids.len())?;
-    for kid in kids {
-        let hash = close::<H>(&kid.lower, news)?;
-        children.push(Child {
-            byte: kid.byte,
-            hash,
-        })?;
-    }
-    Ok(children)
-}
-
-/// The hash of a part, which is kept under it from now on: a run with bytes is new.
-pub(crate) fn close<H: NodeHasher>(
-    lower: &Lower,
-    news: &mut Vec<NewPiece>,
-) -> Result<NodeHash, AllocError>
-    ensures { IfOk result (λ hash. Closes H.hash_of lower.now hash news.old.items news.new.items) }
-{
-    match lower {
-        Lower::Held(hash) => Ok(*hash),
-        Lower::Made(run) => {
-            let path = run.path.as_slice();
-            if path.is_empty() {
-                return Ok(run.bottom);
-            }
-            let hash = hash_up::<H>(path, &run.bottom);
-            news.push(NewPiece {
-                hash,
-                piece: Piece::Run(Run::new(path, run.bottom)),
-            })?;
-            Ok(hash)
-        }
-    }
 }
 
 fn add_node<H: NodeHasher>(

@@ -1,9 +1,9 @@
 //! The changes that lead from one root's map to another's.
 
-ghost use Rattle.std.specs.Prelude.{◌≡◌, ◌≤◌, ◌-◌, ◌++◌, [], ℕ, List, IfOk, IsTrue, MatchOption, OnOk, length, option_copied, take};
+ghost use Rattle.std.specs.Prelude.{◌≡◌, ◌⊎◌, ◌≤◌, ◌+◌, ◌-◌, ◌++◌, [], ℕ, List, IfOk, IsTrue, MatchOption, OnOk, length, option_copied, take};
 ghost use Rattle.saw_address.specs.Maps.{StateMap};
 ghost use Rattle.saw_runs.specs.Below.{read_by};
-ghost use Rattle.saw_runs.specs.Differing.{AddsDifference, Begins, IsDifference, IsFirst, Takes, changes_at, is_same_value, part_of, set_for};
+ghost use Rattle.saw_runs.specs.Differing.{AddsDifference, BeginAlike, Begins, IsDifference, IsFirst, Takes, changes_at, is_same_value, part_of, set_for};
 ghost use Rattle.saw_runs.specs.Entries.{IsRead};
 ghost use Rattle.saw_runs.specs.Listing.{entry_at};
 ghost use Rattle.saw_runs.specs.Readings.{read_at};
@@ -76,30 +76,85 @@ fn add_difference<H>(
         add_value(alloc, at, old, new, changes)?;
         return Ok(());
     }
+    let shared = shared_path(from_path, from, to_path, to);
+    if !shared.is_empty() && shared.len() <= 35 - depth {
+        let end = depth + shared.len();
+        let at = moved(at, depth, shared);
+        add_difference(alloc, tables, at, end, &[], from, &[], to, changes)?;
+        return Ok(());
+    }
     let from_kids = kids_of(alloc, tables, from_path, from)?;
     let to_kids = kids_of(alloc, tables, to_path, to)?;
     let mut firsts = from_kids.as_slice();
     let mut seconds = to_kids.as_slice();
     while let Some(byte) = first_byte(firsts, seconds) {
-        let one = split(tables, firsts, byte);
-        let two = split(tables, seconds, byte);
-        let mut at = at;
-        at[depth] = byte;
-        add_difference(
-            alloc,
-            tables,
-            at,
-            depth + 1,
-            one.0,
-            &one.1,
-            two.0,
-            &two.1,
-            changes,
-        )?;
-        firsts = one.2;
-        seconds = two.2;
+        if is_same_front(firsts, seconds) {
+            firsts = &firsts[1..];
+            seconds = &seconds[1..];
+        } else {
+            let one = split(tables, firsts, byte);
+            let two = split(tables, seconds, byte);
+            let mut at = at;
+            at[depth] = byte;
+            add_difference(
+                alloc,
+                tables,
+                at,
+                depth + 1,
+                one.0,
+                &one.1,
+                two.0,
+                &two.1,
+                changes,
+            )?;
+            firsts = one.2;
+            seconds = two.2;
+        }
     }
     Ok(())
+}
+
+// Bytes by which both runs lead down, as far as they lead to a node; none where they part.
+fn shared_path<'a>(
+    path: &'a [u8],
+    bottom: &Option<NodeHash>,
+    other_path: &'a [u8],
+    other: &Option<NodeHash>,
+) -> &'a [u8]
+    ensures { (result.now ≡ []) ⊎ ((part_of result.now bottom.now ≡ part_of path.now bottom.now)
+        × (part_of result.now other.now ≡ part_of other_path.now other.now)) }
+{
+    if bottom.is_none() {
+        return other_path;
+    }
+    if other.is_none() || path == other_path {
+        return path;
+    }
+    &[]
+}
+
+// The place that these bytes lead to.
+fn moved(at: [u8; 35], depth: usize, path: &[u8]) -> [u8; 35]
+    requires whole { length at ≡ 35 }
+    requires fits { depth + length path.now ≤ 35 }
+    ensures { take (depth + length path.now) result ≡ take depth at ++ path.now }
+{
+    let mut moved = at;
+    moved[depth..depth + path.len()].copy_from_slice(path);
+    moved
+}
+
+// Whether both begin with one kid, which need not be looked up.
+fn is_same_front(firsts: &[Kid], seconds: &[Kid]) -> bool
+    ensures { IsTrue result → BeginAlike firsts.now seconds.now }
+{
+    if firsts.is_empty() || seconds.is_empty() || firsts[0].byte != seconds[0].byte {
+        return false;
+    }
+    match (&firsts[0].lower, &seconds[0].lower) {
+        (Lower::Held(first), Lower::Held(second)) => *first == *second,
+        _ => false,
+    }
 }
 
 // Whether both runs lead down to one node by the same bytes, or both to none.

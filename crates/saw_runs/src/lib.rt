@@ -4,6 +4,7 @@
 mod changing;
 mod differing;
 mod effective;
+mod hashing;
 mod kids;
 mod listing;
 mod lowers;

@@ -6,8 +6,8 @@ ghost use Rattle.saw_runs.specs.Places.{AreOfAddresses};
 ghost use Rattle.saw_runs.specs.Changes.{ChangesRoot, ClosesRoot};
 ghost use Rattle.saw_runs.specs.Readings.{read_at};
 
-use crate::changing::close;
 use crate::effective::without_idle;
+use crate::hashing::close;
 use crate::lowers::{Lower, opened};
 use crate::sharing::shared_under;
 use crate::{NewPiece, Run, Tables};
