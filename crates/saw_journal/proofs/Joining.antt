@@ -23,6 +23,8 @@ use Rattle.saw_journal.specs.Standing.{IsFounded, IsStanding, has_any, head_at}
 use Rattle.saw_journal.specs.KnownBranches.{HaveIds}
 use Rattle.saw_journal.specs.Linked.{StandsBehind}
 use Rattle.saw_journal.specs.declared.branch_ids.BranchIds.{BranchIds}
+use Rattle.saw_journal.specs.declared.branch_ids.Holders.{Holders}
+use Rattle.saw_journal.proofs.KnownBranches.{have_same}
 use Rattle.saw_journal.proofs.Linking.{all_push, either_false, linked_push}
 use Rattle.saw_journal.proofs.Lookups.{heads}
 
@@ -93,8 +95,8 @@ some_first blocks new opened known false is =
     let before = ap (λ b. b || has_block blocks new.previous) (sym is) ∙ known in
     ap (λ b. b || bytes_eq new.previous no_block) (opened ∙ any_from blocks new.previous before)
 
-module _ (hash : List ℕ → List ℕ) (ids : List (List ℕ)) (blocks : List BlockRecord) (kept : List BranchIds) (head : Option ℕ) (states : States)
-    (limit : ℕ) (stands : IsStanding hash ids blocks kept head states limit)
+module _ (hash : List ℕ → List ℕ) (ids : List (List ℕ)) (blocks : List BlockRecord) (holders : Holders) (kept : List BranchIds) (head : Option ℕ)
+    (states : States) (limit : ℕ) (stands : IsStanding hash ids blocks holders kept head states limit)
     (new : BlockRecord) (m : StateMap) (root : new.root ≡ root_of_map hash m) (behind : StandsBehind blocks new) (room : length blocks < limit) where
   founded_more : (more : List (List ℕ)) → more ≡ map (λ block. block.id) (blocks ++ new ∷ []) → IsFounded hash more (blocks ++ new ∷ []) (knows hash states m)
   founded_more more ids_are = record {
@@ -123,10 +125,10 @@ module _ (hash : List ℕ → List ℕ) (ids : List (List ℕ)) (blocks : List B
       some_length [] = refl
       some_length (block ∷ blocks) = refl
 
-  module _ (more : List (List ℕ)) (ids_are : more ≡ map (λ block. block.id) (blocks ++ new ∷ [])) (after : List BranchIds)
-      (branches : HaveIds (blocks ++ new ∷ []) (blocks ++ new ∷ []) after) where
+  module _ (more : List (List ℕ)) (ids_are : more ≡ map (λ block. block.id) (blocks ++ new ∷ [])) (now : Holders)
+      (after : List BranchIds) (branches : HaveIds (blocks ++ new ∷ []) now after) where
     stands_with : (place : Option ℕ) → head_at (blocks ++ new ∷ []) place ≡ head_of (blocks ++ new ∷ [])
-        → IsStanding hash more (blocks ++ new ∷ []) after place (knows hash states m) limit
+        → IsStanding hash more (blocks ++ new ∷ []) now after place (knows hash states m) limit
     stands_with place chosen = record {
       founded = founded_more more ids_are;
       branches = branches;
@@ -136,7 +138,7 @@ module _ (hash : List ℕ → List ℕ) (ids : List (List ℕ)) (blocks : List B
 
     -- the new block is the head
     pub new_head : (place : ℕ) → place ≡ length blocks → true ≡ is_new_head (head_of blocks) new
-        → IsStanding hash more (blocks ++ new ∷ []) after (Some place) (knows hash states m) limit
+        → IsStanding hash more (blocks ++ new ∷ []) now after (Some place) (knows hash states m) limit
     new_head place is head_is =
         stands_with (Some place)
         (ap (slice_get (blocks ++ new ∷ [])) is ∙ get_last blocks new
@@ -149,31 +151,48 @@ module _ (hash : List ℕ → List ℕ) (ids : List (List ℕ)) (blocks : List B
     still_at (Some i) (Some block) is head_is = get_kept blocks new block i is
 
     -- the head stays
-    pub old_head : false ≡ is_new_head (head_of blocks) new → IsStanding hash more (blocks ++ new ∷ []) after head (knows hash states m) limit
+    pub old_head : false ≡ is_new_head (head_of blocks) new → IsStanding hash more (blocks ++ new ∷ []) now after head (knows hash states m) limit
     old_head head_is =
         stands_with head
         (still_at head (head_of blocks) stands.chosen head_is
         ∙ sym (head_push None blocks new ∙ ap (λ b. if b then Some new else head_of blocks) (sym head_is)))
 
-module _ (hash : List ℕ → List ℕ) (ids : List (List ℕ)) (blocks : List BlockRecord) (kept : List BranchIds) (head : Option ℕ) (states : States)
-    (limit : ℕ) (stands : IsStanding hash ids blocks kept head states limit)
+module _ (hash : List ℕ → List ℕ) (ids : List (List ℕ)) (blocks : List BlockRecord) (holders : Holders) (kept : List BranchIds) (head : Option ℕ)
+    (states : States) (limit : ℕ) (stands : IsStanding hash ids blocks holders kept head states limit)
     (new : BlockRecord) (m : StateMap) (root : new.root ≡ root_of_map hash m) (behind : StandsBehind blocks new) (room : length blocks < limit)
     (more : List (List ℕ)) (all : List BlockRecord) (later : States) (put : all ≡ blocks ++ new ∷ []) (ids_are : more ≡ map (λ block. block.id) all)
-    (known : later ≡ knows hash states m) (after : List BranchIds) (branches : HaveIds all all after) where
+    (known : later ≡ knows hash states m) (now : Holders) (after : List BranchIds) (branches : HaveIds all now after) where
   ids_put : more ≡ map (λ block. block.id) (blocks ++ new ∷ [])
   ids_put = ids_are ∙ ap (map (λ (block : BlockRecord). block.id)) put
 
-  branches_put : HaveIds (blocks ++ new ∷ []) (blocks ++ new ∷ []) after
-  branches_put = subst (λ (all : List BlockRecord). HaveIds all all after) put branches
+  branches_put : HaveIds (blocks ++ new ∷ []) now after
+  branches_put = subst (λ (all : List BlockRecord). HaveIds all now after) put branches
 
   pub head_joins : (place : ℕ) → place ≡ length blocks → true ≡ is_new_head (head_of blocks) new
-      → IsStanding hash more all after (Some place) later limit
+      → IsStanding hash more all now after (Some place) later limit
   head_joins place is head_is =
-      rw (put, known) (new_head hash ids blocks kept head states limit stands new m root behind room more ids_put after branches_put place is head_is)
+      rw (put, known) (new_head hash ids blocks holders kept head states limit stands new m root behind room more ids_put now after branches_put place is
+      head_is)
 
-  pub other_joins : false ≡ is_new_head (head_of blocks) new → IsStanding hash more all after head later limit
+  pub other_joins : false ≡ is_new_head (head_of blocks) new → IsStanding hash more all now after head later limit
   other_joins head_is =
-      rw (put, known) (old_head hash ids blocks kept head states limit stands new m root behind room more ids_put after branches_put head_is)
+      rw (put, known) (old_head hash ids blocks holders kept head states limit stands new m root behind room more ids_put now after branches_put head_is)
+
+-- ---- no block more
+
+-- what stood stands where only the holders' room changed
+pub still_stands : (hash : List ℕ → List ℕ) (ids : List (List ℕ)) (blocks : List BlockRecord) (holders : Holders) (kept : List BranchIds)
+    (head : Option ℕ) (states : States) (limit : ℕ) → IsStanding hash ids blocks holders kept head states limit
+    → (other : List (List ℕ)) (all : List BlockRecord) (now : Holders) (after : List BranchIds) (later : States) → other ≡ ids → all ≡ blocks
+    → now.batches.entries ≡ holders.batches.entries → now.transactions.entries ≡ holders.transactions.entries → after ≡ kept → later ≡ states
+    → IsStanding hash other all now after head later limit
+still_stands hash ids blocks holders kept head states limit stands other all now after later same_ids same_blocks batches transactions same_kept same_states =
+    rw (same_ids, same_blocks, same_kept, same_states) (record {
+      founded = stands.founded;
+      branches = have_same blocks holders now kept batches transactions stands.branches;
+      chosen = stands.chosen;
+      room = stands.room;
+    })
 
 -- ---- the map of blocks
 

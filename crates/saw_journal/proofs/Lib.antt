@@ -15,9 +15,9 @@ pub mod FromBytes
 pub mod Accepting
 pub mod OneByOne
 pub mod Branching
+pub mod FirstHolders
 pub mod KnownBranches
 pub mod Leaving
-pub mod Recorded
 pub mod Passing
 pub mod Numbered
 pub mod Told

@@ -15,15 +15,15 @@ use Rattle.saw_plan.specs.BatchShapes.{txs_of}
 use Rattle.saw_plan.specs.StaticRules.{Ids}
 use Rattle.saw_receipts.specs.declared.verdict.BlockFault.{BlockFault}
 use Rattle.saw_rules.specs.Policies.{Policy}
+use Rattle.saw_schedule.specs.declared.results.Results.{Results}
 use Rattle.saw_station.specs.Serving.{processors_at}
 use Rattle.saw_station.specs.declared.offer.Offer.{Offer}
 use Rattle.saw_journal.proofs.Judging.{or_none}
 use Rattle.saw_journal.specs.BlockFaults.{policy_fault, static_fault}
 use Rattle.saw_journal.specs.LowerFaults.{fault_of_crew}
-use Rattle.saw_journal.specs.Passing.{RanAs, rule_fault}
-use Rattle.saw_journal.specs.Stops.{IsStop}
+use Rattle.saw_journal.specs.Passing.{PassesAs, RanAs, rule_fault}
+use Rattle.saw_journal.specs.Stops.{IsStop, TestsAs}
 use Rattle.saw_journal.specs.declared.fault.JournalFault.TheVariants as faults
-use Rattle.saw_journal.specs.declared.ran.Executed.{Executed}
 use Rattle.saw_journal.specs.declared.stop.Stop.{Stop}
 use Rattle.saw_journal.specs.declared.stop.Stop.TheVariants.{Refused, Failed}
 
@@ -42,6 +42,12 @@ module _ (policy : Policy) (m : StateMap) (signer : List ℕ) (there : Ids) (bat
       → IsStop (rule_fault policy m signer there batches) stop
   policy_is (Refused fault) none is = then_policy (Some fault) none is
   policy_is (Failed fault) none is = is
+
+  -- both tests
+  pub passes_by : (result : Result (Unit {0}) Stop) → static_fault there batches ≡ None → TestsAs (policy_fault policy m signer batches) result
+      → PassesAs policy m signer there batches result
+  passes_by (Ok done) none told = then_policy None none told
+  passes_by (Err stop) none told = policy_is stop none told
 
 module _ (processors : Processors) (peer : Type 0) (policy : Policy) (m : StateMap) (signer : List ℕ) (there : Ids) (batches : List BatchShape) where
   abbrev Ends : Stop → Type 0
@@ -72,9 +78,9 @@ module _ (processors : Processors) (peer : Type 0) (policy : Policy) (m : StateM
   peer_tells (Failed faults.OutOfMemory) is failed = absurd cc
 
   -- where no processor can fail
-  pub without_peer : (result : Result Executed Stop) → RanAs processors ⊥ policy m signer there batches result
+  pub without_peer : (result : Result Results Stop) → RanAs processors ⊥ policy m signer there batches result
       → RanAs processors peer policy m signer there batches result
-  without_peer (Ok ran) is = is
+  without_peer (Ok results) is = is
   without_peer (Err (Refused fault)) is = is
   without_peer (Err (Failed (faults.Collision kept given))) is = is
   without_peer (Err (Failed faults.Full)) is = is
@@ -84,10 +90,10 @@ module _ (processors : Processors) (peer : Type 0) (policy : Policy) (m : StateM
 -- where no transaction is of a family that is offered
 module _ (next : TxShape → List Turn → Action) (tells : Bool) (offers : List Offer) (peer : Type 0) (policy : Policy) (m : StateMap) (signer : List ℕ)
     (there : Ids) (batches : List BatchShape) (none : are_offered offers (txs_of batches) ≡ false) where
-  pub ran_unoffered : (result : Result Executed Stop) → RanAs (processors_at next tells []) peer policy m signer there batches result
+  pub ran_unoffered : (result : Result Results Stop) → RanAs (processors_at next tells []) peer policy m signer there batches result
       → RanAs (processors_at next tells offers) peer policy m signer there batches result
-  ran_unoffered (Ok ran) is =
-      (is.0, record { may = all_come next tells offers m (txs_of batches) ran.results.batches none is.1.may; fit = is.1.fit })
+  ran_unoffered (Ok results) is =
+      (is.0, record { may = all_come next tells offers m (txs_of batches) results.batches none is.1.may; fit = is.1.fit })
   ran_unoffered (Err (Refused fault)) is = is
   ran_unoffered (Err (Failed (faults.Collision kept given))) is = is
   ran_unoffered (Err (Failed faults.Full)) is = is

@@ -27,7 +27,6 @@ use Rattle.saw_journal.specs.LowerFaults.{fault_of_store}
 use Rattle.saw_journal.specs.Parted.{RunsAs, run_fault}
 use Rattle.saw_receipts.specs.declared.block.BatchRecord.{BatchRecord}
 use Rattle.saw_journal.specs.Stops.{IsStop, TestsAs}
-use Rattle.saw_journal.specs.declared.branch_ids.BranchIds.{BranchIds}
 use Rattle.saw_journal.specs.declared.judge.New.{New}
 use Rattle.saw_journal.specs.declared.stop.Stop.{Stop}
 use Rattle.saw_journal.specs.declared.stop.Stop.TheVariants.{Refused, Failed}
@@ -89,7 +88,7 @@ module _ (processors : Processors) (hash : List ℕ → List ℕ) (states : Stat
       other_root (Failed fault) told = subst (λ fault. Answers (Err (Failed fault))) (sym told) tt
 
       -- or there is a record of it
-      pub is_new : (block : BlockRecord) (ids : BranchIds) (prepared : Preparation) → root_fault checked.header root ≡ None
+      pub is_new : (block : BlockRecord) (prepared : Preparation) → root_fault checked.header root ≡ None
           → IsSome (state_at states before) → AreRising changes
           → IsPreparedFor hash states (map_after (map_at states before) changes) prepared
           → block ≡ record {
@@ -101,8 +100,8 @@ module _ (processors : Processors) (hash : List ℕ → List ℕ) (states : Stat
             root = root;
             batches = batch_records checked.batches results;
           }
-          → Answers (Ok (record { block = block; ids = ids; before = before; changes = changes; prepared = prepared }))
-      is_new block ids prepared told known rising ready made = (
+          → Answers (Ok (record { block = block; before = before; changes = changes; prepared = prepared }))
+      is_new block prepared told known rising ready made = (
         results,
         record { may = may; tested = then_root None told },
         record {
@@ -123,7 +122,7 @@ module _ (processors : Processors) (hash : List ℕ → List ℕ) (states : Stat
       )
 
       -- what comes of the test of the root
-      pub by_root : (ids : BranchIds) (batches : List BatchRecord) (prepared : Preparation) → batches ≡ batch_records checked.batches results
+      pub by_root : (batches : List BatchRecord) (prepared : Preparation) → batches ≡ batch_records checked.batches results
           → IsSome (state_at states before) → AreRising changes → IsPreparedFor hash states (map_after (map_at states before) changes) prepared
           → (result : Result New Stop) → TestsAs (root_fault checked.header root) result
           → IfOk result (λ new. new ≡ record {
@@ -136,15 +135,14 @@ module _ (processors : Processors) (hash : List ℕ → List ℕ) (states : Stat
               root = root;
               batches = batches;
             };
-            ids = ids;
             before = before;
             changes = changes;
             prepared = prepared;
           })
           → Answers result
-      by_root ids batches prepared all known rising ready (Err stop) told made = other_root stop told
-      by_root ids batches prepared all known rising ready (Ok new) told made =
-          subst (λ new. Answers (Ok new)) (sym made) (is_new _ ids prepared told known rising ready
+      by_root batches prepared all known rising ready (Err stop) told made = other_root stop told
+      by_root batches prepared all known rising ready (Ok new) told made =
+          subst (λ new. Answers (Ok new)) (sym made) (is_new _ prepared told known rising ready
           (ap (λ (batches : List BatchRecord). record {
             id = checked.id;
             number = checked.header.block_num;

@@ -15,7 +15,6 @@ use Rattle.saw_node.specs.Trees.{root_of_map}
 use Rattle.saw_plan.specs.BatchShapes.{txs_of}
 use Rattle.saw_plan.specs.StaticRules.{Ids}
 use Rattle.saw_plan.specs.declared.plan.Plan.{Plan}
-use Rattle.saw_receipts.specs.Branches.{branch_of, ids_in}
 use Rattle.saw_receipts.specs.declared.block.BlockRecord.{BlockRecord}
 use Rattle.saw_receipts.specs.declared.verdict.BlockFault.{BlockFault}
 use Rattle.saw_receipts.specs.declared.verdict.Verdict.{Verdict}
@@ -30,7 +29,6 @@ use Rattle.saw_journal.specs.Judgement.{Kept, judged, kept_of, rules_by}
 use Rattle.saw_receipts.specs.Running.{Runs}
 use Rattle.saw_journal.specs.Ledger.{Ledger, map_under}
 use Rattle.saw_receipts.specs.Running.{RunsBy}
-use Rattle.saw_journal.specs.KnownBranches.{KnowsIds}
 use Rattle.saw_journal.specs.Linked.{StandsBehind}
 use Rattle.saw_journal.specs.Stops.{IsStop}
 use Rattle.saw_journal.specs.declared.fault.JournalFault.TheVariants as faults
@@ -96,10 +94,6 @@ module _ (processors : Processors) (hash : List ℕ → List ℕ) (accepts : Lis
   JudgedAs (Err (Failed (faults.Collision kept given))) =
       (runs : Runs) × RunsBy processors runs × Clashes (rules_by hash accepts policy runs) states blocks content kept given
   JudgedAs (Err (Failed _)) = Unit {0}
-
--- the ids that a new block brings are those of the branch before it and its own
-abbrev pub BringsIds : List BlockRecord → New → Type 0
-BringsIds blocks new = KnowsIds new.ids (ids_in (branch_of (λ block. block) blocks new.block.previous ++ new.block ∷ []))
 
 -- what a new block has, so that it may join: it stands behind the accepted ones, and has the root of the map that
 -- it leaves and what that needs to become known

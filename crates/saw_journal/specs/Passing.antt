@@ -5,18 +5,14 @@ use Rattle.saw_context.specs.Outcome.{Processors}
 use Rattle.saw_context.specs.Possible.{MayComeOfAll}
 use Rattle.saw_messages.specs.TxShapes.{BatchShape}
 use Rattle.saw_plan.specs.BatchShapes.{txs_of}
-use Rattle.saw_plan.specs.SortingSteps.{both}
 use Rattle.saw_plan.specs.StaticRules.{Ids}
 use Rattle.saw_receipts.specs.declared.verdict.BlockFault.{BlockFault}
 use Rattle.saw_rules.specs.Policies.{Policy}
 use Rattle.saw_schedule.specs.BatchResults.{AreResultsFor}
 use Rattle.saw_schedule.specs.declared.results.Results.{Results}
 use Rattle.saw_journal.specs.BlockFaults.{first_in, rule_tests}
-use Rattle.saw_journal.specs.KnownBranches.{KnowsIds, own_ids}
 use Rattle.saw_journal.specs.Stops.{IsStop}
-use Rattle.saw_journal.specs.declared.branch_ids.BranchIds.{BranchIds}
 use Rattle.saw_journal.specs.declared.fault.JournalFault.TheVariants as faults
-use Rattle.saw_journal.specs.declared.ran.Executed.{Executed}
 use Rattle.saw_journal.specs.declared.stop.Stop.{Stop}
 use Rattle.saw_journal.specs.declared.stop.Stop.TheVariants.{Refused, Failed}
 
@@ -25,9 +21,9 @@ module _ (policy : Policy) (m : StateMap) (signer : List ℕ) (there : Ids) (bat
   abbrev pub rule_fault : Option BlockFault
   rule_fault = first_in (rule_tests policy there m signer batches)
 
-  -- the ids there with those of batches that may stand in it, or the first fault
-  abbrev pub PassesAs : Result BranchIds Stop → Type 0
-  PassesAs (Ok ids) = (rule_fault ≡ None) × KnowsIds ids (both there (own_ids batches))
+  -- they may stand in it, or this is the first fault
+  abbrev pub PassesAs : Result (Unit {0}) Stop → Type 0
+  PassesAs (Ok passed) = rule_fault ≡ None
   PassesAs (Err stop) = IsStop rule_fault stop
 
 -- results that batches may have over a map, one for each
@@ -37,8 +33,8 @@ pub record AreOf (processors : Processors) (m : StateMap) (batches : List BatchS
 
 module _ (processors : Processors) (peer : Type 0) (policy : Policy) (m : StateMap) (signer : List ℕ) (there : Ids) (batches : List BatchShape) where
   -- both, where nothing is against the batches; only memory fails, and a processor, where `peer` tells of it
-  abbrev pub RanAs : Result Executed Stop → Type 0
-  RanAs (Ok ran) = PassesAs policy m signer there batches (Ok ran.ids) × AreOf processors m batches ran.results
+  abbrev pub RanAs : Result Results Stop → Type 0
+  RanAs (Ok results) = (rule_fault policy m signer there batches ≡ None) × AreOf processors m batches results
   RanAs (Err (Refused fault)) = rule_fault policy m signer there batches ≡ Some fault
   RanAs (Err (Failed (faults.Collision kept given))) = ⊥
   RanAs (Err (Failed faults.Full)) = ⊥

@@ -10,6 +10,7 @@ use Rattle.saw_receipts.specs.Heads.{head_of}
 use Rattle.saw_journal.specs.KnownBranches.{HaveIds}
 use Rattle.saw_journal.specs.Linked.{AreLinked}
 use Rattle.saw_journal.specs.declared.branch_ids.BranchIds.{BranchIds}
+use Rattle.saw_journal.specs.declared.branch_ids.Holders.{Holders}
 
 -- whether some block was accepted
 abbrev pub has_any : List BlockRecord → Bool
@@ -32,9 +33,9 @@ pub record IsFounded (hash : List ℕ → List ℕ) (ids : List (List ℕ)) (blo
 
 -- besides, the ids of each block's branch are kept, the head is the one that was chosen, and no more blocks are there than
 -- may be
-pub record IsStanding (hash : List ℕ → List ℕ) (ids : List (List ℕ)) (blocks : List BlockRecord) (kept : List BranchIds) (head : Option ℕ)
+pub record IsStanding (hash : List ℕ → List ℕ) (ids : List (List ℕ)) (blocks : List BlockRecord) (holders : Holders) (kept : List BranchIds) (head : Option ℕ)
     (states : States) (limit : ℕ) : Type 0 where
   pub founded : IsFounded hash ids blocks states
-  pub branches : HaveIds blocks blocks kept
+  pub branches : HaveIds blocks holders kept
   pub chosen : head_at blocks head ≡ head_of blocks
   pub room : length blocks ≤ limit

@@ -13,11 +13,11 @@ ghost use Rattle.saw_journal.specs.Clashing.{ClashesAs, TellsNoNodes};
 ghost use Rattle.saw_receipts.specs.Heads.{as_parent, head_branch, head_of, is_new_head};
 ghost use Rattle.saw_journal.specs.Judgement.{rules_by};
 ghost use Rattle.saw_receipts.specs.Running.{Runs};
-ghost use Rattle.saw_journal.specs.KnownBranches.{HaveIds, KnowsIds};
+ghost use Rattle.saw_journal.specs.KnownBranches.{AddHeld, HaveIds};
 ghost use Rattle.saw_journal.specs.Ledger.{IsFull, Says};
 ghost use Rattle.saw_receipts.specs.Running.{RunsBy};
 ghost use Rattle.saw_journal.specs.Linked.{AreLinked};
-ghost use Rattle.saw_journal.specs.Parted.{BringsIds, JoinsAs, MayJoin};
+ghost use Rattle.saw_journal.specs.Parted.{JoinsAs, MayJoin};
 ghost use Rattle.saw_merkle.specs.Clashes.{AreTold, IsPreparedFor};
 ghost use Rattle.saw_merkle.specs.States.{AreRooted, Stays, knows, map_at, state_at};
 ghost use Rattle.saw_plan.specs.StaticRules.{Knows};
@@ -25,9 +25,10 @@ ghost use Rattle.saw_rules.specs.Policies.{policy_by};
 ghost use Rattle.saw_station.specs.Serving.{processors_at};
 
 use crate::branch::known_behind;
-use crate::branch_ids::BranchIds;
+use crate::branch_ids::{BranchIds, Holders, ids_behind};
 use crate::fault::JournalFault;
 use crate::head::choose;
+use crate::holding::{counts, cut, hold_block};
 use crate::judge::{New, judge};
 use crate::stop::Stop;
 use indexmap::IndexMap;
@@ -47,6 +48,7 @@ use std::thread::Threads;
 pub struct Journal<H: NodeHasher> {
     alloc: Global,
     blocks: BlockMap,
+    holders: Holders,
     ids: Vec<BranchIds>,
     head: Option<usize>,
     state: State<H>,
@@ -59,6 +61,7 @@ impl<H: NodeHasher> Drop for Journal<H> {
         let Journal {
             alloc: _,
             blocks: _blocks,
+            holders: _holders,
             ids: _ids,
             head: _,
             state: _state,
@@ -83,7 +86,7 @@ impl<H: NodeHasher> Model for Journal<H> {
     ghost view = { λ j. record { blocks = values j.blocks; states = j.state; limit = j.limit } };
 
     ghost invariant = { λ j.
-        IsStanding H.hash_of (map string_bytes (keys j.blocks)) (values j.blocks) j.ids.items j.head j.state j.limit };
+        IsStanding H.hash_of (map string_bytes (keys j.blocks)) (values j.blocks) j.holders j.ids.items j.head j.state j.limit };
 }
 
 // The block is put last, under its id; there is room for it.
@@ -106,18 +109,18 @@ fn push_last(ids: &mut Vec<BranchIds>, new: BranchIds)
     let _ = ids.push(new);
 }
 
-// A fault leaves the blocks, the ids of their branches and the states.
-fn put<H: NodeHasher>(
+// The same but for the holders: after a fault they may have more of the new block.
+fn put_behind<H: NodeHasher>(
     alloc: Global,
     blocks: &mut BlockMap,
+    holders: &mut Holders,
     ids: &mut Vec<BranchIds>,
     state: &mut State<H>,
     new: New,
 ) -> Result<(), JournalFault>
     requires fresh { has_block (values blocks.old) new.block.id ≡ false }
     requires ids { map string_bytes (keys blocks.old) ≡ map (λ block. block.id) (values blocks.old) }
-    requires kept { HaveIds (values blocks.old) (values blocks.old) ids.old.items }
-    requires brings { BringsIds (values blocks.old) new }
+    requires kept { HaveIds (values blocks.old) holders.old ids.old.items }
     requires known { IsSome (state_at state.old new.before) }
     requires rising { AreRising new.changes }
     requires prepared { IsPreparedFor H.hash_of state.old
@@ -125,30 +128,71 @@ fn put<H: NodeHasher>(
     ensures joined { OnOk result (values blocks.new ≡ values blocks.old ++ new.block ∷ []) }
     ensures ids { OnOk result (
         map string_bytes (keys blocks.new) ≡ map (λ block. block.id) (values blocks.new)) }
-    ensures kept { OnOk result (HaveIds (values blocks.new) (values blocks.new) ids.new.items) }
+    ensures kept { OnOk result (HaveIds (values blocks.new) holders.new ids.new.items) }
     ensures state { OnOk result (state.new ≡ knows H.hash_of state.old
         (map_after (map_at state.old new.before) new.changes)) }
     ensures stays { OnOk result (Stays state.old state.new) }
     ensures err_blocks { OnErr result ((values blocks.new ≡ values blocks.old)
         × (map string_bytes (keys blocks.new) ≡ map string_bytes (keys blocks.old))) }
+    ensures err_holders { OnErr result (AddHeld new.block.id holders.old holders.new) }
     ensures err_ids { OnErr result (ids.new.items ≡ ids.old.items) }
     ensures err_state { OnErr result (state.new ≡ state.old) }
     ensures fault { IfErr result (λ e. e ≡ JournalFault.OutOfMemory) }
 {
     let New {
         block,
-        ids: own,
         before,
         changes,
         prepared,
     } = new;
+    let mut kept = ids_behind(alloc, blocks, ids.as_slice(), &block.previous)?;
+    hold_block(alloc, holders, &mut kept, &block)?;
     let key = String::from_str(alloc, block.id.as_str())?;
     blocks.reserve(1)?;
     ids.reserve(1)?;
     state.keep(&before, changes.as_slice(), prepared)?;
     put_last(blocks, key, block);
-    push_last(ids, own);
+    push_last(ids, kept);
     Ok(())
+}
+
+// A fault leaves the blocks, the ids of their branches and the states.
+fn put<H: NodeHasher>(
+    alloc: Global,
+    blocks: &mut BlockMap,
+    holders: &mut Holders,
+    ids: &mut Vec<BranchIds>,
+    state: &mut State<H>,
+    new: New,
+) -> Result<(), JournalFault>
+    requires fresh { has_block (values blocks.old) new.block.id ≡ false }
+    requires ids { map string_bytes (keys blocks.old) ≡ map (λ block. block.id) (values blocks.old) }
+    requires kept { HaveIds (values blocks.old) holders.old ids.old.items }
+    requires known { IsSome (state_at state.old new.before) }
+    requires rising { AreRising new.changes }
+    requires prepared { IsPreparedFor H.hash_of state.old
+        (map_after (map_at state.old new.before) new.changes) new.prepared }
+    ensures joined { OnOk result (values blocks.new ≡ values blocks.old ++ new.block ∷ []) }
+    ensures ids { OnOk result (
+        map string_bytes (keys blocks.new) ≡ map (λ block. block.id) (values blocks.new)) }
+    ensures kept { OnOk result (HaveIds (values blocks.new) holders.new ids.new.items) }
+    ensures state { OnOk result (state.new ≡ knows H.hash_of state.old
+        (map_after (map_at state.old new.before) new.changes)) }
+    ensures stays { OnOk result (Stays state.old state.new) }
+    ensures err_blocks { OnErr result ((values blocks.new ≡ values blocks.old)
+        × (map string_bytes (keys blocks.new) ≡ map string_bytes (keys blocks.old))) }
+    ensures err_holders { OnErr result ((holders.new.batches.entries ≡ holders.old.batches.entries)
+        × (holders.new.transactions.entries ≡ holders.old.transactions.entries)) }
+    ensures err_ids { OnErr result (ids.new.items ≡ ids.old.items) }
+    ensures err_state { OnErr result (state.new ≡ state.old) }
+    ensures fault { IfErr result (λ e. e ≡ JournalFault.OutOfMemory) }
+{
+    let before = counts(holders);
+    let done = put_behind(alloc, blocks, holders, ids, state, new);
+    if done.is_err() {
+        cut(holders, before);
+    }
+    done
 }
 
 impl<H: NodeHasher> Journal<H> {
@@ -164,6 +208,7 @@ impl<H: NodeHasher> Journal<H> {
         Ok(Journal {
             alloc,
             blocks: IndexMap::new(alloc),
+            holders: Holders::new(alloc),
             ids: Vec::new(alloc),
             head: None,
             state,
@@ -244,7 +289,6 @@ impl<H: NodeHasher> Journal<H> {
     // Lets a block without fault join.
     fn join(&mut self, new: New) -> Result<Verdict, JournalFault>
         requires may { MayJoin H.hash_of self.old new }
-        requires brings { BringsIds self.old.blocks new }
         ensures ok { IfOk result (λ verdict. JoinsAs H.hash_of self.old new verdict self.new) }
         ensures full { IsErrOf result JournalFault.Full → length self.old.blocks ≡ self.old.limit }
         ensures peer { IsErrOf result JournalFault.PeerFailed → ⊥ }
@@ -260,6 +304,7 @@ impl<H: NodeHasher> Journal<H> {
         put(
             self.alloc,
             &mut self.blocks,
+            &mut self.holders,
             &mut self.ids,
             &mut self.state,
             new,
@@ -303,6 +348,7 @@ impl<H: NodeHasher> Journal<H> {
             rt,
             self.alloc,
             &self.blocks,
+            &self.holders,
             self.ids.as_slice(),
             &self.state,
             bytes,

@@ -1,18 +1,18 @@
 //! The judgement of a block.
 
-ghost use Rattle.std.specs.Prelude.{◌≡◌, ◌<◌, ◌^◌, ℕ, Bool, List, None, map, length, string_bytes, option_copied, option_map, IfOk, IsErrOf};
+ghost use Rattle.std.specs.Prelude.{◌≡◌, ◌<◌, ◌^◌, ℕ, Bool, List, None, map, length, string_bytes, option_copied, option_map, IsErrOf};
 ghost use Rattle.indexmap.specs.IndexMap.{keys, values};
 ghost use Rattle.saw_checks.specs.Readings.{IsBlockOf};
 ghost use Rattle.saw_checks.specs.StructureFaults.{structure_fault};
 ghost use Rattle.saw_crew.specs.Desks.{Failed, HaveSameOffers, KeepsDesks, offers_at};
 ghost use Rattle.saw_journal.specs.KnownBranches.{HaveIds};
-ghost use Rattle.saw_journal.specs.Parted.{BringsIds, JudgedAs};
+ghost use Rattle.saw_journal.specs.Parted.{JudgedAs};
 ghost use Rattle.saw_journal.specs.Standing.{IsFounded};
 ghost use Rattle.saw_plan.specs.BatchShapes.{transactions_in};
 ghost use Rattle.saw_rules.specs.Policies.{policy_by};
 ghost use Rattle.saw_station.specs.Serving.{processors_at};
 
-use crate::branch_ids::{BranchIds, ids_behind};
+use crate::branch_ids::{BranchIds, Holders, view_behind};
 use crate::fault::JournalFault;
 use crate::place::parent_of;
 use crate::ran::run_all;
@@ -32,12 +32,11 @@ use std::alloc::Global;
 use std::sync::Wait;
 use std::thread::Threads;
 
-/// What is kept of a block without fault: its record, the ids of its branch, the changes that lead from the map under the
+/// What is kept of a block without fault: its record, the changes that lead from the map under the
 /// root `before` to the one that it leaves, and what that one needs to become known.
 #[derive(Drop)]
 pub(crate) struct New {
     pub(crate) block: BlockRecord,
-    pub(crate) ids: BranchIds,
     pub(crate) before: NodeHash,
     pub(crate) changes: Items<Change>,
     pub(crate) prepared: Prepared,
@@ -60,6 +59,7 @@ pub(crate) fn judge<
     rt: &T,
     alloc: Global,
     blocks: &BlockMap,
+    holders: &Holders,
     ids: &[BranchIds],
     state: &State<H>,
     bytes: &[u8],
@@ -68,21 +68,20 @@ pub(crate) fn judge<
 ) -> Result<New, Stop>
     requires founded { IsFounded H.hash_of (map string_bytes (keys blocks.now))
         (values blocks.now) state.now }
-    requires kept { HaveIds (values blocks.now) (values blocks.now) ids.now }
+    requires kept { HaveIds (values blocks.now) holders.now ids.now }
     requires small { length bytes.now < 2 ^ 32 }
     requires some { 0 < length desks.old }
     requires alike { HaveSameOffers desks.old }
     ensures judged { let processors = processors_at R.next R.tells (offers_at desks.old) in
         JudgedAs processors H.hash_of (V.accepts verifier.now) (policy_by P.fault P.end_fault)
         (values blocks.now) state.now bytes.now result }
-    ensures ids { IfOk result (BringsIds (values blocks.now)) }
     ensures room { IsErrOf result (Stop.Failed JournalFault.Full) → ⊥ }
     ensures desks { KeepsDesks R.faults R.offered desks.old desks.new }
     ensures cause { IsErrOf result (Stop.Failed JournalFault.PeerFailed)
         → Failed R.faults desks.old desks.new }
 {
     let read = read_block(rt, alloc, bytes, verifier, workers_at(desks))?;
-    judge_read::<P, H, T, R>(rt, alloc, blocks, ids, state, read, desks)
+    judge_read::<P, H, T, R>(rt, alloc, blocks, holders, ids, state, read, desks)
 }
 
 // The same of a block whose structure has no fault.
@@ -90,6 +89,7 @@ fn judge_read<P: BlockPolicy, H: NodeHasher, T: Threads + Wait + Sync, R: Statio
     rt: &T,
     alloc: Global,
     blocks: &BlockMap,
+    holders: &Holders,
     ids: &[BranchIds],
     state: &State<H>,
     read: ReadBlock,
@@ -97,7 +97,7 @@ fn judge_read<P: BlockPolicy, H: NodeHasher, T: Threads + Wait + Sync, R: Statio
 ) -> Result<New, Stop>
     requires founded { IsFounded H.hash_of (map string_bytes (keys blocks.now))
         (values blocks.now) state.now }
-    requires kept { HaveIds (values blocks.now) (values blocks.now) ids.now }
+    requires kept { HaveIds (values blocks.now) holders.now ids.now }
     requires few { length read.checked.batches < 2 ^ 32 }
     requires counted { transactions_in read.checked.batches < 2 ^ 32 }
     requires some { 0 < length desks.old }
@@ -106,7 +106,6 @@ fn judge_read<P: BlockPolicy, H: NodeHasher, T: Threads + Wait + Sync, R: Statio
         (accepts : List ℕ → List ℕ → List ℕ → Bool) (content : List ℕ) → structure_fault accepts content ≡ None
         → IsBlockOf content read.checked → JudgedAs processors H.hash_of accepts (policy_by P.fault P.end_fault)
         (values blocks.now) state.now content result }
-    ensures ids { IfOk result (BringsIds (values blocks.now)) }
     ensures room { IsErrOf result (Stop.Failed JournalFault.Full) → ⊥ }
     ensures desks { KeepsDesks R.faults R.offered desks.old desks.new }
     ensures cause { IsErrOf result (Stop.Failed JournalFault.PeerFailed)
@@ -114,12 +113,26 @@ fn judge_read<P: BlockPolicy, H: NodeHasher, T: Threads + Wait + Sync, R: Statio
 {
     let checked = read.checked;
     let parent = parent_of(blocks, &checked.id, &checked.header)?;
-    let known = ids_behind(alloc, blocks, ids, &checked.header.previous_block_id)?;
+    let known = view_behind(
+        alloc,
+        blocks,
+        holders,
+        ids,
+        &checked.header.previous_block_id,
+    )?;
     let before = root_behind::<H>(alloc, root_of(parent))?;
     let batches = checked.batches.as_slice();
     let signer = &checked.header.signer_public_key;
-    let ran = run_all::<P, H, T, R>(
+    let results = run_all::<P, H, T, R>(
         rt, alloc, state, before, signer, known, batches, read.spent, desks,
     )?;
-    conclude(rt, alloc, state, before, checked, ran, workers_at(desks))
+    conclude(
+        rt,
+        alloc,
+        state,
+        before,
+        checked,
+        results,
+        workers_at(desks),
+    )
 }

@@ -5,6 +5,7 @@ mod branch;
 mod branch_ids;
 mod fault;
 mod head;
+mod holding;
 mod journal;
 mod judge;
 mod laws;

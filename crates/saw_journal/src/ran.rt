@@ -4,7 +4,7 @@ ghost use Rattle.std.specs.Prelude.{◌≡◌, ◌<◌, ◌^◌, [], true, lengt
 ghost use Rattle.std.specs.Thread.{IsSync};
 ghost use Rattle.saw_crew.specs.Desks.{Failed, HaveSameOffers, KeepsDesks, offers_at};
 ghost use Rattle.saw_journal.specs.BlockFaults.{policy_fault};
-ghost use Rattle.saw_journal.specs.KnownBranches.{KnowsIds};
+ghost use Rattle.saw_journal.specs.KnownBranches.{ViewKnows};
 ghost use Rattle.saw_journal.specs.Passing.{AreOf, PassesAs, RanAs};
 ghost use Rattle.saw_journal.specs.Stops.{TestsAs};
 ghost use Rattle.saw_merkle.specs.States.{map_at, state_at};
@@ -13,7 +13,7 @@ ghost use Rattle.saw_plan.specs.StaticRules.{Ids};
 ghost use Rattle.saw_rules.specs.Policies.{policy_by};
 ghost use Rattle.saw_station.specs.Serving.{processors_at};
 
-use crate::branch_ids::BranchIds;
+use crate::branch_ids::BranchView;
 use crate::planned::plan_all;
 use crate::stop::Stop;
 use saw_address::Base;
@@ -31,13 +31,6 @@ use std::sync::{Arc, Wait};
 use std::thread;
 use std::thread::Threads;
 
-/// The results of a block's batches, and the ids of its branch with theirs.
-#[derive(Drop)]
-pub(crate) struct Executed {
-    pub(crate) results: Results,
-    pub(crate) ids: BranchIds,
-}
-
 /// Tests the batches of a block by this signer by the static rules, where the branch before it has these ids, and by a
 /// policy, and runs them over the map under the root `before`. It stops at the first fault of these tests. What the block
 /// was read from is given up.
@@ -47,18 +40,18 @@ pub(crate) fn run_all<P: BlockPolicy, H: NodeHasher, T: Threads + Wait + Sync, R
     state: &State<H>,
     before: NodeHash,
     signer: &Text,
-    known: BranchIds,
+    known: BranchView<'_>,
     batches: &[TxBatch],
     spent: Block,
     desks: &mut [Desk<R>],
-) -> Result<Executed, Stop>
+) -> Result<Results, Stop>
     requires known { IsSome (state_at state.now before) }
-    requires ids { (there : Ids) × KnowsIds known there }
+    requires ids { (there : Ids) × ViewKnows known there }
     requires few { length batches.now < 2 ^ 32 }
     requires counted { transactions_in batches.now < 2 ^ 32 }
     requires some { 0 < length desks.old }
     requires alike { HaveSameOffers desks.old }
-    ensures ran { (there : Ids) → KnowsIds known there → RanAs (processors_at R.next R.tells (offers_at desks.old))
+    ensures ran { (there : Ids) → ViewKnows known.entry there → RanAs (processors_at R.next R.tells (offers_at desks.old))
         (Failed R.faults desks.old desks.new) (policy_by P.fault P.end_fault) (map_at state.now before) signer.now
         there batches.now result }
     ensures desks { KeepsDesks R.faults R.offered desks.old desks.new }
@@ -78,17 +71,17 @@ fn run_over<P: BlockPolicy, B: Base, T: Threads + Wait + Sync, R: Station>(
     alloc: Global,
     base: &B,
     signer: &Text,
-    known: BranchIds,
+    known: BranchView<'_>,
     batches: &[TxBatch],
     spent: Block,
     desks: &mut [Desk<R>],
-) -> Result<Executed, Stop>
-    requires ids { (there : Ids) × KnowsIds known there }
+) -> Result<Results, Stop>
+    requires ids { (there : Ids) × ViewKnows known there }
     requires few { length batches.now < 2 ^ 32 }
     requires counted { transactions_in batches.now < 2 ^ 32 }
     requires some { 0 < length desks.old }
     requires alike { HaveSameOffers desks.old }
-    ensures ran { (there : Ids) → KnowsIds known there → RanAs (processors_at R.next R.tells (offers_at desks.old))
+    ensures ran { (there : Ids) → ViewKnows known.entry there → RanAs (processors_at R.next R.tells (offers_at desks.old))
         (Failed R.faults desks.old desks.new) (policy_by P.fault P.end_fault) (B.entry base.now) signer.now
         there batches.now result }
     ensures desks { KeepsDesks R.faults R.offered desks.old desks.new }
@@ -110,22 +103,22 @@ fn run_shared<P: BlockPolicy, B: Base, T: Threads + Wait + Sync, R: Station>(
     alloc: Global,
     base: &B,
     signer: &Text,
-    known: BranchIds,
+    known: BranchView<'_>,
     batches: &[TxBatch],
     lanes: u32,
     spent: Block,
-) -> Result<Executed, Stop>
+) -> Result<Results, Stop>
     requires few { length batches.now < 2 ^ 32 }
     requires counted { transactions_in batches.now < 2 ^ 32 }
-    ensures { (there : Ids) → KnowsIds known there → RanAs (processors_at R.next R.tells [])
+    ensures { (there : Ids) → ViewKnows known.entry there → RanAs (processors_at R.next R.tells [])
         ⊥ (policy_by P.fault P.end_fault) (B.entry base.now) signer.now there batches.now result }
 {
     let (_, ran) = thread::join(
         rt,
         move || -> () { give_up(spent) },
-        move || -> Result<Executed, Stop>
+        move || -> Result<Results, Stop>
             requires { (length batches.now < 2 ^ 32) × (transactions_in batches.now < 2 ^ 32) }
-            ensures { (there : Ids) → KnowsIds known there → RanAs (processors_at R.next R.tells [])
+            ensures { (there : Ids) → ViewKnows known.entry there → RanAs (processors_at R.next R.tells [])
                 ⊥ (policy_by P.fault P.end_fault) (B.entry base.entry.now) signer.entry.now there batches.entry.now result }
         { run_beside::<P, B, T, R>(rt, alloc, base, signer, known, batches, lanes) },
     );
@@ -138,49 +131,47 @@ fn run_beside<P: BlockPolicy, B: Base, T: Threads + Wait + Sync, R: Station>(
     alloc: Global,
     base: &B,
     signer: &Text,
-    known: BranchIds,
+    known: BranchView<'_>,
     batches: &[TxBatch],
     lanes: u32,
-) -> Result<Executed, Stop>
+) -> Result<Results, Stop>
     requires few { length batches.now < 2 ^ 32 }
     requires counted { transactions_in batches.now < 2 ^ 32 }
-    ensures { (there : Ids) → KnowsIds known there → RanAs (processors_at R.next R.tells [])
+    ensures { (there : Ids) → ViewKnows known.entry there → RanAs (processors_at R.next R.tells [])
         ⊥ (policy_by P.fault P.end_fault) (B.entry base.now) signer.now there batches.now result }
 {
-    let (results, ids) = thread::join(
+    let (results, passed) = thread::join(
         rt,
         || -> Result<Results, AllocError>
             requires { IsSync T.row × IsSync B.row × (transactions_in batches.now < 2 ^ 32) }
             ensures { IfOk result (AreOf (processors_at R.next R.tells []) (B.entry base.entry.now) batches.entry.now) }
         { run_built_in::<B, R, T>(rt, alloc, batches, base, lanes) },
-        move || -> Result<BranchIds, Stop>
+        move || -> Result<(), Stop>
             requires { (length batches.now < 2 ^ 32) × (transactions_in batches.now < 2 ^ 32) }
-            ensures { (there : Ids) → KnowsIds known there → PassesAs (policy_by P.fault P.end_fault)
+            ensures { (there : Ids) → ViewKnows known.entry there → PassesAs (policy_by P.fault P.end_fault)
                 (B.entry base.entry.now) signer.entry.now there batches.entry.now result }
         { passed::<P, B>(alloc, base, signer, known, batches) },
     );
-    let ids = ids?;
-    let results = results?;
-    Ok(Executed { results, ids })
+    passed?;
+    Ok(results?)
 }
 
-// The ids there and those of the batches. It stops at the first fault of the tests before the run.
+// The tests before the run. It stops at the first fault.
 fn passed<P: BlockPolicy, B: Base>(
     alloc: Global,
     base: &B,
     signer: &Text,
-    known: BranchIds,
+    known: BranchView<'_>,
     batches: &[TxBatch],
-) -> Result<BranchIds, Stop>
+) -> Result<(), Stop>
     requires few { length batches.now < 2 ^ 32 }
     requires counted { transactions_in batches.now < 2 ^ 32 }
-    ensures { (there : Ids) → KnowsIds known there → PassesAs (policy_by P.fault P.end_fault)
+    ensures { (there : Ids) → ViewKnows known.entry there → PassesAs (policy_by P.fault P.end_fault)
         (B.entry base.now) signer.now there batches.now result }
 {
     let mut ids = known;
     let _plan = plan_all(alloc, &mut ids, batches)?;
-    test_policy::<P, B>(alloc, base, signer, batches)?;
-    Ok(ids)
+    test_policy::<P, B>(alloc, base, signer, batches)
 }
 
 // Whether the policy finds nothing wrong, over the map before the block.
@@ -204,16 +195,16 @@ fn run_behind<P: BlockPolicy, B: Base, T: Threads + Wait + Sync, R: Station>(
     alloc: Global,
     base: &B,
     signer: &Text,
-    known: BranchIds,
+    known: BranchView<'_>,
     batches: &[TxBatch],
     desks: &mut [Desk<R>],
-) -> Result<Executed, Stop>
-    requires ids { (there : Ids) × KnowsIds known there }
+) -> Result<Results, Stop>
+    requires ids { (there : Ids) × ViewKnows known there }
     requires few { length batches.now < 2 ^ 32 }
     requires counted { transactions_in batches.now < 2 ^ 32 }
     requires some { 0 < length desks.old }
     requires alike { HaveSameOffers desks.old }
-    ensures ran { (there : Ids) → KnowsIds known there → RanAs (processors_at R.next R.tells (offers_at desks.old))
+    ensures ran { (there : Ids) → ViewKnows known.entry there → RanAs (processors_at R.next R.tells (offers_at desks.old))
         (Failed R.faults desks.old desks.new) (policy_by P.fault P.end_fault) (B.entry base.now) signer.now
         there batches.now result }
     ensures desks { KeepsDesks R.faults R.offered desks.old desks.new }
@@ -221,6 +212,5 @@ fn run_behind<P: BlockPolicy, B: Base, T: Threads + Wait + Sync, R: Station>(
     let mut ids = known;
     let plan = Arc::new(alloc, plan_all(alloc, &mut ids, batches)?)?;
     test_policy::<P, B>(alloc, base, signer, batches)?;
-    let results = execute(rt, alloc, plan, base, desks)?;
-    Ok(Executed { results, ids })
+    Ok(execute(rt, alloc, plan, base, desks)?)
 }

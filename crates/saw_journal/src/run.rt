@@ -6,20 +6,16 @@ ghost use Rattle.saw_context.specs.Changed.{AreRising};
 ghost use Rattle.saw_context.specs.Outcome.{Processors, map_after};
 ghost use Rattle.saw_context.specs.Possible.{MayComeOfAll};
 ghost use Rattle.saw_journal.specs.BlockFaults.{root_fault};
-ghost use Rattle.saw_journal.specs.KnownBranches.{own_ids};
 ghost use Rattle.saw_journal.specs.Parted.{RunsAs};
 ghost use Rattle.saw_journal.specs.Stops.{TestsAs};
 ghost use Rattle.saw_journal.specs.BlockShapes.{parts_in};
 ghost use Rattle.saw_merkle.specs.Clashes.{IsClashFor, IsPreparedFor};
 ghost use Rattle.saw_merkle.specs.States.{map_at, state_at};
 ghost use Rattle.saw_plan.specs.BatchShapes.{txs_of};
-ghost use Rattle.saw_receipts.specs.Branches.{batch_ids};
 ghost use Rattle.saw_schedule.specs.BatchResults.{AreResultsFor};
 
-use crate::branch_ids::BranchIds;
 use crate::fault::JournalFault;
 use crate::judge::New;
-use crate::ran::Executed;
 use crate::results::{WORTH, effects_of, test_results};
 use crate::stop::Stop;
 use saw_checks::CheckedBlock;
@@ -52,7 +48,6 @@ fn rooted(
     id: Text,
     header: BlockHeader,
     batches: Items<BatchRecord>,
-    ids: BranchIds,
     before: NodeHash,
     changes: Items<Change>,
     prepared: Prepared,
@@ -67,7 +62,6 @@ fn rooted(
         root = prepared.root;
         batches = batches;
       };
-      ids = ids;
       before = before;
       changes = changes;
       prepared = prepared;
@@ -87,7 +81,6 @@ fn rooted(
     };
     Ok(New {
         block,
-        ids,
         before,
         changes,
         prepared,
@@ -135,21 +128,19 @@ pub(crate) fn conclude<H: NodeHasher, T: Threads + Sync>(
     state: &State<H>,
     before: NodeHash,
     checked: CheckedBlock,
-    ran: Executed,
+    results: Results,
     workers: u32,
 ) -> Result<New, Stop>
     requires known { IsSome (state_at state.now before) }
-    requires fit { AreResultsFor (txs_of checked.batches) ran.results.batches }
+    requires fit { AreResultsFor (txs_of checked.batches) results.batches }
     requires few { length checked.batches < 2 ^ 32 }
     requires workers { 1 ≤ workers }
     ensures ran { (processors : Processors)
-        → MayComeOfAll processors (map_at state.now before) (txs_of checked.batches) ran.results.batches
+        → MayComeOfAll processors (map_at state.now before) (txs_of checked.batches) results.batches
         → RunsAs processors H.hash_of state.now before (parts_in checked) result }
-    ensures ids { IfOk result (λ new. (new.ids ≡ ran.ids) × (batch_ids new.block.batches ≡ own_ids checked.batches)) }
     ensures room { IsErrOf result (Stop.Failed JournalFault.Full) → ⊥ }
     ensures peer { IsErrOf result (Stop.Failed JournalFault.PeerFailed) → ⊥ }
 {
-    let Executed { results, ids } = ran;
     test_results(&results)?;
     let told = effects_of(rt, alloc, checked.batches.as_slice(), &results, workers)?;
     let changes = told.changes;
@@ -164,5 +155,5 @@ pub(crate) fn conclude<H: NodeHasher, T: Threads + Sync>(
         results,
     )?;
     let batches = Items::from_vec(told.records);
-    rooted(alloc, id, header, batches, ids, before, changes, prepared)
+    rooted(alloc, id, header, batches, before, changes, prepared)
 }

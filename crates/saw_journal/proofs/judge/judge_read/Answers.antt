@@ -8,21 +8,17 @@ use Rattle.saw_crew.specs.Desks.{Failed, offers_at}
 use Rattle.saw_messages.specs.TxShapes.{BatchShape}
 use Rattle.saw_merkle.specs.States.{map_at}
 use Rattle.saw_plan.specs.BatchShapes.{txs_of}
-use Rattle.saw_plan.specs.SortingSteps.{both}
-use Rattle.saw_receipts.specs.Branches.{branch_of, ids_in}
 use Rattle.saw_receipts.specs.Heads.{root_behind}
 use Rattle.saw_rules.specs.Policies.{policy_by}
 use Rattle.saw_schedule.specs.BatchResults.{AreResultsFor}
 use Rattle.saw_station.proofs.Finished.{processors_own}
 use Rattle.saw_station.specs.Serving.{processors_at}
 use Rattle.saw_journal.specs.BlockFaults.{ids_before}
-use Rattle.saw_journal.specs.KnownBranches.{KnowsIds, own_ids}
 use Rattle.saw_journal.specs.Passing.{RanAs, rule_fault}
 use Rattle.saw_journal.proofs.Judgements.{by_batches, by_place, by_results}
 use Rattle.saw_journal.proofs.Judging.{at_root}
 use Rattle.saw_journal.proofs.KnownBranches.{known_before}
 use Rattle.saw_journal.proofs.Passing.{never_full, peer_tells}
-use Rattle.saw_journal.proofs.Recorded.{brings}
 use Rattle.saw_journal.proofs.judge.judge_read.Goals as goal
 
 pub returns-in_err-parent-clause-desks : goal.returns-in_err-parent-clause-desks
@@ -76,9 +72,9 @@ pub run_all-requires-clause-counted : goal.run_all-requires-clause-counted
 run_all-requires-clause-counted g c = λ κs alive.
     rw c.as_slice-batches.ensures c.requires.counted
 
-pub returns-in_err-ran-clause-judged : goal.returns-in_err-ran-clause-judged
-returns-in_err-ran-clause-judged g c = λ accepts content fine of.
-    let p = err_from_is_err_and c.from_residual-in_err-ran.result c.from_residual-in_err-ran.ensures.1 in
+pub returns-in_err-results-clause-judged : goal.returns-in_err-results-clause-judged
+returns-in_err-results-clause-judged g c = λ accepts content fine of.
+    let p = err_from_is_err_and c.from_residual-in_err-results.result c.from_residual-in_err-results.ensures.1 in
     let hash = g.H.NodeHasher.hash_of in
     let blocks = values c.args.blocks.now in
     let states = c.args.state.now in
@@ -92,16 +88,16 @@ returns-in_err-ran-clause-judged g c = λ accepts content fine of.
     let processors = processors_at g.R.Station.next g.R.Station.tells (offers_at c.args.desks.now) in
     let m = map_at states c.in_ok-before.before in
     let peer = Failed g.R.Station.faults c.args.desks.now c.run_all.new.desks in
-    let ran = subst (λ (batches : List BatchShape). RanAs processors peer policy m checked.header.signer_public_key there batches (Err c.in_err-ran.field-0.0)) c.as_slice-batches.ensures
-    (c.in_err-ran.ensures.ran there knows) in
+    let ran = subst (λ (batches : List BatchShape). RanAs processors peer policy m checked.header.signer_public_key there batches (Err c.in_err-results.field-0.0)) c.as_slice-batches.ensures
+    (c.in_err-results.ensures.ran there knows) in
     let root = at_root blocks checked.id checked.header (sym placed.0) (option_copied c.in_ok-parent.parent) placed.1 hash
     (map string_bytes (keys c.args.blocks.now)) states c.requires.founded c.in_ok-before.before (c.in_ok-before.ensures ∙ ap (root_behind g.H.NodeHasher.hash_of) c.root_of.ensures) in
     rw (p.1, p.2) (by_batches processors own hash accepts policy blocks states content checked fine of placed.0 c.in_ok-before.before root.0 peer
-    c.in_err-ran.field-0.0 ran)
+    c.in_err-results.field-0.0 ran)
 
-pub returns-in_err-ran-clause-room : goal.returns-in_err-ran-clause-room
-returns-in_err-ran-clause-room g c =
-    let p = err_from_is_err_and c.from_residual-in_err-ran.result c.from_residual-in_err-ran.ensures.1 in
+pub returns-in_err-results-clause-room : goal.returns-in_err-results-clause-room
+returns-in_err-results-clause-room g c =
+    let p = err_from_is_err_and c.from_residual-in_err-results.result c.from_residual-in_err-results.ensures.1 in
     let blocks = values c.args.blocks.now in
     let checked = c.args.read.checked in
     let there = ids_before blocks checked.header in
@@ -109,12 +105,12 @@ returns-in_err-ran-clause-room g c =
     let policy = policy_by g.P.BlockPolicy.fault g.P.BlockPolicy.end_fault in
     let processors = processors_at g.R.Station.next g.R.Station.tells (offers_at c.args.desks.now) in
     let peer = Failed g.R.Station.faults c.args.desks.now c.run_all.new.desks in
-    rw (p.1, p.2) (never_full processors peer policy (map_at c.args.state.now c.in_ok-before.before) checked.header.signer_public_key there c.as_slice-batches.result.now c.in_err-ran.field-0.0
-    (c.in_err-ran.ensures.ran there knows))
+    rw (p.1, p.2) (never_full processors peer policy (map_at c.args.state.now c.in_ok-before.before) checked.header.signer_public_key there c.as_slice-batches.result.now c.in_err-results.field-0.0
+    (c.in_err-results.ensures.ran there knows))
 
-pub returns-in_err-ran-clause-cause : goal.returns-in_err-ran-clause-cause
-returns-in_err-ran-clause-cause g c =
-    let p = err_from_is_err_and c.from_residual-in_err-ran.result c.from_residual-in_err-ran.ensures.1 in
+pub returns-in_err-results-clause-cause : goal.returns-in_err-results-clause-cause
+returns-in_err-results-clause-cause g c =
+    let p = err_from_is_err_and c.from_residual-in_err-results.result c.from_residual-in_err-results.ensures.1 in
     let blocks = values c.args.blocks.now in
     let checked = c.args.read.checked in
     let there = ids_before blocks checked.header in
@@ -122,8 +118,8 @@ returns-in_err-ran-clause-cause g c =
     let policy = policy_by g.P.BlockPolicy.fault g.P.BlockPolicy.end_fault in
     let processors = processors_at g.R.Station.next g.R.Station.tells (offers_at c.args.desks.now) in
     let peer = Failed g.R.Station.faults c.args.desks.now c.run_all.new.desks in
-    rw (p.1, p.2) (peer_tells processors peer policy (map_at c.args.state.now c.in_ok-before.before) checked.header.signer_public_key there c.as_slice-batches.result.now c.in_err-ran.field-0.0
-    (c.in_err-ran.ensures.ran there knows))
+    rw (p.1, p.2) (peer_tells processors peer policy (map_at c.args.state.now c.in_ok-before.before) checked.header.signer_public_key there c.as_slice-batches.result.now c.in_err-results.field-0.0
+    (c.in_err-results.ensures.ran there knows))
 
 pub conclude-requires-clause-known : goal.conclude-requires-clause-known
 conclude-requires-clause-known g c = λ κs alive.
@@ -138,8 +134,8 @@ conclude-requires-clause-fit g c = λ κs alive.
     let checked = c.args.read.checked in
     let there = ids_before blocks checked.header in
     let knows = known_before blocks checked.header c.in_ok-known.known c.requires.founded.linked c.in_ok-known.ensures in
-    subst (λ (batches : List BatchShape). AreResultsFor (txs_of batches) c.in_ok-ran.ran.results.batches) c.as_slice-batches.ensures
-    (c.in_ok-ran.ensures.ran there knows).1.fit
+    subst (λ (batches : List BatchShape). AreResultsFor (txs_of batches) c.in_ok-results.results.batches) c.as_slice-batches.ensures
+    (c.in_ok-results.ensures.ran there knows).1.fit
 
 pub conclude-requires-clause-few : goal.conclude-requires-clause-few
 conclude-requires-clause-few g c = λ κs alive. c.requires.few
@@ -160,25 +156,10 @@ returns-clause-judged g c = λ accepts content fine of.
     let own = processors_own g.R.Station.next laws.own_reasons g.R.Station.tells (offers_at c.args.desks.now) in
     let policy = policy_by g.P.BlockPolicy.fault g.P.BlockPolicy.end_fault in
     let processors = processors_at g.R.Station.next g.R.Station.tells (offers_at c.args.desks.now) in
-    let ran = c.in_ok-ran.ensures.ran there knows in
+    let ran = c.in_ok-results.ensures.ran there knows in
     let m = map_at states c.in_ok-before.before in
-    let all = ap (λ (batches : List BatchShape). rule_fault policy m checked.header.signer_public_key there batches) (sym c.as_slice-batches.ensures) ∙ ran.0.0 in
+    let all = ap (λ (batches : List BatchShape). rule_fault policy m checked.header.signer_public_key there batches) (sym c.as_slice-batches.ensures) ∙ ran.0 in
     let may = subst (λ (batches : List BatchShape). MayComeOfAll processors (map_at states c.in_ok-before.before) (txs_of batches)
-    c.in_ok-ran.ran.results.batches) c.as_slice-batches.ensures ran.1.may in
+    c.in_ok-results.results.batches) c.as_slice-batches.ensures ran.1.may in
     by_results processors own hash accepts policy blocks states content checked fine of placed.0 c.in_ok-before.before root.0 all
     c.conclude.result (c.conclude.ensures.ran processors may)
-
-pub returns-clause-ids : goal.returns-clause-ids
-returns-clause-ids g c =
-    let blocks = values c.args.blocks.now in
-    let checked = c.args.read.checked in
-    let before = ids_in (branch_of (λ block. block) blocks checked.header.previous_block_id) in
-    let policy = policy_by g.P.BlockPolicy.fault g.P.BlockPolicy.end_fault in
-    let processors = processors_at g.R.Station.next g.R.Station.tells (offers_at c.args.desks.now) in
-    let ids = c.in_ok-ran.ran.ids in
-    let ran = c.in_ok-ran.ensures.ran before c.in_ok-known.ensures in
-    let may = subst (λ (batches : List BatchShape). MayComeOfAll processors (map_at c.args.state.now c.in_ok-before.before) (txs_of batches)
-    c.in_ok-ran.ran.results.batches) c.as_slice-batches.ensures ran.1.may in
-    brings processors g.H.NodeHasher.hash_of c.args.state.now c.in_ok-before.before checked blocks ids c.conclude.result
-    (c.conclude.ensures.ran processors may) c.conclude.ensures.ids
-    (subst (λ (batches : List BatchShape). KnowsIds ids (both before (own_ids batches))) c.as_slice-batches.ensures ran.0.1)

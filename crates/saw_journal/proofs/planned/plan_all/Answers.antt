@@ -1,6 +1,5 @@
 use Rattle.std.proofs.Common.{subst}
-use Rattle.saw_journal.proofs.Dropped.{none_from, nothing_dropped}
-use Rattle.saw_journal.proofs.Recorded.{all_added}
+use Rattle.saw_journal.proofs.Dropped.{all_added, none_from, nothing_dropped}
 use Rattle.saw_journal.proofs.planned.plan_all.Goals as goal
 
 pub returns-in-None-clause-plans : goal.returns-in-None-clause-plans

@@ -50,17 +50,14 @@ execute-requires-clause-counted g c = λ κs alive.
 pub returns-clause-ran : goal.returns-clause-ran
 returns-clause-ran g c = λ there knows.
     let processors = processors_at g.R.Station.next g.R.Station.tells (offers_at c.args.desks.now) in
-    let results = c.in_ok-results.results.batches in
+    let results = c.in_ok-execute.field-0.batches in
     let plans = c.in_ok-plan_all.ensures.plans there knows in
     let own = ap (λ (plan : Plan). plan.batches) c.in_ok-plan.ensures.ok ∙ plans.1 in (
-      (
-        then_policy (policy_by g.P.BlockPolicy.fault g.P.BlockPolicy.end_fault) (g.B.Base.entry c.args.base.now) c.args.signer.now there
-            c.args.batches.now None plans.0 c.in_ok-test_policy.ensures,
-        c.in_ok-plan_all.ensures.grown there knows,
-      ),
+      then_policy (policy_by g.P.BlockPolicy.fault g.P.BlockPolicy.end_fault) (g.B.Base.entry c.args.base.now) c.args.signer.now there
+          c.args.batches.now None plans.0 c.in_ok-test_policy.ensures,
       record {
         may = subst (λ (batches : List BatchShape). MayComeOfAll processors (g.B.Base.entry c.args.base.now) (txs_of batches) results) own
-            c.in_ok-results.ensures.results;
-        fit = subst (λ (batches : List BatchShape). AreResultsFor (txs_of batches) results) own c.in_ok-results.ensures.whole;
+            c.in_ok-execute.ensures.results;
+        fit = subst (λ (batches : List BatchShape). AreResultsFor (txs_of batches) results) own c.in_ok-execute.ensures.whole;
       },
     )

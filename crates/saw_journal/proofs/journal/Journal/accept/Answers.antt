@@ -1,12 +1,12 @@
 use Rattle.std.proofs.Common.{refl, subst}
 use Rattle.std.proofs.lemmas.Result.{IfErr-weaker, IfOk-weaker}
-use Rattle.std.specs.Prelude.{Err, IfOk, Result}
+use Rattle.std.specs.Prelude.{Err, Result}
 use Rattle.saw_crew.specs.Desks.{offers_at}
 use Rattle.saw_rules.specs.Policies.{policy_by}
 use Rattle.saw_station.specs.Serving.{processors_at}
 use Rattle.saw_journal.specs.Judgement.{rules_by}
 use Rattle.saw_journal.specs.Ledger.{Ledger}
-use Rattle.saw_journal.specs.Parted.{BringsIds, JudgedAs}
+use Rattle.saw_journal.specs.Parted.{JudgedAs}
 use Rattle.saw_journal.specs.declared.judge.New.{New}
 use Rattle.saw_journal.specs.declared.stop.Stop.{Stop}
 use Rattle.saw_journal.proofs.Accepting.{clashes_judged, may_join, no_clash, says_full, says_good}
@@ -24,11 +24,6 @@ join-requires-clause-may g c = λ κs alive.
     let judged = subst (λ (result : Result New Stop). JudgedAs processors hash accepts policy old.blocks old.states content result) c.in-Ok.is seen in
     let rules = rules_by hash accepts policy judged.1.runs in
     may_join rules old content judged.0 judged.1.judged_as c.in-Ok.new judged.2
-
-pub join-requires-clause-brings : goal.join-requires-clause-brings
-join-requires-clause-brings g c = λ κs alive.
-    let seen = subst (λ (j : Ledger). IfOk c.judge.result (BringsIds j.blocks)) c.self.view_is c.judge.ensures.ids in
-    subst (λ (result : Result New Stop). IfOk result (BringsIds c.args.self.now.blocks)) c.in-Ok.is seen
 
 pub returns-in-Ok-clause-says : goal.returns-in-Ok-clause-says
 returns-in-Ok-clause-says g c =
