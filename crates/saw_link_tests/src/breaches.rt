@@ -1,15 +1,12 @@
 //! Peers that send what is not legal, and long frames.
 
 use crate::peers::{
-    REGISTERS, REGISTERS_VERSION_2, accepts, begun, fails, has_breach, sent_length, station,
+    ACCEPTS, REGISTERS, REGISTERS_VERSION_2, accepts, begun, fails, has_breach, sent_length,
 };
-use saw_station::{Station, StationFault};
 use std::test::Fail;
 
 // The answer to a registration, which no peer may send.
 const WELCOME: &[u8] = b"\x08\x02\x12\x011\x1a\x02\x08\x01";
-
-const ACCEPTS: &[u8] = b"\x08\x06\x12\x011\x1a\x02\x08\x01";
 
 #[test]
 fn a_message_of_another_type_is_a_breach(rt: HostRuntime) -> Result<(), Fail> {
@@ -19,24 +16,6 @@ fn a_message_of_another_type_is_a_breach(rt: HostRuntime) -> Result<(), Fail> {
     assert!(rt; has_breach(&station, WELCOME));
     assert!(rt; fails(alloc, &mut station, 1)?);
     assert!(rt; has_breach(&station, WELCOME));
-    Ok(())
-}
-
-#[test]
-fn frames_that_stop_coming_are_no_breach(rt: HostRuntime) -> Result<(), Fail> {
-    let alloc = rt.alloc();
-    let mut station = begun(alloc, &[REGISTERS])?;
-    assert!(rt; fails(alloc, &mut station, 1)?);
-    assert!(rt; station.breach().is_none());
-    Ok(())
-}
-
-#[test]
-fn a_missing_registration_is_no_breach(rt: HostRuntime) -> Result<(), Fail> {
-    let alloc = rt.alloc();
-    let mut station = station(alloc, &[])?;
-    assert!(rt; matches!(station.begin(alloc), Err(StationFault::PeerFailed)));
-    assert!(rt; station.breach().is_none());
     Ok(())
 }
 

@@ -2,18 +2,14 @@
 
 ghost use Rattle.std.specs.Prelude.{◌≡◌, true};
 
-use crate::peers::{REGISTERS, REGISTERS_VERSION_2, begun, first, has_sent, refused, tx};
+use crate::peers::{
+    ACCEPTS, READS, REFUSES_SECOND, REGISTERS, REGISTERS_VERSION_2, begun, first, has_sent,
+    refused, tx,
+};
 use saw_link::{MemoryPeer, RemoteStation};
 use saw_messages::{Action, Reason};
 use std::alloc::Global;
 use std::test::Fail;
-
-// A request to read, of the first transaction.
-const READS: &[u8] = b"\x08\x07\x12\x01a\x1a\x06\x0a\x011\x12\x01x";
-
-const ACCEPTS: &[u8] = b"\x08\x06\x12\x011\x1a\x02\x08\x01";
-
-const REFUSES_SECOND: &[u8] = b"\x08\x06\x12\x012\x1a\x02\x08\x02";
 
 // Whether the second step is Ok, after a first that reads and is refused.
 fn is_accepted(alloc: Global, station: &mut RemoteStation<MemoryPeer>) -> Result<bool, Fail>

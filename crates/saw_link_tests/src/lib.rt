@@ -8,6 +8,8 @@ mod conversations;
 #[cfg(test)]
 mod laws;
 #[cfg(test)]
+mod missing;
+#[cfg(test)]
 mod peers;
 #[cfg(test)]
 mod processors;

@@ -17,6 +17,15 @@ pub(crate) const REGISTERS: &[u8] = b"\x08\x01\x12\x01r\x1a\x08\x0a\x01f\x12\x03
 pub(crate) const REGISTERS_VERSION_2: &[u8] =
     b"\x08\x01\x12\x01r\x1a\x0a\x0a\x01f\x12\x031.0\x30\x02";
 
+/// A request to read, of the first transaction.
+pub(crate) const READS: &[u8] = b"\x08\x07\x12\x01a\x1a\x06\x0a\x011\x12\x01x";
+
+/// The first transaction is good.
+pub(crate) const ACCEPTS: &[u8] = b"\x08\x06\x12\x011\x1a\x02\x08\x01";
+
+/// The second transaction is not.
+pub(crate) const REFUSES_SECOND: &[u8] = b"\x08\x06\x12\x012\x1a\x02\x08\x02";
+
 /// A station that has not begun, whose peer sends these frames.
 pub(crate) fn station(
     alloc: Global,

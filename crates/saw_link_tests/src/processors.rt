@@ -19,6 +19,9 @@ const WELCOME: &[u8] = b"\x08\x02\x12\x011\x1a\x02\x08\x01";
 const PROCESS: &[u8] =
     b"\x08\x05\x12\x011\x1a0\x0a\x0d\x1a\x06intkey\x22\x031.0\x12\x18\xa3dNameaadVerbcseteValue\x01\x1a\x02id\x22\x011";
 
+// A transaction of fifty bytes, of which two came.
+const STATES_MORE: &[u8] = b"\x08\x05\x12\x011\x1a2\x0a\x0d";
+
 const GET: &[u8] =
     b"\x08\x07\x12\x011\x1aK\x0a\x011\x12F1cf12602860c652bf08d560252aa5e74210546f369fbbbce8c12cfc7957b2652fe9a75";
 
@@ -102,14 +105,27 @@ fn a_refused_request_refuses_the_transaction(rt: HostRuntime) -> Result<(), Fail
     Ok(())
 }
 
+// Whether a processor that is served over this link ends by this frame.
+fn ends_by<R: Wait>(rt: &R, alloc: Global, link: &mut MemoryPeer, frame: &[u8]) -> bool {
+    match served(rt, alloc, link) {
+        Err(TpFault::Breach { frame: shown }) => shown.as_slice() == frame,
+        _ => false,
+    }
+}
+
 #[test]
 fn an_answer_to_another_address_is_a_breach(rt: HostRuntime) -> Result<(), Fail> {
     let alloc = rt.alloc();
     let mut link = peer(alloc, &[WELCOME, PROCESS, OTHER_ENTRY, IS_SET])?;
-    match served(&rt, alloc, &mut link) {
-        Err(TpFault::Breach { frame }) => assert!(rt; frame.as_slice() == OTHER_ENTRY),
-        _ => assert!(rt; false),
-    }
+    assert!(rt; ends_by(&rt, alloc, &mut link, OTHER_ENTRY));
+    Ok(())
+}
+
+#[test]
+fn a_transaction_that_states_more_than_it_has_is_a_breach(rt: HostRuntime) -> Result<(), Fail> {
+    let alloc = rt.alloc();
+    let mut link = peer(alloc, &[WELCOME, STATES_MORE, IS_SET])?;
+    assert!(rt; ends_by(&rt, alloc, &mut link, STATES_MORE));
     Ok(())
 }
 

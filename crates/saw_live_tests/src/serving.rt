@@ -78,6 +78,8 @@ fn what_is_no_question(rt: HostRuntime) -> Result<(), Fail> {
     assert!(rt; ended == Ok(1) && written == framed(alloc, b"refused")?);
     let (ended, written) = served(&rt, alloc, &live, &mut second, &[0, 0, 0])?;
     assert!(rt; ended == Err(ReaderFault::Cut) && written.is_empty());
+    let (ended, written) = served(&rt, alloc, &live, &mut second, &[0, 0, 0, 5, 0x41])?;
+    assert!(rt; ended == Err(ReaderFault::Cut) && written.is_empty());
     let (ended, written) = served(&rt, alloc, &live, &mut second, &[0, 0, 0, 71])?;
     assert!(rt; ended == Err(ReaderFault::TooLong { length: 71 }) && written.is_empty());
     Ok(())
