@@ -8,7 +8,7 @@ ghost use Rattle.saw_generate.specs.Streams.{content_at};
 use crate::batches::{Batches, batches_at};
 use crate::block::{Written, block_of};
 use crate::draws::Draws;
-use crate::running::run;
+use crate::running::run_block;
 use crate::wish::GenerateWish;
 use saw_messages::PlainBase;
 use saw_node::root_of;
@@ -63,7 +63,7 @@ impl Chain {
             reads,
             ids,
         } = batches_at(alloc, signer, wish, b, &mut self.draws)?;
-        run(rt, alloc, reads, &mut self.base)?;
+        run_block(rt, alloc, reads, &mut self.base)?;
         let root = root_of(alloc, &self.base.map)?;
         let Written { id, content } = block_of(
             alloc,

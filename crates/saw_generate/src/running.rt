@@ -36,7 +36,7 @@ fn results_of<T: Threads + Wait + Sync>(
 }
 
 /// Runs batches one after another, and keeps what they leave. After an error the map may have a part of it.
-pub(crate) fn run<T: Threads + Wait + Sync>(
+pub(crate) fn run_block<T: Threads + Wait + Sync>(
     rt: &T,
     alloc: Global,
     batches: Items<TxBatch>,

@@ -23,11 +23,11 @@ pub fn check<H: NodeHasher>(
     if proof.is_empty() {
         return Err(ProofFault::Empty);
     }
-    judge::<H>(alloc, at, 0, root, proof)
+    judge_from::<H>(alloc, at, 0, root, proof)
 }
 
 // What the rest of a proof shows from a depth on.
-fn judge<H: NodeHasher>(
+fn judge_from<H: NodeHasher>(
     alloc: Global,
     at: &Address,
     depth: usize,
@@ -55,7 +55,7 @@ fn judge<H: NodeHasher>(
             if rest.is_empty() {
                 return Err(ProofFault::Short);
             }
-            judge::<H>(alloc, at, depth + 1, &next, rest)
+            judge_from::<H>(alloc, at, depth + 1, &next, rest)
         }
     }
 }

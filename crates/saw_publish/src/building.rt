@@ -21,7 +21,7 @@ use crate::candidate::Candidate;
 use crate::fates::{Fate, losses, merged};
 use crate::fault::PublishFault;
 use crate::judge::{Passed, judge, staying};
-use crate::run::{Ran, run};
+use crate::run::{Ran, run_passed};
 use crate::sift::{Sifted, sift};
 use saw_crew::workers_at;
 use saw_merkle::State;
@@ -215,7 +215,7 @@ pub fn build<
     let sifted = sift(rt, alloc, batches, verifier, workers)?;
     let before = root_behind::<H>(alloc, root_of(parent))?;
     let passed = pass::<P, H>(alloc, state, &before, signer.key(), sifted)?;
-    let ran = run(
+    let ran = run_passed(
         rt,
         alloc,
         known,

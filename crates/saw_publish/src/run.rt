@@ -89,7 +89,7 @@ fn run_fates(alloc: Global, results: &[BatchResult]) -> Result<Items<Fate>, Allo
 }
 
 /// Runs batches over the map under the root `before`, but for those that the static rules drop.
-pub(crate) fn run<H: NodeHasher, T: Threads + Wait + Sync, R: Station>(
+pub(crate) fn run_passed<H: NodeHasher, T: Threads + Wait + Sync, R: Station>(
     rt: &T,
     alloc: Global,
     known: &Known,

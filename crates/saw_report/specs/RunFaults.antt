@@ -48,22 +48,22 @@ fault_of_message messages.OutOfMemory = runs.Memory
 -- ---- what is told of a fault
 
 -- the status of a fault
-abbrev pub status_of : RunFault → ℕ
-status_of runs.Words = 2
-status_of (runs.Truncated have want) = 3
-status_of (runs.TooLong length) = 3
-status_of runs.Frames = 3
-status_of runs.Blocks = 10
-status_of runs.Read = 4
-status_of runs.Write = 5
-status_of runs.Peer = 6
-status_of (runs.Collision kept given) = 9
-status_of runs.Memory = 7
-status_of runs.FileMissing = 11
-status_of runs.FileTooLong = 11
-status_of runs.FileFailed = 11
-status_of (runs.BadLine line) = 11
-status_of runs.BadList = 11
+abbrev pub fault_status : RunFault → ℕ
+fault_status runs.Words = 2
+fault_status (runs.Truncated have want) = 3
+fault_status (runs.TooLong length) = 3
+fault_status runs.Frames = 3
+fault_status runs.Blocks = 10
+fault_status runs.Read = 4
+fault_status runs.Write = 5
+fault_status runs.Peer = 6
+fault_status (runs.Collision kept given) = 9
+fault_status runs.Memory = 7
+fault_status runs.FileMissing = 11
+fault_status runs.FileTooLong = 11
+fault_status runs.FileFailed = 11
+fault_status (runs.BadLine line) = 11
+fault_status runs.BadList = 11
 
 -- a node as it is told: the lower-case digits of its encoding
 abbrev pub node_digits : Node → List ℕ
@@ -89,7 +89,7 @@ fault_words runs.BadList = codes " badlist"
 
 -- what tells why a run ended: its status and the fault
 abbrev pub fault_line : RunFault → List ℕ
-fault_line fault = codes "fault" ++ spaced (status_of fault) ++ fault_words fault ++ 10 ∷ []
+fault_line fault = codes "fault" ++ spaced (fault_status fault) ++ fault_words fault ++ 10 ∷ []
 
 -- whether a fault's line may be long: it tells nodes
 abbrev pub is_long : RunFault → Bool

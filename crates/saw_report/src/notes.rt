@@ -3,7 +3,7 @@
 ghost use Rattle.std.specs.Prelude.{◌≡◌, ◌≤◌, ◌+◌, ◌++◌, true, false, length, IfOk, MatchOption, OnOk, OnSome};
 ghost use Rattle.arrayvec.specs.ArrayVec.{array_vec_len};
 ghost use Rattle.saw_report.specs.Lines.{spaced};
-ghost use Rattle.saw_report.specs.RunFaults.{fault_line, fault_words, is_long, node_digits, status_of};
+ghost use Rattle.saw_report.specs.RunFaults.{fault_line, fault_words, is_long, node_digits, fault_status};
 
 use crate::run_fault::RunFault;
 use crate::word::put_counted;
@@ -75,7 +75,7 @@ fn put_words(line: &mut ShortLine, fault: &RunFault)
 impl RunFault {
     /// The status with which it ends a run.
     pub fn status(&self) -> u8
-        ensures status { result ≡ status_of self.now }
+        ensures status { result ≡ fault_status self.now }
         ensures small { result ≤ 11 }
     {
         match *self {

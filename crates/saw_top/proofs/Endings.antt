@@ -6,7 +6,7 @@ use Rattle.std.proofs.KnownBytes.{Appends-nil, Appends-trans}
 use Rattle.saw_faults.specs.Counts.{Rose}
 use Rattle.saw_context.specs.Outcome.{Processors}
 use Rattle.saw_io.specs.Shelf.{Files}
-use Rattle.saw_report.specs.RunFaults.{is_long, status_of}
+use Rattle.saw_report.specs.RunFaults.{is_long, fault_status}
 use Rattle.saw_report.specs.declared.run_fault.RunFault.{RunFault}
 use Rattle.saw_report.specs.declared.run_fault.RunFault.TheVariants.{Truncated, TooLong, Read, Write, Peer, Collision, Memory, FileMissing, FileTooLong, FileFailed, BadLine, BadList}
 use Rattle.saw_generate.specs.Streams.{stream}
@@ -55,7 +55,7 @@ module _ (answer : Answer) (bytes : List ℕ) (before after : Outside) (notes : 
 
   told : (fault : RunFault) → is_told fault ≡ true → is_long fault ≡ false → HasFault answer bytes after.input.tells (sides_of before middle) fault
       → TellsFault fault notes after.notes status → before.notes.faults ≤ notes.faults → Answered
-  told fault own short shown (inl all) later = inr (inr (inr (gives (Some fault) (status_of fault) shown.0 shown.1 all.0 all.1)))
+  told fault own short shown (inl all) later = inr (inr (inr (gives (Some fault) (fault_status fault) shown.0 shown.1 all.0 all.1)))
   told fault own short shown (inr (n, less, cut, inl failed)) later = failed_so (inr (inr (inl (omega (arith, later, failed.1)))))
   told fault own short shown (inr (n, less, cut, inr code)) later = inl (rw (short, own) at code)
 

@@ -8,7 +8,7 @@ use Rattle.saw_io.specs.Frame.{IsPart}
 use Rattle.saw_io.specs.Shelf.{Files}
 use Rattle.saw_node.specs.Hashes.{first_half}
 use Rattle.saw_node.specs.Contents.{Node}
-use Rattle.saw_report.specs.RunFaults.{fault_line, is_long, status_of}
+use Rattle.saw_report.specs.RunFaults.{fault_line, is_long, fault_status}
 use Rattle.saw_report.specs.declared.run_fault.RunFault.{RunFault}
 use Rattle.saw_report.specs.declared.run_fault.RunFault.TheVariants.{Words, Truncated, TooLong, Read, Write, Peer, Collision, Memory, FileMissing, FileTooLong, FileFailed, BadLine, BadList}
 use Rattle.saw_publish.specs.Candidates.{Signing}
@@ -102,7 +102,7 @@ module _ (answer : Answer) (bytes : List ℕ) (left : Option (List ℕ)) (writte
 
   -- all of it, and its one fault
   abbrev pub HasFault : RunFault → Type 0
-  HasFault fault = IsWhole (status_of fault) × (answer.fault ≡ Some fault)
+  HasFault fault = IsWhole (fault_status fault) × (answer.fault ≡ Some fault)
 
   -- what more is so, by how it ended: all of it and its fault, but where the outside failed, memory was refused or two
   -- different nodes of one hash were met
@@ -269,12 +269,12 @@ asks_external (Some (Check claim)) = false
 
 -- the status where the notes find no memory for the line of a fault
 abbrev pub untold_status : RunFault → ℕ
-untold_status fault = if is_told fault then 7 else status_of fault
+untold_status fault = if is_told fault then 7 else fault_status fault
 
 -- The same by how much of the line was told. One of two nodes is made in memory: where there is none nothing of it is
 -- told, and behind a byte of it the status stays.
 abbrev pub UntoldBy : Bool → RunFault → ℕ → ℕ → Type 0
-UntoldBy true fault count status = (status ≡ status_of fault) ⊎ ((status ≡ 7) × (count ≡ 0))
+UntoldBy true fault count status = (status ≡ fault_status fault) ⊎ ((status ≡ 7) × (count ≡ 0))
 UntoldBy false fault count status = status ≡ untold_status fault
 
 abbrev pub IsUntold : RunFault → ℕ → ℕ → Type 0
@@ -283,9 +283,9 @@ IsUntold fault count status = UntoldBy (is_long fault) fault count status
 -- all of the fault's line was told, or less than it, since writing failed or memory was refused
 abbrev pub TellsFault : RunFault → End (List ℕ) → End (List ℕ) → ℕ → Type 0
 TellsFault fault before after status =
-    ((status ≡ status_of fault) × Appends before.tells after.tells (fault_line fault))
+    ((status ≡ fault_status fault) × Appends before.tells after.tells (fault_line fault))
     ⊎ ((n : ℕ) × (n < length (fault_line fault)) × Appends before.tells after.tells (take n (fault_line fault))
-    × (((status ≡ status_of fault) × Rose before.faults after.faults) ⊎ IsUntold fault n status))
+    × (((status ≡ fault_status fault) × Rose before.faults after.faults) ⊎ IsUntold fault n status))
 
 -- what was told behind the lines of blocks
 abbrev pub TellsEnd : Result ℕ RunFault → End (List ℕ) → End (List ℕ) → ℕ → Type 0

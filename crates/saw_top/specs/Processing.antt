@@ -14,17 +14,17 @@ use Rattle.saw_top.specs.declared.opening.Wish.TheVariants.{Plain, Listen, Live,
 abbrev pub family_offers : List Offer
 family_offers = map offer_of families
 
-abbrev pub status_of : Result ℕ TpFault → ℕ
-status_of (Ok number) = 0
-status_of (Err Failed) = 6
-status_of (Err (Breach frame)) = 6
-status_of (Err OutOfMemory) = 7
+abbrev pub served_status : Result ℕ TpFault → ℕ
+served_status (Ok number) = 0
+served_status (Err Failed) = 6
+served_status (Err (Breach frame)) = 6
+served_status (Err OutOfMemory) = 7
 
 -- it has served the link, and the status says how that ended
 pub record HasRun (status : ℕ) (told later : Option (List Passed)) (before after : ℕ) : Type 0 where
   pub result : Result ℕ TpFault
   pub served : HasServed (starting family_offers 2) result told later before after
-  pub is : status ≡ status_of result
+  pub is : status ≡ served_status result
 
 -- the words of a processor open a connection, and it is served; all others are refused, and the link is left as it was
 abbrev pub HasProcessed : Wish → ℕ → Option (List Passed) → Option (List Passed) → ℕ → ℕ → Type 0

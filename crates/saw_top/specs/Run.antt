@@ -4,7 +4,7 @@ use Rattle.saw_address.specs.Maps.{StateMap}
 use Rattle.saw_receipts.specs.Heads.{head_of}
 use Rattle.saw_journal.specs.Judgement.{Rules}
 use Rattle.saw_report.specs.Lines.{head_line}
-use Rattle.saw_report.specs.RunFaults.{fault_line, status_of}
+use Rattle.saw_report.specs.RunFaults.{fault_line, fault_status}
 use Rattle.saw_report.specs.declared.run_fault.RunFault.{RunFault}
 use Rattle.saw_report.specs.declared.run_fault.RunFault.TheVariants.{Blocks}
 use Rattle.saw_top.specs.History.{History, history, map_behind, maps_of, records_of, some_refused, tried}
@@ -40,7 +40,7 @@ faulty fault = record {
   output = [];
   noted = [];
   fault = Some fault;
-  status = status_of fault;
+  status = fault_status fault;
   tried = [];
   made = None;
   judged = 0;
@@ -101,7 +101,7 @@ abbrev pub status_by : Bool → ℕ
 status_by refused = if refused then 1 else 0
 
 abbrev pub nothing_more : RunFault → AtEnd
-nothing_more fault = record { output = []; noted = []; status = status_of fault; made = None }
+nothing_more fault = record { output = []; noted = []; status = fault_status fault; made = None }
 
 -- the map behind the head
 abbrev pub head_map : History → StateMap

@@ -13,7 +13,7 @@ ghost use Rattle.saw_top.specs.World.{processors_alone, world_with};
 
 use crate::Status;
 use crate::command::read_apply;
-use crate::notes::tell;
+use crate::notes::tell_fault;
 use crate::top::judge_alone;
 use saw_io::{Shelf, Sink, Source};
 use saw_live::{Live, LivePass};
@@ -124,6 +124,6 @@ pub fn apply_beside<
         rt, alloc, words, input, output, notes, shelf, verifier, signer, live, pass,
     ) {
         Ok(status) => status,
-        Err(fault) => tell(alloc, notes, &fault),
+        Err(fault) => tell_fault(alloc, notes, &fault),
     }
 }

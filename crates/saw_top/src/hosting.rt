@@ -22,8 +22,8 @@ ghost use Rattle.saw_top.specs.Wishes.{wish_in};
 ghost use Rattle.saw_top.specs.World.{processors_alone, world_with};
 
 use crate::Status;
-use crate::command::{Job, read_apply};
-use crate::notes::tell;
+use crate::command::{JudgeWish, read_apply};
+use crate::notes::tell_fault;
 use crate::readers::{Guest, Shared, dismiss, serve, share, welcome};
 use crate::top::judge_alone;
 use saw_io::{Shelf, Sink, Source};
@@ -49,7 +49,7 @@ fn apply_and_serve<
 >(
     rt: &T,
     alloc: Global,
-    job: &Job<'_>,
+    job: &JudgeWish<'_>,
     input: &mut S,
     output: &mut O,
     notes: &mut N,
@@ -120,7 +120,7 @@ fn host<
 >(
     rt: &T,
     alloc: Global,
-    job: &Job<'_>,
+    job: &JudgeWish<'_>,
     input: &mut S,
     output: &mut O,
     notes: &mut N,
@@ -268,6 +268,6 @@ pub fn run_live<
         rt, alloc, words, input, output, notes, shelf, verifier, signer, readers,
     ) {
         Ok(status) => status,
-        Err(fault) => tell(alloc, notes, &fault),
+        Err(fault) => tell_fault(alloc, notes, &fault),
     }
 }

@@ -29,7 +29,7 @@ use std::thread::Threads;
 
 /// Judges the bytes of a block by the rules of its parent's state, too. After a fault the journal is as before. The desks keep
 /// their offers and their remotes.
-pub(crate) fn judge<T: Threads + Wait + Sync, R: Station, V: Verifier>(
+pub(crate) fn judge_frame<T: Threads + Wait + Sync, R: Station, V: Verifier>(
     rt: &T,
     journal: &mut Journal<Sha512Half>,
     desks: &mut [Desk<R>],

@@ -1,7 +1,7 @@
 //! What is told on the notes.
 
 ghost use Rattle.std.specs.Prelude.{◌≡◌, ◌≤◌, false, true};
-ghost use Rattle.saw_report.specs.RunFaults.{fault_line, is_long, status_of};
+ghost use Rattle.saw_report.specs.RunFaults.{fault_line, is_long, fault_status};
 ghost use Rattle.saw_top.specs.Headline.{TellsFault, untold_status};
 ghost use Rattle.saw_top.specs.Outside.{sink_end};
 
@@ -11,8 +11,8 @@ use saw_report::{RunFault, fault_line, short_fault_line};
 use std::alloc::Global;
 
 // The status of a fault.
-fn status_of(fault: &RunFault) -> Status
-    ensures { result ≡ status_of fault.now }
+fn fault_status(fault: &RunFault) -> Status
+    ensures { result ≡ fault_status fault.now }
 {
     Status::new(fault.status())
 }
@@ -22,10 +22,10 @@ fn untold_status(fault: &RunFault) -> Status
     ensures { result ≡ untold_status fault.now }
 {
     match fault {
-        RunFault::Read | RunFault::Write | RunFault::Peer | RunFault::FileFailed => status_of(
+        RunFault::Read | RunFault::Write | RunFault::Peer | RunFault::FileFailed => fault_status(
             fault,
         ),
-        _ => status_of(&RunFault::Memory),
+        _ => fault_status(&RunFault::Memory),
     }
 }
 
@@ -37,8 +37,8 @@ fn tell_short<N: Sink>(notes: &mut N, fault: &RunFault, line: &[u8]) -> Status
     ensures later { N.faults notes.old ≤ N.faults notes.new }
 {
     match write_all(notes, line) {
-        Ok(()) => status_of(fault),
-        Err(SinkFault::Failed) => status_of(fault),
+        Ok(()) => fault_status(fault),
+        Err(SinkFault::Failed) => fault_status(fault),
         Err(SinkFault::OutOfMemory) => untold_status(fault),
     }
 }
@@ -51,18 +51,18 @@ fn tell_nodes<N: Sink>(alloc: Global, notes: &mut N, fault: &RunFault) -> Status
     ensures later { N.faults notes.old ≤ N.faults notes.new }
 {
     let Ok(line) = fault_line(alloc, fault) else {
-        return status_of(&RunFault::Memory);
+        return fault_status(&RunFault::Memory);
     };
     match write_all(notes, &line) {
-        Ok(()) => status_of(fault),
-        Err(SinkFault::Failed) => status_of(fault),
-        Err(SinkFault::OutOfMemory) => status_of(fault),
+        Ok(()) => fault_status(fault),
+        Err(SinkFault::Failed) => fault_status(fault),
+        Err(SinkFault::OutOfMemory) => fault_status(fault),
     }
 }
 
 /// Tells a fault and gives its status. Where writing fails the status stays; where the notes find no memory for the line
 /// it is that of want of memory, unless the outside failed or two nodes were begun to be told.
-pub(crate) fn tell<N: Sink>(alloc: Global, notes: &mut N, fault: &RunFault) -> Status
+pub(crate) fn tell_fault<N: Sink>(alloc: Global, notes: &mut N, fault: &RunFault) -> Status
     ensures told { TellsFault fault.now (sink_end N.Sink notes.old) (sink_end N.Sink notes.new) result }
     ensures later { N.faults notes.old ≤ N.faults notes.new }
 {

@@ -2,7 +2,7 @@
 
 ghost use Rattle.std.specs.Prelude.{◌≡◌, ◌≤◌, map, string_bytes};
 ghost use Rattle.saw_top.specs.Opening.{opened_of};
-ghost use Rattle.saw_top.specs.Processing.{HasProcessed, family_offers, status_of};
+ghost use Rattle.saw_top.specs.Processing.{HasProcessed, family_offers, served_status};
 ghost use Rattle.saw_tpside.specs.ProcessorConversation.{starting};
 ghost use Rattle.saw_tpside.specs.ServedLinks.{HasServed};
 
@@ -25,8 +25,8 @@ fn serve<L: Link, R: Wait>(rt: &R, alloc: Global, link: &mut L) -> Result<u64, T
     serve_link(rt, alloc, link, &offers, VERSION)
 }
 
-fn status_of(served: Result<u64, TpFault>) -> Status
-    ensures { result ≡ status_of served }
+fn served_status(served: Result<u64, TpFault>) -> Status
+    ensures { result ≡ served_status served }
 {
     match served {
         Ok(_) => Status::new(0),
@@ -49,7 +49,7 @@ pub fn run_processor<L: Link, R: Wait>(
     ensures later { L.faults link.old ≤ L.faults link.new }
 {
     match listen_wish(words) {
-        Wish::Connect { port: _ } => status_of(serve(rt, alloc, link)),
+        Wish::Connect { port: _ } => served_status(serve(rt, alloc, link)),
         Wish::Plain => Status::new(2),
         Wish::Listen {
             port: _,

@@ -150,7 +150,7 @@ fn write_block<O: Sink>(output: &mut O, block: &[u8]) -> Result<(), RunFault>
 
 // Tells what was made, and gives the status: rejected batches and refusal on the notes, and then the block on the
 // output.
-fn tell<O: Sink, N: Sink>(
+fn tell_made<O: Sink, N: Sink>(
     alloc: Global,
     output: &mut O,
     notes: &mut N,
@@ -201,5 +201,5 @@ pub(crate) fn publish<
     ensures desks { KeepsDesks R.faults R.offered desks.old desks.new }
 {
     let made = make(rt, alloc, journal, verifier, signer, batches, desks)?;
-    tell(alloc, output, notes, refused, &made)
+    tell_made(alloc, output, notes, refused, &made)
 }

@@ -17,7 +17,7 @@ ghost use Rattle.saw_top.specs.Limits.{max_blocks};
 ghost use Rattle.saw_top.specs.Outside.{SomeRose, counts_of};
 
 use crate::following::{Follower, tell_head};
-use crate::judging::{judge, tell_block};
+use crate::judging::{judge_frame, tell_block};
 use crate::task::Lines;
 use saw_io::{Sink, Source, fill, read_frame};
 use saw_journal::Journal;
@@ -107,7 +107,7 @@ pub(crate) fn judge_stream<
         match read_frame(alloc, input, MAX_LENGTH)? {
             None => return Ok(refused),
             Some(content) => {
-                let verdict = judge(rt, journal, desks, verifier, &content)?;
+                let verdict = judge_frame(rt, journal, desks, verifier, &content)?;
                 tell_head(rt, alloc, shared, follower, journal, &verdict)?;
                 tell_block(alloc, output, lines, journal, place, &verdict)?;
                 refused |= !verdict.is_accepted();

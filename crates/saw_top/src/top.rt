@@ -19,9 +19,9 @@ ghost use Rattle.saw_top.specs.World.{processors_alone, processors_beside, proce
 
 use crate::Status;
 use crate::claim::check_claim;
-use crate::command::{Command, Job, read_command};
+use crate::command::{Command, JudgeWish, read_command};
 use crate::following::{Follower, Unfollowed};
-use crate::notes::tell;
+use crate::notes::tell_fault;
 use crate::prepare::prepare;
 use crate::seats::{begin_each, seat, unseat};
 use crate::tasks::do_task;
@@ -50,7 +50,7 @@ fn judge_begun<
 >(
     rt: &T,
     alloc: Global,
-    job: &Job<'_>,
+    job: &JudgeWish<'_>,
     input: &mut S,
     output: &mut O,
     notes: &mut N,
@@ -115,7 +115,7 @@ fn judge_beside<
 >(
     rt: &T,
     alloc: Global,
-    job: &Job<'_>,
+    job: &JudgeWish<'_>,
     input: &mut S,
     output: &mut O,
     notes: &mut N,
@@ -178,7 +178,7 @@ pub(crate) fn judge_alone<
 >(
     rt: &T,
     alloc: Global,
-    job: &Job<'_>,
+    job: &JudgeWish<'_>,
     input: &mut S,
     output: &mut O,
     notes: &mut N,
@@ -219,7 +219,7 @@ pub(crate) fn judge_alone<
 }
 
 // Does a job with the blocks of the input.
-fn judge<
+fn judge_wish<
     T: Threads + Wait + Sync,
     S: Source,
     O: Sink,
@@ -231,7 +231,7 @@ fn judge<
 >(
     rt: &T,
     alloc: Global,
-    job: &Job<'_>,
+    job: &JudgeWish<'_>,
     input: &mut S,
     output: &mut O,
     notes: &mut N,
@@ -340,7 +340,7 @@ fn carry_out<
     let command = read_command(alloc, words)?;
     match command {
         None => Err(RunFault::Words),
-        Some(Command::Judge(job)) => judge(
+        Some(Command::Judge(job)) => judge_wish(
             rt, alloc, &job, input, output, notes, shelf, verifier, signer, remotes,
         ),
         Some(Command::Generate(wish)) => write_stream(rt, alloc, &wish, output, signer),
@@ -432,6 +432,6 @@ pub fn run<
         rt, alloc, words, input, output, notes, shelf, verifier, signer, remotes,
     ) {
         Ok(status) => status,
-        Err(fault) => tell(alloc, notes, &fault),
+        Err(fault) => tell_fault(alloc, notes, &fault),
     }
 }

@@ -74,14 +74,14 @@ returns-in_err-ran-clause-builds g c =
     rw (p.1, p.2) (plain_builds g.H.NodeHasher.hash_of (policy_by g.P.BlockPolicy.fault g.P.BlockPolicy.end_fault) signing c.args.state.now (option_copied c.args.parent) processors own
     (g.V.Verifier.accepts c.args.verifier.now) there c.args.batches.now _ c.in_err-ran.ensures.fault)
 
-pub run-requires-clause-few : goal.run-requires-clause-few
-run-requires-clause-few g c =
+pub run_passed-requires-clause-few : goal.run_passed-requires-clause-few
+run_passed-requires-clause-few g c =
     λ κs alive. subst (λ (batches : List BatchShape). length batches < 2 ^ 32) (sym c.as_slice.ensures)
     (few_passed (g.V.Verifier.accepts c.args.verifier.now) c.args.batches.now c.in_ok-sifted.sifted c.in_ok-passed.passed _ c.in_ok-sifted.ensures.sifted
     c.in_ok-passed.ensures c.in_ok-sifted.ensures.few)
 
-pub run-requires-clause-counted : goal.run-requires-clause-counted
-run-requires-clause-counted g c =
+pub run_passed-requires-clause-counted : goal.run_passed-requires-clause-counted
+run_passed-requires-clause-counted g c =
     λ κs alive. subst (λ (batches : List BatchShape). transactions_in batches < 2 ^ 32) (sym c.as_slice.ensures)
     (few_transactions (g.V.Verifier.accepts c.args.verifier.now) c.args.batches.now c.in_ok-sifted.sifted c.in_ok-passed.passed _
     c.in_ok-sifted.ensures.sifted c.in_ok-passed.ensures)

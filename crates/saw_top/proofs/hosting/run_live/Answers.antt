@@ -25,7 +25,7 @@ returns-in-Err-clause-ended g c = record {
   came = Err c.in-Err.fault;
   notes = sink_end g.N.Sink c.live_with.new.notes;
   done = asked_done _ _ _ _ _ c.in-Err.ensures.carries;
-  told = (c.tell.ensures.told, c.tell.ensures.later);
+  told = (c.tell_fault.ensures.told, c.tell_fault.ensures.later);
 }
 
 pub returns-in-Err-clause-answered : goal.returns-in-Err-clause-answered
@@ -34,4 +34,4 @@ returns-in-Err-clause-answered g c = answered _ (λ files. own_alone) (λ files.
 pub returns-in-Err-clause-served : goal.returns-in-Err-clause-served
 returns-in-Err-clause-served g c =
     host_served _ _ _ _ _ (sink_end g.N.Sink c.live_with.new.notes) _ (Err c.in-Err.fault) c.in-Err.ensures.carries
-    (c.tell.ensures.told, c.tell.ensures.later) c.in-Err.ensures.served
+    (c.tell_fault.ensures.told, c.tell_fault.ensures.later) c.in-Err.ensures.served

@@ -26,6 +26,6 @@ pub returns-clause-finishes : goal.returns-clause-finishes
 returns-clause-finishes g c =
     finishes_made (processors_at g.R.Station.next g.R.Station.tells (offers_at c.args.desks.now)) (g.V.Verifier.accepts c.args.verifier.now)
     (record { key = g.G.Signer.key_text c.args.signer.now; signature = g.G.Signer.signature c.args.signer.now })
-    c.args.batches.now c.args.journal.now c.args.refused (sink_end g.O.Sink c.args.output.now) (sink_end g.O.Sink c.tell.new.output)
-    (sink_end g.N.Sink c.args.notes.now) (sink_end g.N.Sink c.tell.new.notes) (counts_of g.R.Station.faults c.args.desks.now)
-    (counts_of g.R.Station.faults c.make.new.desks) c.in_ok-made.made c.in_ok-made.ensures.makes c.tell.result c.tell.ensures.tells
+    c.args.batches.now c.args.journal.now c.args.refused (sink_end g.O.Sink c.args.output.now) (sink_end g.O.Sink c.tell_made.new.output)
+    (sink_end g.N.Sink c.args.notes.now) (sink_end g.N.Sink c.tell_made.new.notes) (counts_of g.R.Station.faults c.args.desks.now)
+    (counts_of g.R.Station.faults c.make.new.desks) c.in_ok-made.made c.in_ok-made.ensures.makes c.tell_made.result c.tell_made.ensures.tells

@@ -70,7 +70,7 @@ returns-in_err-verdict-in-Some-clause-judges g c =
     let same = kept_offers _ _ c.args.desks.now c.loop-place.desks c.loop-place.invariant.desks in
     let full = rw (same, c.deref.ensures.value) at e.full in
     let clash = rw (same, c.deref.ensures.value) at e.clash in
-    rw (p.1, p.2) (not_judged _ _ c.args.lines c.loop-place.invariant.so_far _ c.in-Some.content c.loop-place-test.true some c.judge.new.journal _
+    rw (p.1, p.2) (not_judged _ _ c.args.lines c.loop-place.invariant.so_far _ c.in-Some.content c.loop-place-test.true some c.judge_frame.new.journal _
     e.fault (λ is. full (ap Err is)) clash)
 
 pub returns-in_err-tell_block-in-Some-clause-judges : goal.returns-in_err-tell_block-in-Some-clause-judges
@@ -83,7 +83,7 @@ returns-in_err-tell_block-in-Some-clause-judges g c =
     let e = c.in_err-tell_block-in-Some.ensures in
     rw (p.1, p.2) (so_ends_by _ _ c.args.lines c.loop-place.invariant.so_far _ _ says.0 says.1 _ _ (λ ways bytes at run_so.
     line_cut _ c.args.lines at _ c.in-Some.content c.loop-place-test.true some says.0 run_so c.in_ok-verdict-in-Some.verdict
-    c.judge.new.journal says.2 c.in_ok-verdict-in-Some.ensures.stays _ _ e.err.0 e.fault e.err.1))
+    c.judge_frame.new.journal says.2 c.in_ok-verdict-in-Some.ensures.stays _ _ e.err.0 e.fault e.err.1))
 
 pub loop-place-preserved : goal.loop-place-preserved
 loop-place-preserved g c =
@@ -93,15 +93,15 @@ loop-place-preserved g c =
     record {
       so_far = so_more _ _ c.args.lines c.loop-place.invariant.so_far _ _ says.0 says.1 _ _ (λ ways bytes at run_so.
           line_written _ c.args.lines at _ c.in-Some.content c.loop-place-test.true some says.0 run_so c.in_ok-verdict-in-Some.verdict
-          c.judge.new.journal says.2 c.in_ok-verdict-in-Some.ensures.stays _ _
+          c.judge_frame.new.journal says.2 c.in_ok-verdict-in-Some.ensures.stays _ _
           c.in_ok-tell_block-in-Some.ensures.ok (ap (λ b. c.loop-place.refused || not b) c.is_accepted.ensures)
-          (one_heard (said_of c.in_ok-verdict-in-Some.verdict c.judge.new.journal.blocks) c.in_ok-tell_head-in-Some.ensures.ok));
+          (one_heard (said_of c.in_ok-verdict-in-Some.verdict c.judge_frame.new.journal.blocks) c.in_ok-tell_head-in-Some.ensures.ok));
       wrote = (
         c.loop-place.invariant.wrote.0 ++ _,
         Appends-trans _ _ _ c.loop-place.invariant.wrote.0 _ c.loop-place.invariant.wrote.1
             c.in_ok-tell_block-in-Some.ensures.ok,
       );
-      desks = keeps_all_trans _ _ _ _ c.judge.new.desks c.loop-place.invariant.desks c.in_ok-verdict-in-Some.ensures.desks;
+      desks = keeps_all_trans _ _ _ _ c.judge_frame.new.desks c.loop-place.invariant.desks c.in_ok-verdict-in-Some.ensures.desks;
       input_later = omega arith;
       output_later = omega arith;
       belongs = c.in_ok-tell_head-in-Some.ensures.belongs;
@@ -187,32 +187,32 @@ returns-in_err-read_frame-clause-nodes g c =
     let p = err_from_is_err_and failed.result failed.ensures.1 in
     rw (p.1, p.2) (frame_alike c.in_err-read_frame.field-0.0)
 
-pub judge-requires-clause-alike : goal.judge-requires-clause-alike
-judge-requires-clause-alike g c = λ κs alive.
+pub judge_frame-requires-clause-alike : goal.judge_frame-requires-clause-alike
+judge_frame-requires-clause-alike g c = λ κs alive.
     kept_alike _ _ _ _ c.loop-place.invariant.desks c.requires.alike
 
-pub judge-requires-clause-some : goal.judge-requires-clause-some
-judge-requires-clause-some g c = λ κs alive.
+pub judge_frame-requires-clause-some : goal.judge_frame-requires-clause-some
+judge_frame-requires-clause-some g c = λ κs alive.
     kept_some _ _ _ _ c.loop-place.invariant.desks c.requires.some
 
 pub returns-in_err-verdict-in-Some-clause-desks : goal.returns-in_err-verdict-in-Some-clause-desks
 returns-in_err-verdict-in-Some-clause-desks g c =
-    keeps_all_trans _ _ _ _ c.judge.new.desks c.loop-place.invariant.desks c.in_err-verdict-in-Some.ensures.desks
+    keeps_all_trans _ _ _ _ c.judge_frame.new.desks c.loop-place.invariant.desks c.in_err-verdict-in-Some.ensures.desks
 
 pub returns-in_err-tell_block-in-Some-clause-desks : goal.returns-in_err-tell_block-in-Some-clause-desks
 returns-in_err-tell_block-in-Some-clause-desks g c =
-    keeps_all_trans _ _ _ _ c.judge.new.desks c.loop-place.invariant.desks c.in_ok-verdict-in-Some.ensures.desks
+    keeps_all_trans _ _ _ _ c.judge_frame.new.desks c.loop-place.invariant.desks c.in_ok-verdict-in-Some.ensures.desks
 
 pub returns-in_err-verdict-in-Some-clause-peer : goal.returns-in_err-verdict-in-Some-clause-peer
 returns-in_err-verdict-in-Some-clause-peer g c =
     let failed = c.from_residual-in_err-verdict-in-Some in
     let p = err_from_is_err_and failed.result failed.ensures.1 in
     let e = c.in_err-verdict-in-Some.ensures in
-    let since = keeps_all_trans _ _ _ _ c.judge.new.desks c.loop-place.invariant.desks e.desks in
+    let since = keeps_all_trans _ _ _ _ c.judge_frame.new.desks c.loop-place.invariant.desks e.desks in
     rw (p.1, p.2) (λ is.
     let peer : c.in_err-verdict-in-Some.field-0.0 ≡ Peer = cc in
-    failed_rose g.R.Station.faults g.R.Station.offered c.args.desks.now c.judge.new.desks since
-    (failed_since g.R.Station.faults g.R.Station.offered c.args.desks.now c.loop-place.desks c.judge.new.desks c.loop-place.invariant.desks
+    failed_rose g.R.Station.faults g.R.Station.offered c.args.desks.now c.judge_frame.new.desks since
+    (failed_since g.R.Station.faults g.R.Station.offered c.args.desks.now c.loop-place.desks c.judge_frame.new.desks c.loop-place.invariant.desks
     (e.cause (ap Err peer))))
 
 -- ---- who follows
@@ -231,7 +231,7 @@ returns-in_err-tell_head-in-Some-clause-judges g c =
     let failed = c.from_residual-in_err-tell_head-in-Some in
     let p = err_from_is_err_and failed.result failed.ensures.1 in
     let is : c.in_err-tell_head-in-Some.field-0.0 ≡ Memory = c.in_err-tell_head-in-Some.ensures.fault in
-    rw (p.1, p.2, is) (not_judged _ _ c.args.lines c.loop-place.invariant.so_far _ c.in-Some.content c.loop-place-test.true some c.judge.new.journal
+    rw (p.1, p.2, is) (not_judged _ _ c.args.lines c.loop-place.invariant.so_far _ c.in-Some.content c.loop-place-test.true some c.judge_frame.new.journal
     Memory tt (λ is. absurd cc) tt)
 
 pub returns-in_err-tell_head-in-Some-clause-kind : goal.returns-in_err-tell_head-in-Some-clause-kind
@@ -250,7 +250,7 @@ returns-in_err-tell_head-in-Some-clause-nodes g c =
 
 pub returns-in_err-tell_head-in-Some-clause-desks : goal.returns-in_err-tell_head-in-Some-clause-desks
 returns-in_err-tell_head-in-Some-clause-desks g c =
-    keeps_all_trans _ _ _ _ c.judge.new.desks c.loop-place.invariant.desks c.in_ok-verdict-in-Some.ensures.desks
+    keeps_all_trans _ _ _ _ c.judge_frame.new.desks c.loop-place.invariant.desks c.in_ok-verdict-in-Some.ensures.desks
 
 pub returns-in_err-read_frame-clause-heard : goal.returns-in_err-read_frame-clause-heard
 returns-in_err-read_frame-clause-heard g c =
@@ -296,9 +296,9 @@ returns-in_err-tell_block-in-Some-clause-heard g c =
     let says = rw (same, c.deref.ensures.value) at c.in_ok-verdict-in-Some.ensures.says in
     rw (p.1, p.2) (hears_by _ _ c.args.lines _ c.loop-place.invariant.so_far says.0 says.1 _ (λ ways bytes at run_so.
     cut_line _ bytes _ _
-    (one_heard (said_of c.in_ok-verdict-in-Some.verdict c.judge.new.journal.blocks) c.in_ok-tell_head-in-Some.ensures.ok at.heard)
+    (one_heard (said_of c.in_ok-verdict-in-Some.verdict c.judge_frame.new.journal.blocks) c.in_ok-tell_head-in-Some.ensures.ok at.heard)
     (judged_said _ c.args.lines at _ c.in-Some.content c.loop-place-test.true some says.0 run_so c.in_ok-verdict-in-Some.verdict
-    c.judge.new.journal says.2 c.in_ok-verdict-in-Some.ensures.stays) _ c.in_err-tell_block-in-Some.ensures.fault))
+    c.judge_frame.new.journal says.2 c.in_ok-verdict-in-Some.ensures.stays) _ c.in_err-tell_block-in-Some.ensures.fault))
 
 pub returns-in_err-has_ended-clause-heard : goal.returns-in_err-has_ended-clause-heard
 returns-in_err-has_ended-clause-heard g c =

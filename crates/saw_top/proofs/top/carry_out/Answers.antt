@@ -42,9 +42,9 @@ pub returns-in-Some-Judge : goal.returns-in-Some-Judge
 returns-in-Some-Judge g c =
     let asked = rw (c.in-Some-Judge.is, c.in-Some-Judge.field-0-is) at c.in_ok-command.ensures.ok in
     record {
-      carries = judged _ _ _ _ _ _ asked c.judge.ensures.carries;
+      carries = judged _ _ _ _ _ _ asked c.judge_wish.ensures.carries;
       unasked = λ is. absurd (let never : true ≡ false = ap asks_external asked ∙ is in cc never);
-      begun = λ asks. c.judge.ensures.begun;
+      begun = λ asks. c.judge_wish.ensures.begun;
     }
 
 pub returns-in-Some-Generate : goal.returns-in-Some-Generate

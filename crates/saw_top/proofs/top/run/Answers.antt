@@ -25,7 +25,7 @@ returns-in-Err-clause-ended g c = record {
   came = Err c.in-Err.fault;
   notes = sink_end g.N.Sink c.carry_out.new.notes;
   done = c.in-Err.ensures.carries;
-  told = (c.tell.ensures.told, c.tell.ensures.later);
+  told = (c.tell_fault.ensures.told, c.tell_fault.ensures.later);
 }
 
 pub returns-in-Err-clause-answered : goal.returns-in-Err-clause-answered
@@ -41,4 +41,4 @@ returns-in-Ok-clause-begun g c = λ asks. have_so g.R.Station.begun _ _ _ _ (c.i
 pub returns-in-Err-clause-begun : goal.returns-in-Err-clause-begun
 returns-in-Err-clause-begun g c = λ asks.
     have_so g.R.Station.begun _ _ _ _ (c.in-Err.ensures.begun asks)
-    (λ still. (still.0, still.1, still.2, stopped_status c.in-Err.fault _ _ _ c.tell.ensures.told still.3))
+    (λ still. (still.0, still.1, still.2, stopped_status c.in-Err.fault _ _ _ c.tell_fault.ensures.told still.3))

@@ -13,7 +13,7 @@ returns-clause-content g c =
     let signing : Signing = record { key = g.G.Signer.key_text c.args.signer.now; signature = g.G.Signer.signature c.args.signer.now } in
     let wish = c.args.wish.now in
     let made = c.in_ok-messages.ensures in
-    let left = left_is signing wish c.args.b _ _ _ _ c.requires.behind.left made.messages made.reads c.in_ok-run.ensures in
+    let left = left_is signing wish c.args.b _ _ _ _ c.requires.behind.left made.messages made.reads c.in_ok-run_block.ensures in
     let root = root_is signing wish c.args.b _ _ left c.in_ok-root.ensures in
     content_is signing wish c.args.b _ _ _ _ (c.as_ref.ensures.value ∙ c.requires.behind.parent) made.messages root c.in_ok-id.ensures.content
 
@@ -22,7 +22,7 @@ returns-clause-behind g c =
     let signing : Signing = record { key = g.G.Signer.key_text c.args.signer.now; signature = g.G.Signer.signature c.args.signer.now } in
     let wish = c.args.wish.now in
     let made = c.in_ok-messages.ensures in
-    let left = left_is signing wish c.args.b _ _ _ _ c.requires.behind.left made.messages made.reads c.in_ok-run.ensures in
+    let left = left_is signing wish c.args.b _ _ _ _ c.requires.behind.left made.messages made.reads c.in_ok-run_block.ensures in
     let root = root_is signing wish c.args.b _ _ left c.in_ok-root.ensures in
     record {
       parent = rw c.from.ensures

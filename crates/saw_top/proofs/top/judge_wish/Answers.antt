@@ -13,7 +13,7 @@ use Rattle.saw_top.proofs.Counting.{later_at, rose_at}
 use Rattle.saw_top.proofs.Seated.{written_back}
 use Rattle.saw_top.proofs.Served.{own_with, with_some}
 use Rattle.saw_top.proofs.Wrapped.{as_many_offered}
-use Rattle.saw_top.proofs.top.judge.Goals as goal
+use Rattle.saw_top.proofs.top.judge_wish.Goals as goal
 
 pub returns-in_err-begin_each : goal.returns-in_err-begin_each
 returns-in_err-begin_each g c =

@@ -6,7 +6,7 @@ use Rattle.saw_station.proofs.Finished.{processors_own}
 use Rattle.saw_station.specs.Serving.{processors_at}
 use Rattle.saw_publish.specs.Drafts.{run_fate}
 use Rattle.saw_publish.proofs.Executed.{few_planned, is_ran}
-use Rattle.saw_publish.proofs.run.run.Goals as goal
+use Rattle.saw_publish.proofs.run.run_passed.Goals as goal
 
 pub returns-in_err-plan-clause-desks : goal.returns-in_err-plan-clause-desks
 returns-in_err-plan-clause-desks g c = keep_all g.R.Station.faults g.R.Station.offered c.args.desks.now

@@ -1,7 +1,7 @@
 use Rattle.std.proofs.lemmas.Result.{err_from_is_err_and}
 use Rattle.saw_top.specs.Outside.{sink_end}
 use Rattle.saw_top.proofs.Tellings.{losses_cut, text_part}
-use Rattle.saw_top.proofs.publishing.tell.Goals as goal
+use Rattle.saw_top.proofs.publishing.tell_made.Goals as goal
 
 pub returns-in_err-tell_losses : goal.returns-in_err-tell_losses
 returns-in_err-tell_losses g c =
