@@ -3,10 +3,11 @@
 Run by hand, never by the gate, after `rt run` has built the program:
 python3 -B bench/readers.py PROGRAM [RUNS]
 
-First the time of 20,000 transactions in 4 blocks alone, beside three readers that do not ask, and beside three that ask
-without pause, in turns: the middle of so many runs of each. Then the time of 100 blocks of ten new names each behind
-1,000 names and behind 100,000, alone and beside a reader that does not ask: what lies between the least of the two is
-what the switches publish. Times are those from the first byte that is fed to the last line.
+First the time of 20,000 transactions in 4 blocks alone, beside three readers that do not ask, beside three that ask
+without pause, and beside three that ask another run so, which waits for its input and shares the cores alone; in turns,
+the middle of so many runs of each. Then the time of 100 blocks of ten new names each behind 1,000 names and behind
+100,000, alone and beside a reader that does not ask: what lies between the least of the two is what the switches publish.
+Times are those from the first byte that is fed to the last line.
 """
 
 import multiprocessing
@@ -48,17 +49,18 @@ def ask(port, asks, done, count):
     count.put(answers)
 
 
-def run(program, parts, readers, asks):
+def run(program, parts, readers, asks, elsewhere=False):
     """The seconds from the last part's first byte to the last line, and how often was asked. Each part is fed once the
-    blocks before it have their lines."""
+    blocks before it have their lines. Elsewhere: another run is asked, which has no input before this one's end."""
     port, done, count = free_port(), multiprocessing.Event(), multiprocessing.Queue()
     words = [program, "apply", "--workers", "1"]
-    words += ["--live", str(port), "--readers", str(readers)] if readers else []
+    live = ["--live", str(port), "--readers", str(readers)] if readers else []
     # They begin before the pipes are there, which they would hold open.
     others = [multiprocessing.Process(target=ask, args=(port, asks, done, count), daemon=True) for _ in range(readers)]
     for other in others:
         other.start()
-    child = subprocess.Popen(words, stdin=subprocess.PIPE, stdout=subprocess.PIPE)
+    asked = subprocess.Popen(words + live, stdin=subprocess.PIPE, stdout=subprocess.DEVNULL) if elsewhere else None
+    child = subprocess.Popen(words + ([] if elsewhere else live), stdin=subprocess.PIPE, stdout=subprocess.PIPE)
     for content, lines in parts[:-1]:
         child.stdin.write(content)
         child.stdin.flush()
@@ -77,6 +79,8 @@ def run(program, parts, readers, asks):
     for other in others:
         other.join()
     child.wait()
+    if asked:
+        asked.communicate()
     return seconds, answers
 
 
@@ -92,11 +96,16 @@ def beside_three(program, runs):
     with made(program, 4, 2500, 10) as file:
         file.seek(0)
         parts = [(file.read(), 4)]
-    ways = {"alone": (0, False), "beside three that do not ask": (3, False), "beside three that ask": (3, True)}
+    ways = {
+        "alone": (0, False),
+        "beside three that do not ask": (3, False),
+        "beside three that ask": (3, True),
+        "beside three that ask another run": (3, True, True),
+    }
     times = {name: [] for name in ways}
     for _ in range(runs):
-        for name, (readers, asks) in ways.items():
-            times[name].append(run(program, parts, readers, asks)[0])
+        for name, way in ways.items():
+            times[name].append(run(program, parts, *way)[0])
     alone = statistics.median(times["alone"])
     for name, some in times.items():
         middle = statistics.median(some)
