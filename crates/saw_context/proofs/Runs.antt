@@ -17,18 +17,19 @@ use Rattle.std.proofs.lemmas.Map.Keys.{IsDistinct-from_sorted}
 use Rattle.std.proofs.lemmas.Map.Made.{update_all_distinct}
 use Rattle.std.proofs.lemmas.Map.Text.{is_eq-slice_cmp}
 use Rattle.saw_address.proofs.Finite.{find-lookup}
-use Rattle.saw_context.specs.Runs.{Marks, Standing, entry_of, layers_in, mark_in, marked, marked_by, marks_of, runs_of, shown_in}
-use Rattle.saw_context.specs.declared.layers.Mark.{Mark}
+use Rattle.saw_context.proofs.Keys.{same_key}
+use Rattle.saw_context.specs.Runs.{Marks, Standing, entry_of, last_of, layers_in, mark_in, marked, marked_by, marks_of, runs_of, shown_in}
+use Rattle.saw_context.specs.declared.layers.ViewMark.{ViewMark}
 use Rattle.saw_context.specs.declared.layers.Run.{Run}
 use Rattle.saw_context.specs.declared.view.ViewEntry.{ViewEntry}
 
 -- entries of a run
 abbrev Entries : Type 0
-Entries = List (List ℕ × Arc Mark Global)
+Entries = List (List ℕ × Arc ViewMark Global)
 
 -- ---- what is found
 
-option_map-cond : (same : Bool) (mark : Arc Mark Global) (found : Option (Arc Mark Global))
+option_map-cond : (same : Bool) (mark : Arc ViewMark Global) (found : Option (Arc ViewMark Global))
     → option_map entry_of (cond same (Some mark) found) ≡ cond same (Some (entry_of mark)) (option_map entry_of found)
 option_map-cond true mark found = refl
 option_map-cond false mark found = refl
@@ -58,6 +59,11 @@ get-marked : (below : Standing) (at : List ℕ) (entry : Option ViewEntry) (othe
 get-marked below at None other = finite.get-remove nat_list_cmp_total below at other
 get-marked below at (Some entry) other = finite.get-insert nat_list_cmp_total below at entry other
 
+-- what is there with one at an address
+pub get-mark : (below : Standing) (at : List ℕ) (entry : Option ViewEntry) (q : List ℕ)
+    → finite.get (marked below at entry) q ≡ cond (bytes_eq at q) entry (finite.get below q)
+get-mark below at entry q = get-marked below at entry q ∙ ap (λ same. cond same entry (finite.get below q)) (sym (same_key at q))
+
 get-marked_by : (below : Standing) (marks : Marks) (at : List ℕ)
     → finite.get (marked_by below marks) at ≡ unwrap_or (find (slice_cmp nat_cmp) at marks) (finite.get below at)
 get-marked_by below [] at = refl
@@ -79,7 +85,7 @@ pub shown_in-inside : (runs : List Run) (layers : Standing) → layers_in runs �
 shown_in-inside runs layers is at = sym (get-layers_in runs at) ∙ ap (λ one. finite.get one at) is
 
 -- a mark put into an empty run
-pub mark_in-one : (empty run : Run) (at : List ℕ) (mark : Arc Mark Global) (entry : Option ViewEntry) → empty.marks.entries ≡ [] → entry_of mark ≡ entry
+pub mark_in-one : (empty run : Run) (at : List ℕ) (mark : Arc ViewMark Global) (entry : Option ViewEntry) → empty.marks.entries ≡ [] → entry_of mark ≡ entry
     → ((q : List ℕ) → get (slice_cmp nat_cmp) run.marks q ≡ cond (is_at (slice_cmp nat_cmp at) q) (Some mark) (get (slice_cmp nat_cmp) empty.marks q))
     → (q : List ℕ) → mark_in run q ≡ cond (bytes_eq at q) (Some entry) None
 mark_in-one empty run at mark entry none is updates q =
@@ -99,22 +105,22 @@ shown-one run at entry below other is =
 abbrev pub put_all : Run → Entries → List ℕ → Option (Option ViewEntry)
 put_all run entries = update_all (eq_by_cmp (slice_cmp nat_cmp)) (mark_in run) (marks_of entries)
 
-update_all-alike : (marks : Marks) (before after : List ℕ → Option (Option ViewEntry)) (at : List ℕ) → before at ≡ after at
-    → update_all (eq_by_cmp (slice_cmp nat_cmp)) before marks at ≡ update_all (eq_by_cmp (slice_cmp nat_cmp)) after marks at
-update_all-alike [] before after at is = is
-update_all-alike (mark ∷ marks) before after at is =
-    update_all-alike marks _ _ at (ap (cond (eq_by_cmp (slice_cmp nat_cmp) mark.0 at) (Some mark.1)) is)
+update_all-alike : (same : List ℕ → List ℕ → Bool) (marks : Marks) (before after : List ℕ → Option (Option ViewEntry)) (at : List ℕ) → before at ≡ after at
+    → update_all same before marks at ≡ update_all same after marks at
+update_all-alike same [] before after at is = is
+update_all-alike same (mark ∷ marks) before after at is =
+    update_all-alike same marks _ _ at (ap (cond (same mark.0 at) (Some mark.1)) is)
 
 -- the first of them is put
-pub put_all-more : (run more : Run) (at : List ℕ) (mark copy : Arc Mark Global) (entries rest : Entries) → entries ≡ (at, mark) ∷ rest → arc_value copy ≡ arc_value mark
+pub put_all-more : (run more : Run) (at : List ℕ) (mark copy : Arc ViewMark Global) (entries rest : Entries) → entries ≡ (at, mark) ∷ rest → arc_value copy ≡ arc_value mark
     → ((q : List ℕ) → get (slice_cmp nat_cmp) more.marks q ≡ cond (is_at (slice_cmp nat_cmp at) q) (Some copy) (get (slice_cmp nat_cmp) run.marks q))
     → (q : List ℕ) → put_all more rest q ≡ put_all run entries q
 put_all-more run more at mark copy entries rest is same updates q =
     let here = is_at (slice_cmp nat_cmp at) q in
-    update_all-alike (marks_of rest) _ _ q
+    update_all-alike (eq_by_cmp (slice_cmp nat_cmp)) (marks_of rest) _ _ q
     (ap (option_map entry_of) (updates q)
     ∙ option_map-cond here copy (get (slice_cmp nat_cmp) run.marks q)
-    ∙ ap (λ (one : Mark). cond here (Some one.entry) (mark_in run q)) same)
+    ∙ ap (λ (one : ViewMark). cond here (Some one.entry) (mark_in run q)) same)
     ∙ ap (λ some. put_all run some q) (sym is)
 
 keys_of-marks_of : (entries : Entries) → keys_of (marks_of entries) ≡ keys_of entries
@@ -130,11 +136,49 @@ put_all-run run newer ordered q =
     update_all_distinct (eq_by_cmp_equiv nat_list_cmp_total) (eq_by_cmp (slice_cmp nat_cmp)) (λ x y. refl) (mark_in run) (marks_of entries) q distinct
     ∙ ap (λ mark. option_or mark (mark_in run q)) (lookup-marks_of entries q)
 
+-- the first of marks is put
+pub put-mark : (run more : Run) (at : List ℕ) (mark : Arc ViewMark Global) (entry : Option ViewEntry) (marks rest : Marks) → marks ≡ (at, entry) ∷ rest → entry_of mark ≡ entry
+    → ((q : List ℕ) → get (slice_cmp nat_cmp) more.marks q ≡ cond (is_at (slice_cmp nat_cmp at) q) (Some mark) (get (slice_cmp nat_cmp) run.marks q))
+    → (q : List ℕ) → update_all bytes_eq (mark_in more) rest q ≡ update_all bytes_eq (mark_in run) marks q
+put-mark run more at mark entry marks rest are is updates q =
+    update_all-alike bytes_eq rest _ _ q
+    (ap (option_map entry_of) (updates q)
+    ∙ option_map-cond (is_at (slice_cmp nat_cmp at) q) mark (get (slice_cmp nat_cmp) run.marks q)
+    ∙ (λ i. cond (is_eq-slice_cmp at q i) (Some (is i)) (mark_in run q)))
+    ∙ ap (λ some. update_all bytes_eq (mark_in run) some q) (sym are)
+
+-- marks put into an empty run
+pub put-first : (empty : Run) (marks : Marks) → empty.marks.entries ≡ [] → (q : List ℕ) → update_all bytes_eq (mark_in empty) marks q ≡ last_of marks q
+put-first empty marks none q =
+    update_all-alike bytes_eq marks _ _ q (ap (λ entries. option_map entry_of (lookup (is_at (slice_cmp nat_cmp q)) entries)) none)
+
+unwrap_or-update : (same : Bool) (entry below : Option ViewEntry) (found : Option (Option ViewEntry))
+    → unwrap_or (cond same (Some entry) found) below ≡ unwrap_or (cond same (Some entry) None) (unwrap_or found below)
+unwrap_or-update true entry below found = refl
+unwrap_or-update false entry below found = refl
+
+-- what was there before marks counts where none of them is
+last_of-behind : (marks : Marks) (before : List ℕ → Option (Option ViewEntry)) (at : List ℕ) (below : Option ViewEntry)
+    → unwrap_or (update_all bytes_eq before marks at) below ≡ unwrap_or (last_of marks at) (unwrap_or (before at) below)
+last_of-behind [] before at below = refl
+last_of-behind (mark ∷ marks) before at below =
+    let same = bytes_eq mark.0 at in
+    last_of-behind marks _ at below
+    ∙ ap (unwrap_or (last_of marks at)) (unwrap_or-update same mark.1 below (before at))
+    ∙ sym (last_of-behind marks _ at (unwrap_or (before at) below))
+
+-- with the first of marks put, the others
+pub put-others : (below : Standing) (at : List ℕ) (entry : Option ViewEntry) (marks : Marks) (q : List ℕ)
+    → unwrap_or (last_of ((at, entry) ∷ marks) q) (finite.get below q) ≡ unwrap_or (last_of marks q) (finite.get (marked below at entry) q)
+put-others below at entry marks q =
+    last_of-behind marks _ q (finite.get below q)
+    ∙ ap (unwrap_or (last_of marks q)) (unwrap_or-cond (bytes_eq at q) entry (finite.get below q) None ∙ sym (get-mark below at entry q))
+
 -- ---- the next of runs
 
 module _ (runs : List (Arc Run Global)) (i : ℕ) (run : Arc Run Global) (seen : Run) (at : List ℕ)
     (inside : i < length runs) (here : run ≡ get_or runs i run) (shows : seen ≡ arc_value run) where
-  shown_in-next : (found : Option (Arc Mark Global)) → found ≡ get (slice_cmp nat_cmp) seen.marks at
+  shown_in-next : (found : Option (Arc ViewMark Global)) → found ≡ get (slice_cmp nat_cmp) seen.marks at
       → shown_in (runs_of (drop i runs)) at ≡ unwrap_or (option_map entry_of found) (shown_in (runs_of (drop (i + 1) runs)) at)
   shown_in-next found is =
       let rest = shown_in (runs_of (drop (i + 1) runs)) at in
@@ -143,7 +187,7 @@ module _ (runs : List (Arc Run Global)) (i : ℕ) (run : Arc Run Global) (seen :
       ∙ ap (λ one. unwrap_or (option_map entry_of one) rest) (sym is)
 
   -- it marks the address
-  pub shown_in-here : (mark : Arc Mark Global) → Some mark ≡ get (slice_cmp nat_cmp) seen.marks at → shown_in (runs_of (drop i runs)) at ≡ entry_of mark
+  pub shown_in-here : (mark : Arc ViewMark Global) → Some mark ≡ get (slice_cmp nat_cmp) seen.marks at → shown_in (runs_of (drop i runs)) at ≡ entry_of mark
   shown_in-here mark is = shown_in-next (Some mark) is
 
   -- it does not

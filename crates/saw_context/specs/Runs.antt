@@ -3,11 +3,13 @@ use Rattle.std.specs.Prelude.{ℕ, List, [], ◌∷◌, map, Option, Some, None,
 use Rattle.std.specs.Arc.{arc_value}
 use Rattle.std.specs.BTreeMap.{get}
 use Rattle.std.specs.FinMap as finite
+use Rattle.std.specs.Map.{update_all}
+use Rattle.std.specs.Str.{bytes_eq}
 use Rattle.std.specs.Global.{Global}
 use Rattle.std.specs.Ordering.{nat_cmp}
 use Rattle.std.specs.Cmp.Lexicographic.{slice_cmp}
 use Rattle.std.specs.declared.sync.Arc.{Arc}
-use Rattle.saw_context.specs.declared.layers.Mark.{Mark}
+use Rattle.saw_context.specs.declared.layers.ViewMark.{ViewMark}
 use Rattle.saw_context.specs.declared.layers.Run.{Run}
 use Rattle.saw_context.specs.declared.view.ViewEntry.{ViewEntry}
 
@@ -20,12 +22,12 @@ abbrev pub Marks : Type 0
 Marks = List (List ℕ × Option ViewEntry)
 
 -- what a mark says
-abbrev pub entry_of : Arc Mark Global → Option ViewEntry
+abbrev pub entry_of : Arc ViewMark Global → Option ViewEntry
 entry_of mark = (arc_value mark).entry
 
 -- what entries of a run mark
-abbrev pub marks_of : List (List ℕ × Arc Mark Global) → Marks
-marks_of entries = map (λ (mark : List ℕ × Arc Mark Global). (mark.0, entry_of mark.1)) entries
+abbrev pub marks_of : List (List ℕ × Arc ViewMark Global) → Marks
+marks_of entries = map (λ (mark : List ℕ × Arc ViewMark Global). (mark.0, entry_of mark.1)) entries
 
 -- what is there with this at an address
 abbrev pub marked : Standing → List ℕ → Option ViewEntry → Standing
@@ -53,3 +55,7 @@ mark_in run at = option_map entry_of (get (slice_cmp nat_cmp) run.marks at)
 abbrev pub shown_in : List Run → List ℕ → Option ViewEntry
 shown_in [] at = None
 shown_in (run ∷ runs) at = unwrap_or (mark_in run at) (shown_in runs at)
+
+-- the last of marks at an address; outermost `None` where none is there
+abbrev pub last_of : Marks → List ℕ → Option (Option ViewEntry)
+last_of marks at = update_all bytes_eq (λ q. None) marks at

@@ -4,7 +4,7 @@ ghost use Rattle.std.specs.Prelude.{◌≡◌, ◌++◌, ℕ, List, Some, None, 
 ghost use Rattle.std.specs.FinMap as finite;
 ghost use Rattle.std.specs.Option.{option_or};
 ghost use Rattle.std.specs.Str.{bytes_eq};
-ghost use Rattle.saw_context.specs.Runs.{mark_in, runs_of, shown_in};
+ghost use Rattle.saw_context.specs.Runs.{last_of, mark_in, runs_of, shown_in};
 
 use crate::view::ViewEntry;
 use saw_address::Address;
@@ -16,14 +16,14 @@ use std::sync::Arc;
 
 // What stands at an address, or that nothing does.
 #[derive(Drop)]
-struct Mark {
+struct ViewMark {
     entry: Option<ViewEntry>,
 }
 
 // Marks of addresses, which hide those of older runs.
 #[derive(Drop)]
 struct Run {
-    marks: BTreeMap<Address, Arc<Mark>>,
+    marks: BTreeMap<Address, Arc<ViewMark>>,
 }
 
 /// What earlier transactions left at each address, with the number of the one that did. One made of it shares its runs or
@@ -82,6 +82,21 @@ impl Layers {
         })
     }
 
+    /// The same with these one after another at their addresses: an entry, or none.
+    pub fn with_all(
+        &self,
+        alloc: Global,
+        marks: Vec<(Address, Option<ViewEntry>)>,
+    ) -> Result<Self, AllocError>
+        ensures { IfOk result
+            (λ made. (q : List ℕ) → finite.get made q ≡ unwrap_or (last_of marks.items q) (finite.get self.now q)) }
+    {
+        let newest = run_of_all(alloc, marks)?;
+        Ok(Layers {
+            runs: gathered(alloc, newest, self.runs.as_slice())?,
+        })
+    }
+
     /// The same once more, for a few counts of references.
     pub fn try_share(&self, alloc: Global) -> Result<Self, AllocError>
         ensures { IfOk result (λ made. (q : List ℕ) → finite.get made q ≡ finite.get self.now q) }
@@ -110,8 +125,23 @@ fn run_of_one(alloc: Global, at: Address, entry: Option<ViewEntry>) -> Result<Ru
         (λ run. (q : List ℕ) → mark_in run q ≡ (if bytes_eq at q then Some entry else None)) }
 {
     let mut marks = BTreeMap::new(alloc);
-    marks.insert(at, Arc::new(alloc, Mark { entry })?)?;
+    marks.insert(at, Arc::new(alloc, ViewMark { entry })?)?;
     Ok(Run { marks })
+}
+
+// Marks of these addresses; of two at one the later counts.
+fn run_of_all(alloc: Global, marks: Vec<(Address, Option<ViewEntry>)>) -> Result<Run, AllocError>
+    ensures { IfOk result
+        (λ run. (q : List ℕ) → mark_in run q ≡ last_of marks.items q) }
+{
+    let mut run = Run {
+        marks: BTreeMap::new(alloc),
+    };
+    for mark in marks {
+        let (at, entry) = mark;
+        run.marks.insert(at, Arc::new(alloc, ViewMark { entry })?)?;
+    }
+    Ok(run)
 }
 
 // A run before others: those that are at most about twice as long as what was gathered are merged with it, and the rest is
