@@ -12,7 +12,7 @@ use crate::checked::{CheckedBlock, ReadBlock};
 use crate::fault::StructureFault;
 use crate::ids::first_difference;
 use saw_address::is_hex_text;
-use saw_messages::{Block, BlockHeader, decode_block, decode_block_header};
+use saw_messages::{Block, BlockHeader, decode_block_by, decode_block_header};
 use saw_verify::Verifier;
 use std::alloc::Global;
 use std::thread::Threads;
@@ -88,7 +88,7 @@ pub fn read_block<T: Threads + Sync, V: Verifier>(
     requires { length bytes.now < 2 ^ 32 }
     ensures { ReadGives (V.accepts verifier.now) bytes.now result }
 {
-    let block = decode_block(alloc, bytes)?;
+    let block = decode_block_by(rt, alloc, bytes, workers)?;
     let header = decode_block_header(alloc, block.header.as_slice())?;
     let count = count_transactions(block.batches.as_slice())?;
     test_block(&block, &header, count)?;

@@ -18,7 +18,11 @@ pub enum Judged {
     Bad(BatchFault),
 }
 
-fn judge<V: Verifier>(alloc: Global, batch: &Batch, verifier: &V) -> Result<Judged, AllocError>
+fn judge_batch<V: Verifier>(
+    alloc: Global,
+    batch: &Batch,
+    verifier: &V,
+) -> Result<Judged, AllocError>
     requires { length batch.now.transactions < 2 ^ 32 }
     ensures { IfOk result (IsJudged (V.accepts verifier.now) batch.now) }
 {
@@ -40,7 +44,7 @@ pub(crate) fn judge_plainly<V: Verifier>(
 {
     let mut judged = Vec::new(alloc);
     for batch in batches {
-        judged.push(judge(alloc, batch, verifier)?)?;
+        judged.push(judge_batch(alloc, batch, verifier)?)?;
     }
     Ok(judged)
 }

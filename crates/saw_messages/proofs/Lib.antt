@@ -3,3 +3,4 @@ pub mod BatchesBack
 pub mod BlocksBack
 pub mod ReceiptsBack
 pub mod SameTxs
+pub mod Gathering

@@ -1,3 +1,4 @@
+pub mod Parts
 pub mod Transactions
 pub mod Batches
 pub mod Blocks
