@@ -1,6 +1,6 @@
 -- First holders of ids, and what they tell of a branch.
-use Rattle.std.proofs.Common.{◌≡◌, ℕ, Bool, true, false, cond, ◌||◌, List, [], ◌∷◌, ◌++◌, Option, Some, None, String, refl, sym, ap, subst}
-use Rattle.std.proofs.Common.{◌∙◌, ◌⊎◌, inl, inr, if◌then◌else◌, is_some, option_map, string_bytes, append_assoc, append-nil, true≢false}
+use Rattle.std.proofs.Common.{◌≡◌, ℕ, Bool, true, false, cond, ◌||◌, ◌&&◌, ◌==◌, List, [], ◌∷◌, ◌++◌, Option, Some, None, length, refl, sym, ap, subst}
+use Rattle.std.proofs.Common.{◌∙◌, ◌⊎◌, inl, inr, if◌then◌else◌, is_some, option_map, append_assoc, append-nil, true≢false}
 use Rattle.std.specs.Arc.{arc_value}
 use Rattle.std.specs.Cmp.Lexicographic.{nat_list_eq_equiv, same_text}
 use Rattle.std.specs.Global.{Global}
@@ -8,7 +8,9 @@ use Rattle.std.specs.List.{AllByRecursion}
 use Rattle.std.specs.Map.{lookup}
 use Rattle.std.specs.Str.{bytes_eq}
 use Rattle.std.specs.declared.sync.Arc.{Arc}
+use Rattle.std.proofs.lemmas.Bool.{and_parts}
 use Rattle.std.proofs.lemmas.List.Folds.{list_any-append}
+use Rattle.hex.specs.Hex.{encode_lower}
 use Rattle.indexmap.specs.IndexMap.{insert_entry}
 use Rattle.saw_context.proofs.Each.{all_append}
 use Rattle.saw_ids.specs.Seen.{is_among}
@@ -18,7 +20,8 @@ use Rattle.saw_plan.specs.SortingSteps.{both}
 use Rattle.saw_plan.specs.StaticRules.{Ids}
 use Rattle.saw_receipts.specs.Branches.{batch_ids, has_block}
 use Rattle.saw_receipts.specs.declared.block.BlockRecord.{BlockRecord}
-use Rattle.saw_journal.specs.KnownBranches.{AddHeld, AddsHeld, AreAccepted, FirstHolders, KnowsBranch, KnowsIds, KnowsWith, Told, holder_in, is_held}
+use Rattle.saw_journal.specs.IdKeys.{key_by, key_of, packed}
+use Rattle.saw_journal.specs.KnownBranches.{AddHeld, AddsHeld, AreAccepted, FirstHolders, KnowsBranch, KnowsIds, KnowsWith, Told, has_key, holder_in, is_held}
 use Rattle.saw_journal.specs.declared.branch_ids.BranchIds.{BranchIds}
 use Rattle.saw_journal.specs.declared.branch_ids.Holders.{Holders}
 
@@ -46,10 +49,10 @@ or_weaker false b c so is = ap (λ b. c || b) is ∙ or_true c
 -- ---- entries
 
 abbrev pub Entries : Type 0
-Entries = List (String Global × Arc (List ℕ) Global)
+Entries = List (List ℕ × Arc (List ℕ) Global)
 
-abbrev pub named : List ℕ → String Global → Bool
-named id = λ key. bytes_eq id (string_bytes key)
+abbrev pub named : List ℕ → List ℕ → Bool
+named id = λ key. has_key (key_of id) key
 
 abbrev pub first : Entries → List ℕ → Option (List ℕ)
 first es id = option_map arc_value (lookup (named id) es)
@@ -67,7 +70,7 @@ look_on : {X : Type 0} (here : Bool) (x : X) (whole before behind : Option X) �
 look_on true x whole before behind e = refl
 look_on false x whole before behind e = e
 
-lookup_append : (test : String Global → Bool) (es more : Entries) → lookup test (es ++ more) ≡ or_else (lookup test es) (lookup test more)
+lookup_append : (test : List ℕ → Bool) (es more : Entries) → lookup test (es ++ more) ≡ or_else (lookup test es) (lookup test more)
 lookup_append test [] more = refl
 lookup_append test (e ∷ es) more = look_on (test e.0) e.1 (lookup test (es ++ more)) (lookup test es) (lookup test more) (lookup_append test es more)
 
@@ -75,18 +78,54 @@ none_here : {X : Type 0} (here : Bool) (x : X) (others : Option X) → cond here
 none_here true x others e = absurd cc
 none_here false x others e = (refl, e)
 
--- an id that is not there is put last
-pub put_new : (es : Entries) (key : String Global) (value : Arc (List ℕ) Global) → lookup (named (string_bytes key)) es ≡ None
-    → insert_entry (λ a b. bytes_eq (string_bytes a) (string_bytes b)) es key value ≡ es ++ (key, value) ∷ []
+-- a key that is not there is put last
+pub put_new : (es : Entries) (key : List ℕ) (value : Arc (List ℕ) Global) → lookup (bytes_eq key) es ≡ None
+    → insert_entry bytes_eq es key value ≡ es ++ (key, value) ∷ []
 put_new [] key value none = refl
 put_new (e ∷ es) key value none =
-    let parts = none_here (bytes_eq (string_bytes key) (string_bytes e.0)) e.1 (lookup (named (string_bytes key)) es) none in
-    ap (λ b. if b then (e.0, value) ∷ es else e ∷ insert_entry (λ a b. bytes_eq (string_bytes a) (string_bytes b)) es key value) parts.0
+    let parts = none_here (bytes_eq key e.0) e.1 (lookup (bytes_eq key) es) none in
+    ap (λ b. if b then (e.0, value) ∷ es else e ∷ insert_entry bytes_eq es key value) parts.0
     ∙ ap (λ rest. e ∷ rest) (put_new es key value parts.1)
+
+none_named : (es : Entries) → lookup (λ key. has_key None key) es ≡ None
+none_named [] = refl
+none_named (e ∷ es) = none_named es
+
+-- an id without a key has no holder
+pub without_key : (es : Entries) (id : List ℕ) → key_of id ≡ None → first es id ≡ None
+without_key es id none = ap (λ at. option_map arc_value (lookup (λ key. has_key at key) es)) none ∙ ap (option_map arc_value) (none_named es)
 
 pub none_of : {X : Type 0} (at : Option X) → false ≡ is_some at → at ≡ None
 none_of None none = refl
 none_of (Some x) none = absurd cc
+
+-- ---- keys
+
+so_written : (so : Bool) (id bytes key : List ℕ) → (so ≡ true → bytes_eq id (encode_lower bytes) ≡ true) → (if so then Some bytes else None) ≡ Some key
+    → id ≡ encode_lower key
+so_written true id bytes key is e =
+    let it : bytes ≡ key = cc in same_text id (encode_lower bytes) (sym (is refl)) ∙ ap (λ bytes. encode_lower bytes) it
+so_written false id bytes key is e = absurd cc
+
+-- a key tells its id
+id_of_key : (id bytes key : List ℕ) → key_by id bytes ≡ Some key → id ≡ encode_lower key
+id_of_key id bytes key e =
+    so_written (length id == 128 && bytes_eq id (encode_lower bytes)) id bytes key
+    (λ so. (and_parts (length id == 128) (bytes_eq id (encode_lower bytes)) so).1) e
+
+module _ (id q key : List ℕ) (key_is : key_of id ≡ Some key) (apart : bytes_eq id q ≡ false) where
+  not_its : (its : List ℕ) (same : Bool) → key_of q ≡ Some its → bytes_eq its key ≡ same → bytes_eq its key ≡ false
+  not_its its true other e =
+      let is : id ≡ q =
+      id_of_key id (packed id) key key_is ∙ ap (λ bytes. encode_lower bytes) (sym (same_text its key (sym e)))
+      ∙ sym (id_of_key q (packed q) its other) in
+      absurd (true≢false (sym (nat_list_eq_equiv.refl id) ∙ ap (bytes_eq id) is ∙ apart))
+  not_its its false other e = e
+
+  -- another id has another key, or none
+  other_key : (at : Option (List ℕ)) → key_of q ≡ at → has_key at key ≡ false
+  other_key None is = refl
+  other_key (Some its) is = not_its its (bytes_eq its key) is refl
 
 -- ---- one id more
 
@@ -125,7 +164,7 @@ one_transaction_more holders kept set there id inserts knows = record {
   transactions = by_others (holder_in holders.transactions) knows.chain there.transactions kept.transactions set id inserts knows.transactions;
 }
 
-module _ (es : Entries) (key : String Global) (value : Arc (List ℕ) Global) (id block : List ℕ) (key_is : string_bytes key ≡ id)
+module _ (es : Entries) (key : List ℕ) (value : Arc (List ℕ) Global) (id block : List ℕ) (key_is : key_of id ≡ Some key)
     (value_is : arc_value value ≡ block) (none : lookup (named id) es ≡ None) where
   abbrev grown : Entries
   grown = es ++ (key, value) ∷ []
@@ -134,13 +173,13 @@ module _ (es : Entries) (key : String Global) (value : Arc (List ℕ) Global) (i
   its_holder =
       ap (option_map arc_value) (lookup_append (named id) es ((key, value) ∷ [])
       ∙ ap (λ (at : Option (Arc (List ℕ) Global)). or_else at (lookup (named id) ((key, value) ∷ []))) none
-      ∙ ap (λ b. cond b (Some value) None) (ap (bytes_eq id) key_is ∙ nat_list_eq_equiv.refl id))
+      ∙ ap (λ b. cond b (Some value) None) (ap (λ its. has_key its key) key_is ∙ nat_list_eq_equiv.refl key))
       ∙ ap (λ (block : List ℕ). Some block) value_is
 
   other_holder : (q : List ℕ) → bytes_eq id q ≡ false → first grown q ≡ first es q
   other_holder q apart =
       ap (option_map arc_value) (lookup_append (named q) es ((key, value) ∷ [])
-      ∙ ap (λ b. or_else (lookup (named q) es) (cond b (Some value) None)) (ap (bytes_eq q) key_is ∙ nat_list_eq_equiv.symm q id ∙ apart)
+      ∙ ap (λ b. or_else (lookup (named q) es) (cond b (Some value) None)) (other_key id q key key_is apart (key_of q) refl)
       ∙ or_none (lookup (named q) es))
 
   module _ (chain ids : List (List ℕ)) (set : IdSet) (here : is_among chain block ≡ true) (told : Told (first es) chain set ids) where
@@ -216,7 +255,7 @@ module _ {S : Type 0} (block : List ℕ) where
   adds_none : (old new : FirstHolders S) → new.entries ≡ old.entries → AddsHeld block old new
   adds_none old new same = record { more = []; grown = same ∙ sym (append-nil old.entries); are = tt }
 
-  pub adds_one : (old new : FirstHolders S) (key : String Global) (value : Arc (List ℕ) Global) → new.entries ≡ old.entries ++ (key, value) ∷ []
+  pub adds_one : (old new : FirstHolders S) (key : List ℕ) (value : Arc (List ℕ) Global) → new.entries ≡ old.entries ++ (key, value) ∷ []
       → arc_value value ≡ block → AddsHeld block old new
   adds_one old new key value put is = record { more = (key, value) ∷ []; grown = put; are = (is, tt) }
 
@@ -224,7 +263,7 @@ module _ {S : Type 0} (block : List ℕ) where
   adds_both old mid new one two = record {
     more = one.more ++ two.more;
     grown = two.grown ∙ ap (λ es. es ++ two.more) one.grown ∙ append_assoc old.entries one.more two.more;
-    are = all_append (λ (entry : String Global × Arc (List ℕ) Global). arc_value entry.1 ≡ block) one.more two.more one.are two.are;
+    are = all_append (λ (entry : List ℕ × Arc (List ℕ) Global). arc_value entry.1 ≡ block) one.more two.more one.are two.are;
   }
 
 pub add_none : (block : List ℕ) (old : Holders) → AddHeld block old old
@@ -252,7 +291,7 @@ is_it : (block : List ℕ) (here : Bool) (one value : Arc (List ℕ) Global) (ot
 is_it block true one value others is later e = let same : one ≡ value = cc in subst (λ (value : Arc (List ℕ) Global). arc_value value ≡ block) same is
 is_it block false one value others is later e = later e
 
-all_it : (block : List ℕ) (test : String Global → Bool) (es : Entries) → AllByRecursion (λ entry. arc_value entry.1 ≡ block) es
+all_it : (block : List ℕ) (test : List ℕ → Bool) (es : Entries) → AllByRecursion (λ entry. arc_value entry.1 ≡ block) es
     → (value : Arc (List ℕ) Global) → lookup test es ≡ Some value → arc_value value ≡ block
 all_it block test [] are value e = absurd cc
 all_it block test (e ∷ es) are value is = is_it block (test e.0) e.1 value (lookup test es) are.0 (all_it block test es are.1 value) is

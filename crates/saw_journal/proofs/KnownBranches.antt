@@ -112,7 +112,7 @@ have_push all holders (block ∷ blocks) new [] known have knows = absurd have
 have_push all holders (block ∷ blocks) new (one ∷ ids) known have knows = (have.0, have_push all holders blocks new ids known have.1 knows)
 
 -- all have their ids, and the new block those of the branch before it and its own
-have_more : (blocks : List BlockRecord) (new : BlockRecord) (before after : Holders) (ids : List BranchIds) (known : BranchIds)
+pub have_more : (blocks : List BlockRecord) (new : BlockRecord) (before after : Holders) (ids : List BranchIds) (known : BranchIds)
     → has_block blocks new.id ≡ false → AddHeld new.id before after → HaveIds blocks before ids
     → KnowsBranch (blocks ++ new ∷ []) after known (both (ids_in (branch blocks new.previous)) (batch_ids new.batches))
     → HaveIds (blocks ++ new ∷ []) after (ids ++ known ∷ [])
@@ -125,12 +125,6 @@ have_more blocks new before after ids known fresh adds have knows = record {
       (subst (λ (there : Ids). KnowsBranch (blocks ++ new ∷ []) after known there)
       (sym (ap ids_in (branch_of-new (λ (block : BlockRecord). block) blocks new) ∙ ids_push_block (branch blocks new.previous) new)) knows);
 }
-
-pub have_put : (blocks all : List BlockRecord) (new : BlockRecord) (before after : Holders) (ids later : List BranchIds) (known : BranchIds)
-    → all ≡ blocks ++ new ∷ [] → later ≡ ids ++ known ∷ [] → has_block blocks new.id ≡ false → AddHeld new.id before after → HaveIds blocks before ids
-    → KnowsBranch (blocks ++ new ∷ []) after known (both (ids_in (branch blocks new.previous)) (batch_ids new.batches)) → HaveIds all after later
-have_put blocks all new before after ids later known put pushed fresh adds have knows =
-    rw (put, pushed) (have_more blocks new before after ids known fresh adds have knows)
 
 keep_same : (all : List BlockRecord) (before after : Holders) (blocks : List BlockRecord) (ids : List BranchIds)
     → after.batches.entries ≡ before.batches.entries → after.transactions.entries ≡ before.transactions.entries → KeepBranches all before blocks ids

@@ -16,6 +16,7 @@ pub mod Accepting
 pub mod OneByOne
 pub mod Branching
 pub mod FirstHolders
+pub mod Packing
 pub mod KnownBranches
 pub mod Leaving
 pub mod Passing

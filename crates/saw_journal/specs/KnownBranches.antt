@@ -1,10 +1,11 @@
 -- What is kept of the ids of the branches of accepted blocks.
-use Rattle.std.specs.Prelude.{◌≡◌, ℕ, Bool, true, false, ◌||◌, List, [], ◌∷◌, ◌++◌, map, Option, Some, None, String, option_map}
+use Rattle.std.specs.Prelude.{◌≡◌, ℕ, Bool, true, false, ◌||◌, List, [], ◌∷◌, ◌++◌, map, Option, Some, None, option_map}
 use Rattle.std.specs.Arc.{arc_value}
 use Rattle.std.specs.Global.{Global}
 use Rattle.std.specs.List.{AllByRecursion, flat_map}
+use Rattle.std.specs.Str.{bytes_eq}
 use Rattle.std.specs.declared.sync.Arc.{Arc}
-use Rattle.indexmap.specs.IndexMap.{IndexMap, get_by_text}
+use Rattle.indexmap.specs.IndexMap.{IndexMap, get_by}
 use Rattle.saw_ids.specs.Seen.{is_among}
 use Rattle.saw_ids.specs.Sets.{HasIds}
 use Rattle.saw_ids.specs.declared.set.IdSet.{IdSet}
@@ -13,17 +14,23 @@ use Rattle.saw_plan.specs.BatchShapes.{ids_of}
 use Rattle.saw_plan.specs.StaticRules.{Ids}
 use Rattle.saw_receipts.specs.declared.block.BlockRecord.{BlockRecord}
 use Rattle.saw_receipts.specs.Branches.{branch_of, has_block, ids_in}
+use Rattle.saw_journal.specs.IdKeys.{key_of}
 use Rattle.saw_journal.specs.declared.branch_ids.BranchIds.{BranchIds}
 use Rattle.saw_journal.specs.declared.branch_ids.BranchView.{BranchView}
 use Rattle.saw_journal.specs.declared.branch_ids.Holders.{Holders}
 
--- the id of the first holder of each id
+-- the id of the first holder of each key
 abbrev pub FirstHolders : Type 0 → Type 0
-FirstHolders S = IndexMap (String Global) (Arc (List ℕ) Global) S
+FirstHolders S = IndexMap (List ℕ) (Arc (List ℕ) Global) S
 
--- the first holder of an id
+-- whether an id has this key
+abbrev pub has_key : Option (List ℕ) → List ℕ → Bool
+has_key None key = false
+has_key (Some its) key = bytes_eq its key
+
+-- the first holder of an id, if its key is there
 abbrev pub holder_in : {S : Type 0} → FirstHolders S → List ℕ → Option (List ℕ)
-holder_in holders id = option_map arc_value (get_by_text holders id)
+holder_in holders id = option_map arc_value (get_by (has_key (key_of id)) holders)
 
 -- whether the first holder of an id is one of these blocks
 abbrev pub is_held : Option (List ℕ) → List (List ℕ) → Bool
@@ -80,7 +87,7 @@ pub record HaveIds (all : List BlockRecord) (holders : Holders) (kept : List Bra
 
 -- there are more first holders, behind those before, which are all this block
 pub record AddsHeld {S : Type 0} (block : List ℕ) (old new : FirstHolders S) : Type 0 where
-  pub more : List (String Global × Arc (List ℕ) Global)
+  pub more : List (List ℕ × Arc (List ℕ) Global)
   pub grown : new.entries ≡ old.entries ++ more
   pub are : AllByRecursion (λ entry. arc_value entry.1 ≡ block) more
 

@@ -9,6 +9,7 @@ pub mod Left
 pub mod Ledger
 pub mod Clashing
 pub mod Laws
+pub mod IdKeys
 pub mod KnownBranches
 pub mod Passing
 pub mod Standing

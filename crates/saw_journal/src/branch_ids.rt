@@ -9,6 +9,7 @@ ghost use Rattle.saw_receipts.specs.declared.block.BlockRecord.{BlockRecord};
 ghost use Rattle.saw_journal.specs.declared.branch_ids.Holders.{Holders};
 ghost use Rattle.saw_journal.specs.KnownBranches.{HaveIds, KnowsBranch, ViewKnows, holder_in, is_held};
 
+use crate::id_key::IdKey;
 use indexmap::IndexMap;
 use saw_ids::IdSet;
 use saw_plan::KnownIds;
@@ -17,8 +18,8 @@ use saw_wire::Text;
 use std::alloc::{AllocError, Global};
 use std::sync::Arc;
 
-/// Of each id the id of the first accepted block that holds it.
-pub(crate) type FirstHolders = IndexMap<String, Arc<Text>>;
+/// Of each id that has a key the id of the first accepted block that holds it.
+pub(crate) type FirstHolders = IndexMap<IdKey, Arc<Text>>;
 
 /// The first holders of the ids of batches, and of transactions.
 pub(crate) struct Holders {
@@ -66,7 +67,10 @@ pub(crate) struct BranchView<'a> {
 fn is_held(holders: &FirstHolders, blocks: &IdSet, id: &Text) -> bool
     ensures { (chain : List (List ℕ)) → HasIds blocks.now chain → result ≡ is_held (holder_in holders.now id.now) chain }
 {
-    match holders.get(id.as_str()) {
+    let Some(key) = IdKey::of(id) else {
+        return false;
+    };
+    match holders.get(&key) {
         None => false,
         Some(block) => blocks.contains(block),
     }

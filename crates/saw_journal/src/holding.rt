@@ -11,6 +11,7 @@ ghost use Rattle.indexmap.specs.IndexMap.{index_map_len};
 ghost use Rattle.saw_journal.specs.KnownBranches.{AddHeld, AddsHeld, AreAccepted, KnowsBranch, KnowsWith, Told, holder_in};
 
 use crate::branch_ids::{BranchIds, FirstHolders, Holders};
+use crate::id_key::IdKey;
 use saw_ids::IdSet;
 use saw_messages::Receipt;
 use saw_receipts::{BatchRecord, BlockRecord};
@@ -31,10 +32,12 @@ fn hold(
         → Told (holder_in holders.new) chain others.new (ids ++ id.now ∷ [])) }
     ensures adds { AddsHeld (arc_value block.now) holders.old holders.new }
 {
-    if holders.contains_key(id.as_str()) {
+    let Some(key) = IdKey::of(id) else {
+        return others.insert(alloc, id);
+    };
+    if holders.contains_key(&key) {
         return others.insert(alloc, id);
     }
-    let key = String::from_str(alloc, id.as_str())?;
     holders.insert(key, Arc::try_clone(block)?)?;
     Ok(())
 }

@@ -109,51 +109,32 @@ fn push_last(ids: &mut Vec<BranchIds>, new: BranchIds)
     let _ = ids.push(new);
 }
 
-// The same but for the holders: after a fault they may have more of the new block.
-fn put_behind<H: NodeHasher>(
+// The ids of the branch that the block ends; the holders get its own too. Want of memory leaves the holders.
+fn held_behind(
     alloc: Global,
-    blocks: &mut BlockMap,
+    blocks: &BlockMap,
     holders: &mut Holders,
-    ids: &mut Vec<BranchIds>,
-    state: &mut State<H>,
-    new: New,
-) -> Result<(), JournalFault>
-    requires fresh { has_block (values blocks.old) new.block.id ≡ false }
-    requires ids { map string_bytes (keys blocks.old) ≡ map (λ block. block.id) (values blocks.old) }
-    requires kept { HaveIds (values blocks.old) holders.old ids.old.items }
-    requires known { IsSome (state_at state.old new.before) }
-    requires rising { AreRising new.changes }
-    requires prepared { IsPreparedFor H.hash_of state.old
-        (map_after (map_at state.old new.before) new.changes) new.prepared }
-    ensures joined { OnOk result (values blocks.new ≡ values blocks.old ++ new.block ∷ []) }
-    ensures ids { OnOk result (
-        map string_bytes (keys blocks.new) ≡ map (λ block. block.id) (values blocks.new)) }
-    ensures kept { OnOk result (HaveIds (values blocks.new) holders.new ids.new.items) }
-    ensures state { OnOk result (state.new ≡ knows H.hash_of state.old
-        (map_after (map_at state.old new.before) new.changes)) }
-    ensures stays { OnOk result (Stays state.old state.new) }
-    ensures err_blocks { OnErr result ((values blocks.new ≡ values blocks.old)
-        × (map string_bytes (keys blocks.new) ≡ map string_bytes (keys blocks.old))) }
-    ensures err_holders { OnErr result (AddHeld new.block.id holders.old holders.new) }
-    ensures err_ids { OnErr result (ids.new.items ≡ ids.old.items) }
-    ensures err_state { OnErr result (state.new ≡ state.old) }
-    ensures fault { IfErr result (λ e. e ≡ JournalFault.OutOfMemory) }
+    ids: &[BranchIds],
+    block: &BlockRecord,
+) -> Result<BranchIds, AllocError>
+    requires fresh { has_block (values blocks.now) block.now.id ≡ false }
+    requires ids { map string_bytes (keys blocks.now) ≡ map (λ block. block.id) (values blocks.now) }
+    requires kept { HaveIds (values blocks.now) holders.old ids.now }
+    ensures kept { IfOk result (λ kept.
+        HaveIds (values blocks.now ++ block.now ∷ []) holders.new (ids.now ++ kept ∷ [])) }
+    ensures adds { OnOk result (AddHeld block.now.id holders.old holders.new) }
+    ensures err { OnErr result ((holders.new.batches.entries ≡ holders.old.batches.entries)
+        × (holders.new.transactions.entries ≡ holders.old.transactions.entries)) }
 {
-    let New {
-        block,
-        before,
-        changes,
-        prepared,
-    } = new;
-    let mut kept = ids_behind(alloc, blocks, ids.as_slice(), &block.previous)?;
-    hold_block(alloc, holders, &mut kept, &block)?;
-    let key = String::from_str(alloc, block.id.as_str())?;
-    blocks.reserve(1)?;
-    ids.reserve(1)?;
-    state.keep(&before, changes.as_slice(), prepared)?;
-    put_last(blocks, key, block);
-    push_last(ids, kept);
-    Ok(())
+    let mut kept = ids_behind(alloc, blocks, ids, &block.previous)?;
+    let before = counts(holders);
+    match hold_block(alloc, holders, &mut kept, block) {
+        Ok(()) => Ok(kept),
+        Err(fault) => {
+            cut(holders, before);
+            Err(fault)
+        }
+    }
 }
 
 // A fault leaves the blocks, the ids of their branches and the states.
@@ -187,12 +168,24 @@ fn put<H: NodeHasher>(
     ensures err_state { OnErr result (state.new ≡ state.old) }
     ensures fault { IfErr result (λ e. e ≡ JournalFault.OutOfMemory) }
 {
-    let before = counts(holders);
-    let done = put_behind(alloc, blocks, holders, ids, state, new);
-    if done.is_err() {
-        cut(holders, before);
+    let New {
+        block,
+        before,
+        changes,
+        prepared,
+    } = new;
+    let key = String::from_str(alloc, block.id.as_str())?;
+    blocks.reserve(1)?;
+    ids.reserve(1)?;
+    let held = counts(holders);
+    let kept = held_behind(alloc, blocks, holders, ids.as_slice(), &block)?;
+    if let Err(e) = state.keep(&before, changes.as_slice(), prepared) {
+        cut(holders, held);
+        return Err(e.into());
     }
-    done
+    put_last(blocks, key, block);
+    push_last(ids, kept);
+    Ok(())
 }
 
 impl<H: NodeHasher> Journal<H> {

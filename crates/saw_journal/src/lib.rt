@@ -6,6 +6,7 @@ mod branch_ids;
 mod fault;
 mod head;
 mod holding;
+mod id_key;
 mod journal;
 mod judge;
 mod laws;
