@@ -1,5 +1,5 @@
 -- What is read of a source's next frame.
-use Rattle.std.proofs.Common.{◌≡◌, ◌==◌, ℕ, Bool, true, false, List, [], ◌∷◌, length, take, drop, Option, Some, None, Result, Ok, Err, refl, sym, ap, ◌∙◌, arith}
+use Rattle.std.proofs.Common.{◌≡◌, ◌==◌, ℕ, Bool, true, false, List, [], ◌∷◌, length, take, drop, Option, Some, None, Result, Ok, Err, refl, sym, ap, ◌∙◌, inl, arith}
 use Rattle.std.specs.Prelude.{IfSome, nat_lt, if◌then◌else◌}
 use Rattle.std.specs.Int.{from_be_bytes, w32}
 use Rattle.std.specs.Global.{Vec}
@@ -75,8 +75,8 @@ module _ (hash : List ℕ → List ℕ) where
       by_bytes (Some bytes) fault = (have, want, fault)
   read_fault old new written heads result (frames.TooLong n) is gives taken takes =
       (gave_fault old new result (frames.TooLong n) is gives, refl, refl)
-  read_fault old new written heads result frames.ReadFailed is gives taken takes = ([], 0, Appends-nil written, ([], sym (append-nil heads)))
-  read_fault old new written heads result frames.OutOfMemory is gives taken takes = ([], 0, Appends-nil written, ([], sym (append-nil heads)))
+  read_fault old new written heads result frames.ReadFailed is gives taken takes = inl (refl, ([], sym (append-nil heads)))
+  read_fault old new written heads result frames.OutOfMemory is gives taken takes = inl (refl, ([], sym (append-nil heads)))
 
   -- a source without a frame has ended
   pub read_none : (old new written : Option (List ℕ)) (heads : List Head) (result : Result (Option (Vec ℕ)) FrameFault)

@@ -1,5 +1,5 @@
 -- A reader is served one question after another.
-use Rattle.std.proofs.Common.{◌≡◌, ℕ, ◌+◌, List, [], ◌∷◌, ◌++◌, length, Option, Some, None, refl, sym, ap, subst, ◌∙◌, inl, inr}
+use Rattle.std.proofs.Common.{◌≡◌, ◌<◌, ◌≤◌, ℕ, ◌+◌, List, [], ◌∷◌, ◌++◌, length, Option, Some, None, refl, sym, ap, subst, ◌∙◌, inl, inr, arith}
 use Rattle.std.specs.Prelude.{IfSome}
 use Rattle.std.specs.List.{flat_map}
 use Rattle.std.specs.Io.KnownBytes.{Appends, IsAtEnd}
@@ -66,13 +66,14 @@ module _ (hash : List ℕ → List ℕ) where
       let kept : new ≡ Some left.0 = rw left.1 at same in
       subst IsAtEnd (sym (kept ∙ ap (λ rest. Some rest) empty)) refl
 
-  pub at_its_end : (old between new : Moment) (count : ℕ) → HasServed old between count
+  pub at_its_end : (old between new : Moment) (count : ℕ) → HasServed old between count → count ≤ max_answers
       → IfSome between.unread (λ bytes. bytes ≡ []) × Serves hash between new [] [] → IsServed hash old new count
-  at_its_end old between new count has last = record {
+  at_its_end old between new count has few last = record {
     questions = has.questions ++ [];
     texts = has.texts ++ [];
     serves = serves-append old between new has.questions [] has.texts [] has.serves last.1;
     count_is = has.count_is ∙ ap length (sym (append-nil has.questions));
+    few = few;
     done = inl (ended old.unread between.unread new.unread has.questions has.serves.reads last.0 last.1.reads);
   }
 
@@ -82,14 +83,16 @@ module _ (hash : List ℕ → List ℕ) where
     texts = has.texts;
     serves = has.serves;
     count_is = has.count_is;
+    few = omega (arith, most);
     done = inr most;
   }
 
-  pub until_fault : (old between new : Moment) (count : ℕ) (fault : ReaderFault) → HasServed old between count → IsFault hash between new fault
-      → IsServedUntil hash old new fault
-  until_fault old between new count fault has is = record {
+  pub until_fault : (old between new : Moment) (count : ℕ) (fault : ReaderFault) → HasServed old between count → count < max_answers
+      → IsFault hash between new fault → IsServedUntil hash old new fault
+  until_fault old between new count fault has few is = record {
     questions = has.questions;
     texts = has.texts;
+    few = omega (arith, has.count_is, few);
     between = between;
     serves = has.serves;
     fault_is = is;

@@ -1,5 +1,5 @@
 -- What a reader asks, and what it is told.
-use Rattle.std.specs.Prelude.{◌≡◌, ◌⊎◌, ℕ, Bool, true, false, List, [], ◌∷◌, ◌++◌, length, take, codes, Option, Some, None, IfSome, Result, Ok, Err}
+use Rattle.std.specs.Prelude.{◌≡◌, ◌⊎◌, ◌<◌, ◌≤◌, ℕ, Bool, true, false, List, [], ◌∷◌, ◌++◌, length, take, codes, Option, Some, None, IfSome, Result, Ok, Err}
 use Rattle.std.specs.Fmt.{decimal}
 use Rattle.std.specs.Io.KnownBytes.{Appends, IsAtEnd}
 use Rattle.std.specs.List.{flat_map}
@@ -93,23 +93,32 @@ module _ (hash : List ℕ → List ℕ) where
     pub texts : List (List ℕ)
     pub serves : Serves old new questions texts
     pub count_is : count ≡ length questions
+    pub few : count ≤ max_answers
     pub done : IfSome old.unread (λ bytes. IsAtEnd new.unread) ⊎ (count ≡ max_answers)
 
-  -- A fault of the bytes is the one that they have. Else one more question may be taken, and a prefix of an answer
-  -- written.
+  -- nothing was written; or one more question was read, and its answer written in part
+  abbrev pub Stops : Moment → Moment → Type 0
+  Stops old new =
+      ((new.written ≡ old.written) × StartsWith new.heads old.heads)
+      ⊎ ((question : List ℕ) × (text : List ℕ) × Reads (question ∷ []) old.unread new.unread
+      × IsAnswer old.heads new.heads question text
+      × ((n : ℕ) × (n < length (frame text)) × Appends old.written new.written (take n (frame text))))
+
+  -- A fault of the bytes is the one that they have, and nothing was written. Else it is as `Stops` says.
   abbrev pub IsFault : Moment → Moment → ReaderFault → Type 0
   IsFault old new readers.Cut =
       IfSome old.unread (λ bytes. (have : ℕ) × (want : ℕ) × (frame_at max_question bytes ≡ Err (Truncated have want)))
       × IsAtEnd new.unread × (new.written ≡ old.written) × (new.heads ≡ old.heads)
   IsFault old new (readers.TooLong n) =
       IfSome old.unread (λ bytes. frame_at max_question bytes ≡ Err (TooLong n)) × (new.written ≡ old.written) × (new.heads ≡ old.heads)
-  IsFault old new readers.Failed = (text : List ℕ) × (n : ℕ) × Appends old.written new.written (take n (frame text)) × StartsWith new.heads old.heads
-  IsFault old new readers.OutOfMemory = (text : List ℕ) × (n : ℕ) × Appends old.written new.written (take n (frame text)) × StartsWith new.heads old.heads
+  IsFault old new readers.Failed = Stops old new
+  IsFault old new readers.OutOfMemory = Stops old new
 
   -- it was served up to a fault
   pub record IsServedUntil (old new : Moment) (fault : ReaderFault) : Type 0 where
     pub questions : List (List ℕ)
     pub texts : List (List ℕ)
+    pub few : length questions < max_answers
     pub between : Moment
     pub serves : Serves old between questions texts
     pub fault_is : IsFault between new fault

@@ -1,11 +1,12 @@
 //! The state of a head, for readers.
 
-ghost use Rattle.std.specs.Prelude.{◌≡◌, IfOk};
-ghost use Rattle.saw_address.specs.Maps.{no_entries, value_at};
+ghost use Rattle.std.specs.Prelude.{◌≡◌, IfOk, map};
+ghost use Rattle.std.specs.FinMap as finite;
+ghost use Rattle.saw_address.specs.Maps.{AreAddresses, no_entries, value_at};
 ghost use Rattle.saw_context.specs.Outcome.{map_after};
 ghost use Rattle.saw_context.specs.Views.{over};
 ghost use Rattle.saw_node.specs.Trees.{root_of_map};
-ghost use Rattle.saw_live.specs.Snapshots.{entry_for};
+ghost use Rattle.saw_live.specs.Snapshots.{entry_for, mark_for};
 
 use saw_address::Address;
 use saw_context::{Layers, ViewEntry};
@@ -22,6 +23,7 @@ pub struct Snapshot<H: NodeHasher> {
     pub(crate) layers: Layers,
     pub(crate) of: PhantomData<H>,
     ghost rooted: { root_of_map H.hash_of (over no_entries layers) ≡ root },
+    ghost whole: { AreAddresses (finite.entries (over no_entries layers)) },
 }
 
 impl<H: NodeHasher> Snapshot<H> {
@@ -58,6 +60,22 @@ fn entry_for(value: Option<Bytes>) -> Option<ViewEntry>
     }
 }
 
+// The addresses of changes, with what is to stand there.
+fn marks_for(
+    alloc: Global,
+    changes: Vec<Change>,
+) -> Result<Vec<(Address, Option<ViewEntry>)>, AllocError>
+    ensures { IfOk result (λ marks. marks.items ≡ map mark_for changes.items) }
+{
+    let mut marks = Vec::new(alloc);
+    marks.reserve(changes.len())?;
+    for change in changes {
+        let Change { address, value } = change;
+        marks.push((address, entry_for(value)))?;
+    }
+    Ok(marks)
+}
+
 /// The layers with changes on top.
 pub(crate) fn with_changes(
     alloc: Global,
@@ -66,10 +84,7 @@ pub(crate) fn with_changes(
 ) -> Result<Layers, AllocError>
     ensures { IfOk result (λ made. over no_entries made ≡ map_after (over no_entries layers.now) changes.items) }
 {
-    let mut made = layers.try_share(alloc)?;
-    for change in changes {
-        let Change { address, value } = change;
-        made = made.with(alloc, address, entry_for(value))?;
-    }
+    let marks = marks_for(alloc, changes)?;
+    let made = layers.with_all(alloc, marks)?;
     Ok(made)
 }

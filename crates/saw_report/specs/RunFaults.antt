@@ -1,4 +1,4 @@
--- What ends a run before its answer is whole: the status of each fault, and its line on the notes.
+-- Faults that end a run: the status of each, and its line on the notes.
 use Rattle.std.specs.Prelude.{ℕ, Bool, true, false, List, [], ◌∷◌, ◌++◌, codes}
 use Rattle.hex.specs.Hex.{encode_lower}
 use Rattle.saw_io.specs.declared.fault.FrameFault.{FrameFault}

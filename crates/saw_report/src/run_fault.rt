@@ -1,4 +1,4 @@
-//! What ends a run before its answer is whole.
+//! Faults that end a run.
 
 ghost use Rattle.std.specs.Prelude.{◌≡◌};
 ghost use Rattle.saw_report.specs.declared.run_fault.RunFault.TheVariants.{Memory};
@@ -9,7 +9,7 @@ use saw_node::Node;
 use saw_verify::AttestFault;
 use std::alloc::AllocError;
 
-/// What ends a run before its answer is whole. Each has its line on the notes.
+/// A fault that ends a run. Each has its line on the notes.
 #[derive(Debug, Drop)]
 pub enum RunFault {
     /// The arguments are invalid.
@@ -29,11 +29,11 @@ pub enum RunFault {
     /// Two different nodes of one hash were met.
     Collision { kept: Node, given: Node },
     Memory,
-    /// There is no file of the attestation list.
+    /// There is no file of a name that the arguments give.
     FileMissing,
     FileTooLong,
     FileFailed,
-    /// The first line that is no attestation, counted from 1.
+    /// The first bad line of an attestation list or of a proof, counted from 1.
     BadLine { line: u32 },
     /// The batch list does not decode.
     BadList,

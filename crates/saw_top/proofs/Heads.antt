@@ -1,9 +1,9 @@
 -- What one who follows a run without external processors was told, once the run has ended.
-use Rattle.std.proofs.Common.{◌≡◌, ◌⊎◌, inl, inr, ℕ, ◌≤◌, Bool, true, false, List, [], length, take, Option, Some, None, Result, Ok, Err, refl, sym, ap, subst, arith}
+use Rattle.std.proofs.Common.{◌≡◌, ◌⊎◌, inl, inr, ℕ, ◌==◌, ◌∙◌, Bool, true, false, List, [], ◌∷◌, length, take, Option, Some, None, Result, Ok, Err, refl, sym, ap, subst, arith}
 use Rattle.std.specs.Prelude.{IfSome, IsSome, option_map}
 use Rattle.std.proofs.lemmas.List.{take_all}
+use Rattle.std.specs.List.{list_any}
 use Rattle.saw_context.specs.Outcome.{Processors}
-use Rattle.saw_faults.specs.Counts.{Rose}
 use Rattle.saw_io.specs.Shelf.{Files}
 use Rattle.saw_live.specs.Words.{Head}
 use Rattle.saw_node.specs.Contents.{Node}
@@ -12,10 +12,10 @@ use Rattle.saw_report.specs.declared.run_fault.RunFault.{RunFault}
 use Rattle.saw_report.specs.declared.run_fault.RunFault.TheVariants as runs
 use Rattle.saw_top.specs.Answers.{Prepared, prepared, task_by}
 use Rattle.saw_top.specs.Command.{Judge, Wish}
-use Rattle.saw_top.specs.Following.{Follows, HearsAll, HearsBy, HearsJob, HearsUpTo, IsHeard, cuts, heads_for, heads_said}
+use Rattle.saw_top.specs.Following.{Follows, HearsAll, HearsBy, HearsJob, HearsUpTo, IsHeard, MayCut, cuts, heads_for, heads_said}
 use Rattle.saw_top.specs.Headline.{DoesAsked, DoesJob, HasCause, TellsEnd, TellsFault}
 use Rattle.saw_top.specs.History.{History}
-use Rattle.saw_top.specs.Outside.{End, Outside, SomeFailed}
+use Rattle.saw_top.specs.Outside.{End, Outside}
 use Rattle.saw_top.specs.Stream.{stream_of}
 use Rattle.saw_top.specs.World.{Accepts, AreWays, Ways, World, processors_alone, serially, world_with}
 use Rattle.saw_top.specs.declared.task.Task.{Task}
@@ -39,7 +39,11 @@ heads_told ways may (Ok made) bytes =
 
 module _ (before after : Outside) (notes : End (List ℕ)) (status : ℕ) where
   abbrev Cut : Type 0
-  Cut = (status ≡ 7) ⊎ ((status ≡ 9) ⊎ SomeFailed before after)
+  Cut = MayCut before after status
+
+  -- a status that may come before all blocks were judged
+  by_code : (code : ℕ) → list_any (λ other. other == code) (4 ∷ 5 ∷ 6 ∷ 7 ∷ 9 ∷ []) ≡ true → status ≡ code → Cut
+  by_code code may is = inl (ap (λ code. list_any (λ other. other == code) (4 ∷ 5 ∷ 6 ∷ 7 ∷ 9 ∷ [])) is ∙ may)
 
   abbrev noted : Outside
   noted = record after { notes = notes }
@@ -50,36 +54,50 @@ module _ (before after : Outside) (notes : End (List ℕ)) (status : ℕ) where
   seven (inr (n, less, cut, inr code)) = code
 
   nine : (kept given : Node) → TellsFault (runs.Collision kept given) notes after.notes status → Cut
-  nine kept given (inl all) = inr (inl all.0)
-  nine kept given (inr (n, less, cut, inl failed)) = inr (inl failed.0)
-  nine kept given (inr (n, less, cut, inr (inl code))) = inr (inl code)
-  nine kept given (inr (n, less, cut, inr (inr code))) = inl code.0
+  nine kept given (inl all) = by_code 9 refl all.0
+  nine kept given (inr (n, less, cut, inl failed)) = by_code 9 refl failed.0
+  nine kept given (inr (n, less, cut, inr (inl code))) = by_code 9 refl code
+  nine kept given (inr (n, less, cut, inr (inr code))) = by_code 7 refl code.0
 
-  wrote : Rose before.output.faults after.output.faults ⊎ Rose before.notes.faults notes.faults → notes.faults ≤ after.notes.faults → Cut
-  wrote (inl rose) later = inr (inr (inr (inl rose)))
-  wrote (inr rose) later = inr (inr (inr (inr (inl (omega (arith, later, rose))))))
+  four : TellsFault runs.Read notes after.notes status → status ≡ 4
+  four (inl all) = all.0
+  four (inr (n, less, cut, inl failed)) = failed.0
+  four (inr (n, less, cut, inr code)) = code
+
+  five : TellsFault runs.Write notes after.notes status → status ≡ 5
+  five (inl all) = all.0
+  five (inr (n, less, cut, inl failed)) = failed.0
+  five (inr (n, less, cut, inr code)) = code
+
+  six : TellsFault runs.Peer notes after.notes status → status ≡ 6
+  six (inl all) = all.0
+  six (inr (n, less, cut, inl failed)) = failed.0
+  six (inr (n, less, cut, inr code)) = code
+
+  eleven : TellsFault runs.FileFailed notes after.notes status → status ≡ 11
+  eleven (inl all) = all.0
+  eleven (inr (n, less, cut, inl failed)) = failed.0
+  eleven (inr (n, less, cut, inr code)) = code
 
   cut_short : (processors : Processors) (task : Task) (ready : Result Prepared RunFault) (fault : RunFault) → cuts fault ≡ true
-      → HasCause processors task ready before noted (Err fault) → TellsFault fault notes after.notes status → notes.faults ≤ after.notes.faults → Cut
-  cut_short processors task ready runs.Read cut cause told later = inr (inr (inl cause.1))
-  cut_short processors task ready runs.Write cut cause told later = wrote cause.1 later
-  cut_short processors task ready runs.Peer cut cause told later = inr (inr (inr (inr (inr (inr cause.1)))))
-  cut_short processors task ready (runs.Collision kept given) cut cause told later = nine kept given told
-  cut_short processors task ready runs.Memory cut cause told later = inl (seven told)
-  cut_short processors task ready runs.FileFailed cut cause told later = inr (inr (inr (inr (inr (inl cause.0)))))
-  cut_short processors task ready fault cut cause told later = absurd cc
+      → HasCause processors task ready before noted (Err fault) → TellsFault fault notes after.notes status → Cut
+  cut_short processors task ready runs.Read cut cause told = by_code 4 refl (four told)
+  cut_short processors task ready runs.Write cut cause told = by_code 5 refl (five told)
+  cut_short processors task ready runs.Peer cut cause told = by_code 6 refl (six told)
+  cut_short processors task ready (runs.Collision kept given) cut cause told = nine kept given told
+  cut_short processors task ready runs.Memory cut cause told = by_code 7 refl (seven told)
+  cut_short processors task ready runs.FileFailed cut cause told = inr (eleven told, cause.0)
+  cut_short processors task ready fault cut cause told = absurd cc
 
   module _ (heard : List Head → Type 0) (heads : List Head) where
     abbrev Heard : Type 0
     Heard = HearsAll heard heads before after status
 
     all_heard : heard heads → Heard
-    all_heard told = ((length heads, subst heard (sym (take_all (length heads) heads (omega arith))) told), inr (inr (inr told)))
+    all_heard told = ((length heads, subst heard (sym (take_all (length heads) heads (omega arith))) told), inr told)
 
     some_heard : (n : ℕ) → heard (take n heads) → Cut → Heard
-    some_heard n told (inl code) = ((n, told), inl code)
-    some_heard n told (inr (inl code)) = ((n, told), inr (inl code))
-    some_heard n told (inr (inr failed)) = ((n, told), inr (inr (inl failed)))
+    some_heard n told cut = ((n, told), inl cut)
 
     up_to_heard : (cut : Bool) → HearsUpTo cut heard heads → (cut ≡ true → Cut) → Heard
     up_to_heard true told why = some_heard told.0 told.1 (why refl)
@@ -89,7 +107,7 @@ module _ (before after : Outside) (notes : End (List ℕ)) (status : ℕ) where
         → HasCause processors task ready before noted came → TellsEnd came notes after.notes status → Heard
     by_end processors task ready (Ok code) told cause ended = all_heard told
     by_end processors task ready (Err fault) told cause ended =
-        up_to_heard (cuts fault) told (λ cut. cut_short processors task ready fault cut cause ended.0 ended.1)
+        up_to_heard (cuts fault) told (λ cut. cut_short processors task ready fault cut cause ended.0)
 
 some_map : (first : Option (List ℕ)) (P Q : List ℕ → Type 0) → ((bytes : List ℕ) → P bytes → Q bytes) → IfSome first P → IfSome first Q
 some_map None P Q step so = tt

@@ -3,7 +3,7 @@ use Rattle.std.specs.Prelude.{◌≡◌, Bool, true, false}
 use Rattle.saw_report.specs.declared.run_fault.RunFault.{RunFault}
 use Rattle.saw_report.specs.declared.run_fault.RunFault.TheVariants as runs
 
--- a fault that words, files and stream have, and not one of the outside
+-- a fault that words, files and stream have, or two different nodes of one hash, and not one of the outside
 abbrev pub is_told : RunFault → Bool
 is_told runs.Peer = false
 is_told runs.Read = false

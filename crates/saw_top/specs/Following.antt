@@ -1,7 +1,8 @@
 -- What is told to those who follow the head of a stream.
-use Rattle.std.specs.Prelude.{◌≡◌, ◌⊎◌, ℕ, Bool, true, false, List, [], ◌∷◌, ◌++◌, take, Option, Some, None, Result, Ok, Err, IfSome}
-use Rattle.std.specs.List.{flat_map}
+use Rattle.std.specs.Prelude.{◌≡◌, ◌⊎◌, ◌==◌, ℕ, Bool, true, false, List, [], ◌∷◌, ◌++◌, take, Option, Some, None, Result, Ok, Err, IfSome}
+use Rattle.std.specs.List.{flat_map, list_any}
 use Rattle.saw_context.specs.Outcome.{Processors}
+use Rattle.saw_faults.specs.Counts.{Rose}
 use Rattle.saw_io.specs.Shelf.{Files}
 use Rattle.saw_live.specs.Words.{Head, head}
 use Rattle.saw_receipts.specs.Running.{Runs, RunsBy}
@@ -13,7 +14,7 @@ use Rattle.saw_report.specs.declared.run_fault.RunFault.TheVariants.{Read, Write
 use Rattle.saw_top.specs.Answers.{Prepared, prepared}
 use Rattle.saw_top.specs.Command.{Wish}
 use Rattle.saw_top.specs.History.{Said}
-use Rattle.saw_top.specs.Outside.{Outside, SomeFailed}
+use Rattle.saw_top.specs.Outside.{Outside}
 use Rattle.saw_top.specs.Run.{run_of}
 use Rattle.saw_top.specs.World.{Accepts, AreWays, Judging, Ways, World, judging_by, serially}
 
@@ -82,12 +83,16 @@ pub record HearsJob (given : Files → World) (wish : Option Wish) (held : Optio
   pub may : AreWays (given files).processors ways
   pub so : IfSome first (λ bytes. HearsBy heard (heads_for ways (prepared (given files) wish) bytes) came)
 
+-- a run may have ended before all blocks were judged: by its status, or since a file could not be fetched
+abbrev pub MayCut : Outside → Outside → ℕ → Type 0
+MayCut before after status =
+    (list_any (λ code. code == status) (4 ∷ 5 ∷ 6 ∷ 7 ∷ 9 ∷ []) ≡ true)
+    ⊎ ((status ≡ 11) × Rose before.shelf.faults after.shelf.faults)
+
 -- What is told of a run, whose batches are run one after another: the first of its heads, in order; and all of them,
--- unless memory was refused, two different nodes of one hash were met or a call failed.
+-- unless it may have been cut.
 abbrev pub HearsAll : (List Head → Type 0) → List Head → Outside → Outside → ℕ → Type 0
-HearsAll heard heads before after status =
-    ((n : ℕ) × heard (take n heads))
-    × ((status ≡ 7) ⊎ ((status ≡ 9) ⊎ (SomeFailed before after ⊎ heard heads)))
+HearsAll heard heads before after status = ((n : ℕ) × heard (take n heads)) × (MayCut before after status ⊎ heard heads)
 
 pub record IsHeard (given : Files → World) (wish : Option Wish) (before after : Outside) (status : ℕ)
     (heard : List Head → Type 0) : Type 0 where

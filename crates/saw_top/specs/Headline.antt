@@ -182,8 +182,9 @@ module _ (processors : Processors) (task : Task) (ready : Result Prepared RunFau
       WritesAnswer answer bytes after.input.tells (sides_of before after) came
       × TellsFirst task.lines answer.noted (sides_of before after)
 
-  -- What was done with words and files that prepare this. Each block's batches were run in a way that may come of its
-  -- processors; where all is told, there is one.
+  -- What was done with words and files that prepare this. Behind the lines of blocks nothing but the fault's line is told,
+  -- if there is one. Each block's batches were run in a way that may come of its processors; where all is told, there is
+  -- one.
   pub record DoesTask (came : Result ℕ RunFault) : Type 0 where
     pub cause : HasCause came
     pub lines : List ℕ
@@ -272,7 +273,7 @@ abbrev pub untold_status : RunFault → ℕ
 untold_status fault = if is_told fault then 7 else fault_status fault
 
 -- The same by how much of the line was told. One of two nodes is made in memory: where there is none nothing of it is
--- told, and behind a byte of it the status stays.
+-- told; once the line is made the status stays.
 abbrev pub UntoldBy : Bool → RunFault → ℕ → ℕ → Type 0
 UntoldBy true fault count status = (status ≡ fault_status fault) ⊎ ((status ≡ 7) × (count ≡ 0))
 UntoldBy false fault count status = status ≡ untold_status fault

@@ -1,5 +1,5 @@
 -- What readers are told beside a run.
-use Rattle.std.specs.Prelude.{◌≡◌, ◌⊎◌, ◌<◌, ℕ, true, List, [], ◌∷◌, length, slice_index_or, Option}
+use Rattle.std.specs.Prelude.{◌≡◌, ◌⊎◌, ◌<◌, ◌≤◌, ℕ, true, List, [], ◌∷◌, length, slice_index_or, Option}
 use Rattle.std.specs.FinMap as finite
 use Rattle.std.specs.List.{AllByRecursion}
 use Rattle.saw_address.specs.Maps.{no_entries}
@@ -54,12 +54,16 @@ abbrev pub IsCounted : Asker → Asker → ReaderFault → Type 0
 IsCounted old new fault =
     fault ≡ Failed → Rose old.source_faults new.source_faults ⊎ Rose old.sink_faults new.sink_faults
 
+-- counts do not fall
+abbrev pub IsLater : Asker → Asker → Type 0
+IsLater old new = (old.source_faults ≤ new.source_faults) × (old.sink_faults ≤ new.sink_faults)
+
 -- it was served, and saw these heads, from none on
 abbrev pub EndsAs : Asker → Asker → List Head → ReaderEnd → Type 0
 EndsAs old new seen Open = ⊥
-EndsAs old new seen (Served answers) = IsServed first_half (moment_of old []) (moment_of new seen) answers
+EndsAs old new seen (Served answers) = IsServed first_half (moment_of old []) (moment_of new seen) answers × IsLater old new
 EndsAs old new seen (Ended fault) =
-    IsServedUntil first_half (moment_of old []) (moment_of new seen) fault × IsCounted old new fault
+    IsServedUntil first_half (moment_of old []) (moment_of new seen) fault × IsCounted old new fault × IsLater old new
 
 -- so each of several
 pub record AllEnd {G : Type 0} (of : G → Asker) (seen : G → List Head) (olds news : List G) : Type 0 where

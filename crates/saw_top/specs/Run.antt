@@ -19,17 +19,18 @@ use Rattle.saw_top.specs.declared.task.Lines.{Lines}
 use Rattle.saw_top.specs.declared.task.Lines.TheVariants.{All, Refused}
 use Rattle.saw_top.specs.declared.task.Task.{Task}
 
--- What a run writes, what it tells on the notes, the fault whose line follows there, and its status. Besides, the maps
--- that all its blocks would leave, and the one that a candidate would; of how many blocks it tells a verdict, and of the
--- first so many frames what of output and notes their lines are alone, and the maps that the accepted ones of them leave.
+-- what a run writes, and what it tells on the notes before the line of its fault, if it has one
 pub record Answer : Type 0 where
   pub output : List ℕ
   pub noted : List ℕ
   pub fault : Option RunFault
   pub status : ℕ
+  -- the maps that its blocks would leave, and the one that a candidate would
   pub tried : List (Option StateMap)
   pub made : Option StateMap
+  -- of how many blocks it tells a verdict
   pub judged : ℕ
+  -- of the first so many frames: their lines on output and notes, and the maps that the accepted ones leave
   pub output_for : ℕ → List ℕ
   pub noted_for : ℕ → List ℕ
   pub maps_for : ℕ → List StateMap

@@ -16,13 +16,13 @@ HaveOffers offers desks = AllByRecursion (λ desk. desk.offers ≡ offers) desks
 
 -- ---- how far external processors have begun
 
--- one did not begin: those before it have, and those behind it were not asked
+-- at one it stopped: those before it have begun, and those behind it were not asked
 pub record StopsAt {R : Type 0} (begun : R → Bool) (old new : List R) : Type 0 where
   pub place : ℕ
   pub before : All (λ remote. begun remote ≡ true) (take place new)
   pub behind : drop (place + 1) new ≡ drop (place + 1) old
 
--- all have begun, or one did not and so much is as it was
+-- all have begun, or it stopped at one and so much is as it was
 abbrev pub HaveBegun : {R : Type 0} → (R → Bool) → List R → List R → Type 0 → Type 0
 HaveBegun begun old new still = All (λ remote. begun remote ≡ true) new ⊎ (StopsAt begun old new × still)
 

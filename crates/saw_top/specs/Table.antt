@@ -86,7 +86,7 @@ text = codes "--value"
 abbrev pub connect : List ℕ
 connect = codes "--connect"
 
--- those of each command on blocks, and one more of some
+-- those of each command on blocks, and more of some
 abbrev pub common : List (List ℕ) → List (List ℕ)
 common more = workers ∷ attest ∷ listen ∷ remotes ∷ more
 

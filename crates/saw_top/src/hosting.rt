@@ -202,6 +202,7 @@ fn live_with<
         (F.files shelf.old) (Follows true [] heads) (S.unread input.old) result
         × AreAnsweredBy heads (map (λ r. asker A.Source K.Sink r.source r.sink r.end) readers.old.items)
         (map (λ r. asker A.Source K.Sink r.source r.sink r.end) readers.new.items)) }
+    ensures open { live_of (map string_bytes words.now) ≡ None → readers.new.items ≡ readers.old.items }
 {
     let Some(job) = read_apply(alloc, words, true)? else {
         return Err(RunFault::Words);
@@ -263,6 +264,8 @@ pub fn run_live<
         (Follows true [] heads)
         × AreAnsweredBy heads (map (λ r. asker A.Source K.Sink r.source r.sink r.end) readers.old.items)
         (map (λ r. asker A.Source K.Sink r.source r.sink r.end) readers.new.items)) }
+    // With invalid words nobody is served.
+    ensures open { live_of (map string_bytes words.now) ≡ None → readers.new.items ≡ readers.old.items }
 {
     match live_with(
         rt, alloc, words, input, output, notes, shelf, verifier, signer, readers,

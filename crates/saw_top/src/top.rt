@@ -357,17 +357,17 @@ fn carry_out<
 /// of what the head's state has at an address, a line for each node. `events --type T` writes the events of this type
 /// of the head's branch, a line each: behind the block of `--from ID` where it is given, and with a text at a key where
 /// `--key K --value V` are. `publish --batches NAME` tells which batches of that list it leaves out, and writes a frame
-/// with the block of the others behind the head, if one is applied. Each takes `--workers N` (1 to 64; 4 where none is
-/// given), which shows in no answer, and `--attest NAME`; `state` takes `--prefix P`. The attestation list is fetched
-/// before the batch list, and a file that both name once.
+/// with the block of the others behind the head, if one is applied and the policy finds no fault in the block. Each takes
+/// `--workers N` (1 to 64; 4 where none is given), which shows in no answer, and `--attest NAME`; `state` takes
+/// `--prefix P`. The attestation list is fetched before the batch list, and a file that both name once.
 ///
 /// `generate --start N --blocks N --batches N` and `--conflicts N` (0 to 100; 10 where none is given) reads and fetches
 /// nothing, and writes a new stream of blocks, all of whose batches apply. `check --root R --address A --proof NAME`
 /// reads no stream and tells what the proof in that file shows of a state of which only the root is known.
 ///
 /// The status is 0 where all was done, and of `apply` and `publish` 1 where a block was refused, of `publish` also
-/// where no batch is applied, and of `check` where the proof is rejected; 2 for invalid arguments; 3 for a stream that
-/// is none; 4 where reading failed, 5 where writing failed, 7 where memory was refused; 8 where there is nothing to
+/// where it makes no block, and of `check` where the proof is rejected; 2 for invalid arguments; 3 for a stream that is
+/// none; 4 where reading failed, 5 where writing failed, 7 where memory was refused; 8 where there is nothing to
 /// list, no block that holds the batch, or no head; 9 where two different nodes of one hash were met; 10 where no more
 /// blocks can be accepted; 11 for a file that is missing, too long, not read or bad.
 ///

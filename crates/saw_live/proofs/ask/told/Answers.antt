@@ -14,5 +14,5 @@ returns-then-eq g c = λ seen ends.
     let last = told_last seen words _ c.head_of-head.result c.in_ok-id_of.field-0 c.args.kept.now.root ends some c.head_of-head.ensures c.in_ok-id_of.ensures root in (
       last.0,
       last.1,
-      (over no_entries c.args.kept.now.layers, c.args.kept.now.rooted, c.in_ok-value.ensures),
+      (over no_entries c.args.kept.now.layers, c.args.kept.now.whole, c.args.kept.now.rooted, c.in_ok-value.ensures),
     )

@@ -16,7 +16,8 @@ loop-answers-init g c = record {
 pub returns-then-not-branch-clause-ok : goal.returns-then-not-branch-clause-ok
 returns-then-not-branch-clause-ok g c =
     let ended : c.in_ok-serve_one.field-0 ≡ false = grind (arith, c.if-not-branch.true) in
-    at_its_end g.H.NodeHasher.hash_of _ _ _ c.loop-answers.answers c.loop-answers.invariant.served (rw ended at c.in_ok-serve_one.ensures.next)
+    at_its_end g.H.NodeHasher.hash_of _ _ _ c.loop-answers.answers c.loop-answers.invariant.served c.loop-answers.invariant.most
+    (rw ended at c.in_ok-serve_one.ensures.next)
 
 pub loop-answers-preserved : goal.loop-answers-preserved
 loop-answers-preserved g c =
