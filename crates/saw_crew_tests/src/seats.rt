@@ -54,6 +54,18 @@ fn seats_share(rt: HostRuntime) -> Result<(), Fail> {
 }
 
 #[test]
+fn one_seat_claims_what_it_issued(rt: HostRuntime) -> Result<(), Fail> {
+    let alloc = rt.alloc();
+    let mut seats = TicketPool::new(alloc, 1, 8)?;
+    assert!(&rt; claims(&rt, &mut seats, 0)?.is_none());
+    assert!(&rt; issues(alloc, &mut seats, 0, 5)? && issues(alloc, &mut seats, 0, 6)?);
+    assert!(&rt; claims(&rt, &mut seats, 0)? == Some(5));
+    assert!(&rt; claims(&rt, &mut seats, 0)? == Some(6));
+    assert!(&rt; claims(&rt, &mut seats, 0)?.is_none());
+    Ok(())
+}
+
+#[test]
 fn a_full_seat_hands_back(rt: HostRuntime) -> Result<(), Fail> {
     let alloc = rt.alloc();
     let mut seats = TicketPool::new(alloc, 2, 2)?;
