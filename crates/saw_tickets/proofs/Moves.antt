@@ -1,15 +1,15 @@
 -- Each move keeps the rule of a queue.
-use Rattle.std.proofs.Common.{◌≡◌, ◌≢◌, ◌+◌, ℕ, zero, suc, List, [], ◌∷◌, ◌++◌, map, length, set, sym, refl, ap, ◌∙◌, subst, ⊎_elim, append_assoc, arith, length-append, Some, slice_get, if◌then◌else◌, ◌==◌, add-one, ◌≤◌, Bool, true, false, inl, inr}
+use Rattle.std.proofs.Common.{◌≡◌, ◌≢◌, ◌+◌, ℕ, zero, suc, List, [], ◌∷◌, ◌++◌, map, length, set, sym, refl, ap, ◌∙◌, subst, ⊎_elim, append_assoc, append-nil, arith, length-append, Some, slice_get, if◌then◌else◌, ◌==◌, add-one, ◌<◌, ◌≤◌, Bool, true, false, true≢false, inl, inr}
 use Rattle.std.proofs.lemmas.Bool.{eqb-true}
 use mathlib.Core.Option.{some, some-ne-none}
 use lib.ListN.{get_elem?}
 use Rattle.crossbeam_deque.specs.Tasks.{Pushes, Takes, Forks, Merges, Finds, FindsFew}
 use Rattle.crossbeam_deque.proofs.Lists.{at_set, at_snoc}
-use Rattle.atomic_table.proofs.Lists.{set_again}
+use Rattle.atomic_table.proofs.Lists.{set_here}
 use Rattle.saw_context.specs.declared.job.Job.{Job}
 use Rattle.saw_tickets.specs.declared.rule.Numbered.{Numbered}
 use Rattle.saw_tickets.specs.declared.rule.View.{View}
-use Rattle.saw_tickets.specs.TicketHistory.{numbered, knows, numbered_from, places, times, total, once_below, AreIssued, Fits, IsClaimed, IsOneOf, IsRuled, MayBeEmpty, issued_to}
+use Rattle.saw_tickets.specs.TicketHistory.{numbered, alone, knows, numbered_from, places, times, total, once_below, AreIssued, Fits, IsClaimed, IsOneOf, IsRuled, MayBeEmpty, issued_to}
 
 -- the total after a change of one view
 total_set : (f : View → ℕ) (views : List View) (port : ℕ) (v w : View) → get_elem? views port ≡ some v → total f (set views port w) + f v ≡ total f views + f w
@@ -23,6 +23,32 @@ Each F views = (port : ℕ) (v : View) → get_elem? views port ≡ some v → F
 each_set : (F : ℕ → View → Type 0) (views : List View) (port : ℕ) (w : View) → F port w → ((j : ℕ) (u : View) → j ≢ port → get_elem? views j ≡ some u → F j u) → Each F (set views port w)
 each_set F views port w mine others j u e = ⊎_elim (λ (x : (j ≡ port) × (w ≡ u)). subst (λ (y : ℕ × View). F y.0 y.1) (λ i. (sym x.0 i, x.1 i)) mine)
     (λ (x : (j ≢ port) × (get_elem? views j ≡ some u)). others j u x.0 x.1) (at_set views port j w u e)
+
+in_list : (views : List View) (port : ℕ) (v : View) → get_elem? views port ≡ some v → port < length views
+in_list [] port v at = absurd (some-ne-none v (sym at))
+in_list (x ∷ xs) zero v at = omega arith
+in_list (x ∷ xs) (suc i) v at = omega (arith, in_list xs i v at)
+
+-- a pass that is not shared is the only one
+abbrev Only : List View → View → Type 0
+Only views v = v.shared ≡ false → views ≡ v ∷ []
+
+-- where there is one view, it stands at 0
+at_first : (views : List View) (u v : View) (port : ℕ) → views ≡ u ∷ [] → get_elem? views port ≡ some v → port ≡ 0
+at_first views u v zero one at = refl
+at_first views u v (suc port) one at =
+    absurd (some-ne-none v (sym (subst (λ (l : List View). get_elem? l (suc port) ≡ some v) one at)))
+
+-- a view changes, which is shared as before
+only_set : (views : List View) (port : ℕ) (v w : View) → get_elem? views port ≡ some v → w.shared ≡ v.shared → Each (λ _ u. Only views u) views
+    → Each (λ _ u. Only (set views port w) u) (set views port w)
+only_set views port v w at same only = each_set (λ _ u. Only (set views port w) u) views port w
+    (λ lone. let one = only port v at (sym same ∙ lone) in rw (at_first views v v port one at, one) refl)
+    (λ j u other e lone. let one = only j u e lone in absurd (other (at_first views u u j one e ∙ sym (at_first views u v port one at))))
+
+both_each : (F : ℕ → View → Type 0) (views : List View) → Each F views → Each (λ _ u. Only views u) views
+    → Each (λ port u. F port u × Only views u) views
+both_each F views fits only port v at = (fits port v at, only port v at)
 
 numbered_snoc : (k : ℕ) (js : List Job) (j : Job) → numbered_from k (js ++ j ∷ []) ≡ numbered_from k js ++ numbered (k + length js) j ∷ []
 numbered_snoc k [] j = ap (λ n. numbered n j ∷ []) (omega arith)
@@ -49,19 +75,21 @@ issued_snoc : (gone : List Job) (es : List Numbered) (e : Numbered) → AreIssue
 issued_snoc gone [] e h at = (at, tt)
 issued_snoc gone (x ∷ xs) e h at = (h.0, issued_snoc gone xs e h.1 at)
 
-pub begins : IsRuled [] (knows [] [] ∷ [])
+pub begins : IsRuled [] (alone [] [] ∷ [])
 begins = ([], [], refl, (λ p. refl), λ port v e. first port v e)
   where
-    first : (port : ℕ) (v : View) → get_elem? (knows [] [] ∷ []) port ≡ some v → Fits [] [] port v
-    first zero v e = let same : knows [] [] ≡ v = cc in subst (Fits [] [] 0) same ((λ _. refl), (λ _. refl), tt)
+    first : (port : ℕ) (v : View) → get_elem? (alone [] [] ∷ []) port ≡ some v → Fits [] [] port v × Only (alone [] [] ∷ []) v
+    first zero v e = let same : alone [] [] ≡ v = cc in
+        subst (λ (u : View). Fits [] [] 0 u × Only (alone [] [] ∷ []) u) same (((λ _. refl), (λ _. refl), tt), λ _. refl)
     first (suc port) v e = absurd (some-ne-none v (sym e))
 
-pub pushes : (v : View) (place : ℕ) (job : Job) → place ≡ length v.issued → Pushes IsRuled 0 v (numbered place job ∷ []) (λ w. w ≡ knows (v.issued ++ job ∷ []) v.claimed)
+pub pushes : (v : View) (place : ℕ) (job : Job) → place ≡ length v.issued
+    → Pushes IsRuled 0 v (numbered place job ∷ []) (λ w. w ≡ record v { issued = v.issued ++ job ∷ [] })
 pushes v place job is items views h at =
     let gone = h.0 in
     let left = h.1 in
-    let mine = h.4 0 v at in
-    let w : View = knows (v.issued ++ job ∷ []) v.claimed in
+    let mine = (h.4 0 v at).0 in
+    let w : View = record v { issued = v.issued ++ job ∷ [] } in
     let n : place ≡ length gone + length left = is ∙ ap length (mine.0 refl) ∙ length-append gone left in (
       w,
       (
@@ -69,22 +97,25 @@ pushes v place job is items views h at =
         left ++ job ∷ [],
         rw (h.2, n) (sym (numbered_snoc (length gone) left job)),
         (λ p. let t = total_set (λ u. times p (places u.claimed)) views 0 v w at in omega (arith, h.3 p, t)),
-        each_set (Fits gone (gone ++ (left ++ job ∷ []))) views 0 w ((λ _. ap (λ js. js ++ job ∷ []) (mine.0 refl) ∙ append_assoc gone left (job ∷ [])), (λ z. absurd (z refl)), mine.2)
-            (λ j u other e. ((λ z. absurd (other z)), (h.4 j u e).1, (h.4 j u e).2)),
+        both_each (Fits gone (gone ++ (left ++ job ∷ []))) (set views 0 w)
+            (each_set (Fits gone (gone ++ (left ++ job ∷ []))) views 0 w
+            ((λ _. ap (λ js. js ++ job ∷ []) (mine.0 refl) ∙ append_assoc gone left (job ∷ [])), (λ z. absurd (z refl)), mine.2)
+            (λ j u other e. ((λ z. absurd (other z)), (h.4 j u e).0.1, (h.4 j u e).0.2)))
+            (only_set views 0 v w at refl (λ j u e. (h.4 j u e).1)),
       ),
       refl,
     )
 
 takes_one : (port : ℕ) (v : View) (e : Numbered) (items : List Numbered) (views : List View) (gone left : List Job) → e ∷ items ≡ numbered_from (length gone) left
     → ((p : ℕ) → total (λ v. times p (places v.claimed)) views ≡ once_below p (length gone))
-    → ((port : ℕ) (v : View) → get_elem? views port ≡ some v → Fits gone (gone ++ left) port v) → get_elem? views port ≡ some v
-    → IsRuled items (set views port (knows v.issued (v.claimed ++ e ∷ [])))
+    → Each (λ port v. Fits gone (gone ++ left) port v × Only views v) views → get_elem? views port ≡ some v
+    → IsRuled items (set views port (record v { claimed = v.claimed ++ e ∷ [] }))
 takes_one port v e items views gone [] eq counts fits at = cc
 takes_one port v e items views gone (j ∷ js) eq counts fits at =
     let first : e ≡ numbered (length gone) j = cc in
     let rest : items ≡ numbered_from (length gone + 1) js = cc in
-    let w : View = knows v.issued (v.claimed ++ e ∷ []) in
-    let mine = fits port v at in
+    let w : View = record v { claimed = v.claimed ++ e ∷ [] } in
+    let mine = (fits port v at).0 in
     let more : List Job = gone ++ j ∷ [] in
     let len : length more ≡ length gone + 1 = length-append gone (j ∷ []) in
     let whole : more ++ js ≡ gone ++ (j ∷ js) = append_assoc gone (j ∷ []) js in (
@@ -98,14 +129,17 @@ takes_one port v e items views gone (j ∷ js) eq counts fits at =
           let k : step e ≡ step (numbered (length gone) j) = ap step first in
           rw (len, add-one) (omega (arith, counts p, t, s, k))),
       rw whole
+          (both_each (Fits more (gone ++ (j ∷ js))) (set views port w)
           (each_set (Fits more (gone ++ (j ∷ js))) views port w
           (mine.0, mine.1, issued_snoc more v.claimed e (issued_longer gone (j ∷ []) v.claimed mine.2) (subst (λ (x : Numbered). slice_get more x.place ≡ Some x.job) (sym first) (get_last gone j)))
-          (λ i u other a. let theirs = fits i u a in (theirs.0, theirs.1, issued_longer gone (j ∷ []) u.claimed theirs.2))),
+          (λ i u other a. let theirs = (fits i u a).0 in (theirs.0, theirs.1, issued_longer gone (j ∷ []) u.claimed theirs.2)))
+          (only_set views port v w at refl (λ i u a. (fits i u a).1))),
     )
 
-pub takes : (port : ℕ) (v : View) → Takes IsRuled port v 1 (λ xs w. w ≡ knows v.issued (v.claimed ++ xs))
+pub takes : (port : ℕ) (v : View) → Takes IsRuled port v 1 (λ xs w. w ≡ record v { claimed = v.claimed ++ xs })
 takes port v [] items views least most h at = absurd (omega arith)
-takes port v (e ∷ []) items views least most h at = (knows v.issued (v.claimed ++ e ∷ []), takes_one port v e items views h.0 h.1 h.2 h.3 h.4 at, refl)
+takes port v (e ∷ []) items views least most h at =
+    (record v { claimed = v.claimed ++ e ∷ [] }, takes_one port v e items views h.0 h.1 h.2 h.3 h.4 at, refl)
 takes port v (e ∷ f ∷ xs) items views least most h at = absurd (omega arith)
 
 pub finds : (port : ℕ) (v : View) → Finds IsRuled port v (MayBeEmpty v)
@@ -133,29 +167,48 @@ issued_append : (gone : List Job) (xs ys : List Numbered) → AreIssued gone xs 
 issued_append gone [] ys h k = k
 issued_append gone (x ∷ xs) ys h k = (h.0, issued_append gone xs ys h.1 k)
 
-pub forks : (port : ℕ) (v : View) → Forks IsRuled port v v (knows [] [])
+pub forks : (port : ℕ) (v : View) → Forks IsRuled port v (record v { shared = true }) (knows [] [])
 forks port v items views h at =
     let gone = h.0 in
     let left = h.1 in
-    rw (set_again views port v at) (
+    let split : View = record v { shared = true } in
+    let none : View = knows [] [] in
+    let vs : List View = set views port split in
+    let here : get_elem? vs port ≡ some split = set_here views port split (in_list views port v at) in
+    let fits : Each (Fits gone (gone ++ left)) vs =
+    each_set (Fits gone (gone ++ left)) views port split (h.4 port v at).0 (λ j u _ e. (h.4 j u e).0) in
+    let shared : Each (λ _ u. u.shared ≡ true) vs = each_set (λ _ u. u.shared ≡ true) views port split refl (λ j u other e. is_shared u.shared
+    (λ lone. let one = (h.4 j u e).1 lone in other (at_first views u u j one e ∙ sym (at_first views u v port one at)))) in (
       gone,
       left,
       h.2,
-      (λ p. let t = total_snoc (λ u. times p (places u.claimed)) views (knows [] []) in omega (arith, t, h.3 p)),
-      each_snoc (Fits gone (gone ++ left)) views (knows [] []) port v at h.4 (λ j no. ((λ z. absurd (no z)), (λ _. refl), tt)),
+      (λ p.
+          let a = total_set (λ u. times p (places u.claimed)) views port v split at in
+          let b = total_snoc (λ u. times p (places u.claimed)) vs none in
+          omega (arith, a, b, h.3 p)),
+      both_each (Fits gone (gone ++ left)) (vs ++ none ∷ [])
+          (each_snoc (Fits gone (gone ++ left)) vs none port split here fits (λ j no. ((λ z. absurd (no z)), (λ _. refl), tt)))
+          (λ j u e lone.
+          absurd (true≢false (sym (each_snoc (λ _ u. u.shared ≡ true) vs none port split here shared (λ _ _. refl) j u e) ∙ lone))),
     )
+  where
+    is_shared : (b : Bool) → (b ≡ false → ⊥) → b ≡ true
+    is_shared true never = refl
+    is_shared false never = absurd (never refl)
 
-pub merges : (v : View) (other : ℕ) (w : View) → Merges IsRuled 0 v other w (knows v.issued (v.claimed ++ w.claimed)) (knows [] [])
+pub merges : (v : View) (other : ℕ) (w : View) → Merges IsRuled 0 v other w (record v { claimed = v.claimed ++ w.claimed }) (knows [] [])
 merges v other w items views h at two at' =
     let gone = h.0 in
     let left = h.1 in
-    let both : View = knows v.issued (v.claimed ++ w.claimed) in
+    let both : View = record v { claimed = v.claimed ++ w.claimed } in
     let none : View = knows [] [] in
     let vs : List View = set views 0 both in
     let was : get_elem? views other ≡ some w = ⊎_elim (λ x. absurd (two x.0)) (λ x. x.1) (at_set views 0 other both w at') in
-    let mine = h.4 0 v at in
-    let theirs = h.4 other w was in
-    let now : Each (Fits gone (gone ++ left)) vs = each_set (Fits gone (gone ++ left)) views 0 both (mine.0, mine.1, issued_append gone v.claimed w.claimed mine.2 theirs.2) (λ j u _ e. h.4 j u e) in (
+    let mine = (h.4 0 v at).0 in
+    let theirs = (h.4 other w was).0 in
+    let now : Each (Fits gone (gone ++ left)) vs =
+    each_set (Fits gone (gone ++ left)) views 0 both (mine.0, mine.1, issued_append gone v.claimed w.claimed mine.2 theirs.2) (λ j u _ e. (h.4 j u e).0) in
+    let only = only_set views 0 v both at refl (λ j u e. (h.4 j u e).1) in (
       gone,
       left,
       h.2,
@@ -163,10 +216,14 @@ merges v other w items views h at two at' =
           let a = total_set (λ u. times p (places u.claimed)) views 0 v both at in
           let b = total_set (λ u. times p (places u.claimed)) vs other w none at' in
           omega (arith, a, b, h.3 p, times_append p v.claimed w.claimed)),
-      each_set (Fits gone (gone ++ left)) vs other none ((λ z. absurd (two z)), (λ _. refl), tt) (λ j u _ e. now j u e),
+      both_each (Fits gone (gone ++ left)) (set vs other none)
+          (each_set (Fits gone (gone ++ left)) vs other none ((λ z. absurd (two z)), (λ _. refl), tt) (λ j u _ e. now j u e))
+          (each_set (λ _ u. Only (set vs other none) u) vs other none (λ lone. absurd (true≢false lone))
+          (λ j u _ e lone. absurd (two (at_first vs u w other (only j u e lone) at')))),
     )
 
-pub pushed_job : (v : View) (place : ℕ) (job : Job) → place ≡ length v.issued → Pushes IsRuled 0 v (numbered place job ∷ []) (λ w. w ≡ knows (v.issued ++ map (λ (e : Numbered). e.job) (numbered place job ∷ [])) v.claimed)
+pub pushed_job : (v : View) (place : ℕ) (job : Job) → place ≡ length v.issued
+    → Pushes IsRuled 0 v (numbered place job ∷ []) (λ w. w ≡ record v { issued = v.issued ++ map (λ (e : Numbered). e.job) (numbered place job ∷ []) })
 pushed_job v place job is = pushes v place job is
 
 -- a number below k once, and no other
@@ -180,6 +237,21 @@ below_at_most p (suc k) = go (below_at_most p k) (k == p) refl
 
 pub claimed_once : (items : List Numbered) (views : List View) → IsRuled items views → (p : ℕ) → total (λ v. times p (places v.claimed)) views ≤ 1
 claimed_once items views h p = let a = h.3 p in omega (arith, a, (below_at_most p (length h.0)).0)
+
+-- of an empty queue the only pass has claimed each job that it issued, once
+pub claimed_alone : (own : View) → MayBeEmpty own → own.shared ≡ false
+    → (p : ℕ) → times p (places own.claimed) ≡ once_below p (length own.issued)
+claimed_alone own (views, port, h, at) lone p =
+    let fits = h.4 port own at in
+    let one = fits.1 lone in
+    let none = none_left (length h.0) h.1 h.2 in
+    let all : own.issued ≡ h.0 = fits.0.0 (at_first views own own port one at) ∙ ap (λ js. h.0 ++ js) none ∙ append-nil h.0 in
+    let count : total (λ v. times p (places v.claimed)) (own ∷ []) ≡ once_below p (length h.0) = rw one at h.3 p in
+    rw all (omega (arith, count))
+  where
+    none_left : (k : ℕ) (js : List Job) → [] ≡ numbered_from k js → js ≡ []
+    none_left k [] is = refl
+    none_left k (j ∷ js) is = absurd (omega (arith, ap length is))
 
 -- ---- what is claimed was issued
 
@@ -202,5 +274,5 @@ pub claimed_is_issued : (items : List Numbered) (views : List View) → IsRuled 
     → slice_get (issued_to views) entry.place ≡ Some entry.job
 claimed_is_issued items [] h entry claimed = absurd claimed
 claimed_is_issued items (v ∷ views) h entry claimed =
-    let found = any_issued h.0 entry (v ∷ views) (λ port u at. (h.4 port u at).2) claimed in
-    ap (λ js. slice_get js entry.place) ((h.4 0 v refl).0 refl) ∙ get_longer h.0 h.1 entry.place entry.job found
+    let found = any_issued h.0 entry (v ∷ views) (λ port u at. (h.4 port u at).0.2) claimed in
+    ap (λ js. slice_get js entry.place) ((h.4 0 v refl).0.0 refl) ∙ get_longer h.0 h.1 entry.place entry.job found

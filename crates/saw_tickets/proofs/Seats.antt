@@ -9,7 +9,8 @@ use Rattle.saw_tickets.specs.declared.rule.Numbered.{Numbered}
 use Rattle.saw_tickets.specs.declared.rule.View.{View}
 use Rattle.saw_tickets.specs.declared.neighbor.Neighbor.{Neighbor}
 use Rattle.saw_tickets.specs.TicketHistory.{knows, MayBeEmpty}
-use Rattle.saw_tickets.specs.Seats.{other_views, other_queues, with_claimed, ClaimsEntry, FindsNone}
+use Rattle.saw_tickets.specs.Seats.{other_views, other_queues, with_claimed, ClaimsEntry, FindsNone, HasClaimedAlone}
+use Rattle.saw_tickets.proofs.Moves.{claimed_alone}
 
 pub steals_at : (ns : List Neighbor) (vs : List View) (i : ℕ) (d n' : Neighbor) (e : Numbered) → i < length ns → view n'.pass ≡ with_claimed (view (get_or ns i d).pass) e → other_views ns ≡ vs → ClaimsEntry vs (other_views (set ns i n')) e
 steals_at ns vs i d n' e lt took same =
@@ -44,6 +45,10 @@ finds_none o o' vs vs' same first (rest, others) = ((let p : o' ∷ vs' ≡ o �
 pub after_own : (o o' : View) (vs vs' : List View) (r : Option Numbered) → o' ≡ o → MayBeEmpty o → MatchOption r (FindsNone vs vs') (ClaimsEntry vs vs') → MatchOption r (FindsNone (o ∷ vs) (o' ∷ vs')) (ClaimsEntry (o ∷ vs) (o' ∷ vs'))
 after_own o o' vs vs' (Some e) same first h = claims_later o o' vs vs' e same h
 after_own o o' vs vs' None same first h = finds_none o o' vs vs' same first h
+
+-- a seat that found none has claimed all of a queue that it alone has a pass of
+pub none_alone : (own : View) (others views' : List View) → FindsNone (own ∷ others) views' → HasClaimedAlone (own ∷ others)
+none_alone own others views' (same, empty) = claimed_alone own (empty 0 (omega arith))
 
 pub written_back : {A : Type 0} → (xs ys : List A) (n : ℕ) → length xs ≡ length ys → n ≡ length ys → take n (xs ++ drop (length xs) ys) ≡ xs
 written_back xs ys n same is = ap (λ k. take k (xs ++ drop (length xs) ys)) (is ∙ sym same) ∙ take-append_seam xs (drop (length xs) ys)

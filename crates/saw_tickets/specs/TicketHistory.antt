@@ -1,5 +1,5 @@
 -- Ticket history: the rule of one queue, out of which each issued job comes once, in order, with its number.
-use Rattle.std.specs.Prelude.{◌≡◌, ◌≢◌, ◌⊎◌, ℕ, zero, suc, ◌+◌, List, [], ◌∷◌, ◌++◌, map, length, Some, slice_get, if◌then◌else◌, ◌==◌}
+use Rattle.std.specs.Prelude.{true, false, ◌≡◌, ◌≢◌, ◌⊎◌, ℕ, zero, suc, ◌+◌, List, [], ◌∷◌, ◌++◌, map, length, Some, slice_get, if◌then◌else◌, ◌==◌}
 use mathlib.Core.Option.{some}
 use lib.ListN.{get_elem?}
 use Rattle.saw_context.specs.declared.job.Job.{Job}
@@ -9,8 +9,13 @@ use Rattle.saw_tickets.specs.declared.rule.View.{View}
 abbrev pub numbered : ℕ → Job → Numbered
 numbered place job = record { place = place; job = job }
 
+-- what a pass knows of a queue that may have other passes
 abbrev pub knows : List Job → List Numbered → View
-knows issued claimed = record { issued = issued; claimed = claimed }
+knows issued claimed = record { issued = issued; claimed = claimed; shared = true }
+
+-- what the only pass of a queue knows
+abbrev pub alone : List Job → List Numbered → View
+alone issued claimed = record { issued = issued; claimed = claimed; shared = false }
 
 -- the jobs with their numbers, from this one on
 abbrev pub numbered_from : ℕ → List Job → List Numbered
@@ -45,13 +50,15 @@ abbrev pub Fits : List Job → List Job → ℕ → View → Type 0
 Fits gone issued port view = (port ≡ 0 → view.issued ≡ issued) × (port ≢ 0 → view.issued ≡ []) × AreIssued gone view.claimed
 
 -- The rule of a queue that holds these items, beside what its passes know: some of the issued jobs are gone, and it holds
--- the others, in order, each with its number. Each number that is gone stands once among what was claimed, and no other.
+-- the others, in order, each with its number. Each number that is gone stands once among what was claimed, and no other. A
+-- pass that is not shared is the only one.
 abbrev pub IsRuled : List Numbered → List View → Type 0
 IsRuled items views =
     (gone : List Job) × (left : List Job)
     × (items ≡ numbered_from (length gone) left)
     × ((p : ℕ) → total (λ view. times p (places view.claimed)) views ≡ once_below p (length gone))
-    × ((port : ℕ) (view : View) → get_elem? views port ≡ some view → Fits gone (gone ++ left) port view)
+    × ((port : ℕ) (view : View) → get_elem? views port ≡ some view
+    → Fits gone (gone ++ left) port view × (view.shared ≡ false → views ≡ view ∷ []))
 
 -- the rule allows this view beside an empty queue
 abbrev pub MayBeEmpty : View → Type 0

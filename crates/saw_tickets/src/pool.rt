@@ -1,8 +1,8 @@
 //! Pools of seats.
 
-ghost use Rattle.std.specs.Prelude.{◌≡◌, ◌<◌, ◌+◌, ◌++◌, ◌∷◌, [], IfOk, OnOk, map, vec_len};
-ghost use Rattle.saw_tickets.specs.TicketHistory.{knows};
-ghost use Rattle.saw_tickets.specs.Seats.{AllMeet, IsPool, capacity_of, deques, own_queue, queues_of, views_of};
+ghost use Rattle.std.specs.Prelude.{◌≡◌, ◌<◌, ◌+◌, ◌++◌, ◌∷◌, [], IfOk, OnOk, vec_len};
+ghost use Rattle.saw_tickets.specs.TicketHistory.{alone};
+ghost use Rattle.saw_tickets.specs.Seats.{AllMeet, IsPool, after_meeting, capacity_of, deques, own_queue, queues_of, views_of};
 
 use crate::Seat;
 use std::alloc::{AllocError, Global};
@@ -29,7 +29,7 @@ impl TicketPool {
 // Adds a seat that knows no other.
 fn admit(seats: &mut Vec<Seat>, mut new: Seat) -> Result<(), AllocError>
     requires pool { IsPool (capacity_of new) seats.old.items }
-    requires views { views_of new ≡ knows [] [] ∷ [] }
+    requires views { views_of new ≡ alone [] [] ∷ [] }
     requires queues { queues_of new ≡ own_queue new ∷ [] }
     ensures len { OnOk result (vec_len seats.new ≡ vec_len seats.old + 1) }
     ensures pool { OnOk result (IsPool (capacity_of new) seats.new.items) }
@@ -43,7 +43,7 @@ fn admit(seats: &mut Vec<Seat>, mut new: Seat) -> Result<(), AllocError>
 fn introduce(seats: &mut [Seat], new: &mut Seat) -> Result<(), AllocError>
     ensures seats { OnOk result (AllMeet (own_queue new.old) seats.old seats.new) }
     ensures queues { OnOk result (queues_of new.new ≡ queues_of new.old ++ deques seats.old) }
-    ensures views { OnOk result (views_of new.new ≡ views_of new.old ++ map (λ _. knows [] []) seats.old) }
+    ensures views { OnOk result (views_of new.new ≡ after_meeting seats.old (views_of new.old)) }
     ensures capacity { OnOk result (capacity_of new.new ≡ capacity_of new.old) }
 {
     for i in 0..seats.len() {

@@ -13,10 +13,12 @@ pub struct Numbered {
     pub job: Job,
 }
 
-/// What one pass of a queue has issued and claimed, in order. No value of it is made.
+/// What one pass of a queue has issued and claimed, in order, and whether the queue may have other passes. No value of it is
+/// made.
 pub struct View {
     pub issued: LinkedList<Job>,
     pub claimed: LinkedList<Numbered>,
+    pub shared: bool,
 }
 
 /// Each issued job leaves the queue once, in order, with its number.
@@ -24,11 +26,11 @@ pub struct Tickets;
 
 impl Protocol<Numbered, View> for Tickets {
     ghost use Rattle.std.specs.Prelude.{[]};
-    ghost use Rattle.saw_tickets.specs.TicketHistory.{IsRuled, knows};
+    ghost use Rattle.saw_tickets.specs.TicketHistory.{IsRuled, alone, knows};
 
     ghost holds = { IsRuled };
 
-    ghost first = { knows [] [] };
+    ghost first = { alone [] [] };
 
     ghost guest = { knows [] [] };
 }
@@ -38,9 +40,8 @@ pub struct Issues;
 
 impl Outcome<Numbered, View> for Issues {
     ghost use Rattle.std.specs.Prelude.{◌≡◌, ◌++◌, map};
-    ghost use Rattle.saw_tickets.specs.TicketHistory.{knows};
 
-    ghost then = { λ v xs w. w ≡ knows (v.issued ++ map (λ e. e.job) xs) v.claimed };
+    ghost then = { λ v xs w. w ≡ record v { issued = v.issued ++ map (λ e. e.job) xs } };
 }
 
 /// A pop or a steal: what comes out is claimed.
@@ -48,21 +49,21 @@ pub struct Claims;
 
 impl Outcome<Numbered, View> for Claims {
     ghost use Rattle.std.specs.Prelude.{◌≡◌, ◌++◌};
-    ghost use Rattle.saw_tickets.specs.TicketHistory.{MayBeEmpty, knows};
+    ghost use Rattle.saw_tickets.specs.TicketHistory.{MayBeEmpty};
 
-    ghost then = { λ v xs w. w ≡ knows v.issued (v.claimed ++ xs) };
+    ghost then = { λ v xs w. w ≡ record v { claimed = v.claimed ++ xs } };
 
     ghost empty = { MayBeEmpty };
 }
 
-/// A new pass that has done nothing is cut from another, which stays as it is.
+/// A new pass that has done nothing is cut from another, which is not alone from then on.
 pub struct Guests;
 
 impl Split<View> for Guests {
-    ghost use Rattle.std.specs.Prelude.{[]};
+    ghost use Rattle.std.specs.Prelude.{[], true};
     ghost use Rattle.saw_tickets.specs.TicketHistory.{knows};
 
-    ghost left = { λ v. v };
+    ghost left = { λ v. record v { shared = true } };
 
     ghost right = { λ v. knows [] [] };
 }
@@ -72,7 +73,7 @@ impl Join<View> for Guests {
     ghost use Rattle.std.specs.Prelude.{[], ◌++◌};
     ghost use Rattle.saw_tickets.specs.TicketHistory.{knows};
 
-    ghost both = { λ v w. knows v.issued (v.claimed ++ w.claimed) };
+    ghost both = { λ v w. record v { claimed = v.claimed ++ w.claimed } };
 
     ghost spent = { knows [] [] };
 }

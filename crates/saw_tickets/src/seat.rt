@@ -1,8 +1,8 @@
 //! Seats: a worker's own queue, and ways into the others.
 
-ghost use Rattle.std.specs.Prelude.{◌≡◌, ◌<◌, ◌≤◌, ◌^◌, ◌++◌, ◌∷◌, [], IfErr, IfOk, MatchOption, OnErr, OnOk, length};
+ghost use Rattle.std.specs.Prelude.{◌≡◌, ◌<◌, ◌≤◌, ◌^◌, ◌++◌, ◌∷◌, [], IfErr, IfOk, MatchOption, OnErr, OnOk, length, ⊤};
 ghost use Rattle.crossbeam_deque.specs.Handles.{worker_capacity, worker_deque, worker_flavor, worker_index, worker_port, worker_view};
-ghost use Rattle.saw_tickets.specs.TicketHistory.{MayBeEmpty, knows};
+ghost use Rattle.saw_tickets.specs.TicketHistory.{MayBeEmpty, alone, knows};
 
 use crate::neighbor::Neighbor;
 use crate::rule::{Claims, Guests, Issues, Numbered, Queue};
@@ -27,12 +27,12 @@ pub struct Seat {
 }
 
 impl Seat {
-    ghost use Rattle.saw_tickets.specs.Seats.{ClaimsEntry, ClaimsJob, ClaimsOwn, FindsNoOwn, FindsNone, IssuesJob, Retires, capacity_of, issued_by, known_by, leads_to, other_queues, other_views, own_queue, queues_of, views_of};
+    ghost use Rattle.saw_tickets.specs.Seats.{ClaimsEntry, ClaimsJob, ClaimsOwn, FindsNoOwn, FindsNone, HasClaimedAlone, IssuesJob, Retires, capacity_of, issued_by, known_by, leads_to, other_queues, other_views, own_queue, queues_of, shares_own, views_of, with_claimed};
 
     /// A seat that has issued and claimed nothing, and knows no other. It issues at most so many jobs.
     pub fn new(alloc: Global, capacity: u32) -> Result<Self, AllocError>
         requires { 0 < capacity }
-        ensures views { IfOk result (λ seat. views_of seat ≡ knows [] [] ∷ []) }
+        ensures views { IfOk result (λ seat. views_of seat ≡ alone [] [] ∷ []) }
         ensures queues { IfOk result (λ seat. queues_of seat ≡ own_queue seat ∷ []) }
         ensures capacity { IfOk result (λ seat. capacity_of seat ≡ capacity) }
     {
@@ -47,7 +47,8 @@ impl Seat {
 
     /// A way into this seat's queue, for another seat: a pass that has done nothing.
     pub fn guest(&mut self) -> Result<Neighbor, AllocError>
-        ensures views { views_of self.new ≡ views_of self.old }
+        ensures views { OnOk result (views_of self.new ≡ shares_own (views_of self.old)) }
+        ensures err { OnErr result (views_of self.new ≡ views_of self.old) }
         ensures queues { queues_of self.new ≡ queues_of self.old }
         ensures own { own_queue self.new ≡ own_queue self.old }
         ensures capacity { capacity_of self.new ≡ capacity_of self.old }
@@ -105,10 +106,12 @@ impl Seat {
         }
     }
 
-    /// A job of its own queue, or else of another. None: each queue was empty at one moment of this call.
+    /// A job of its own queue, or else of another. None: each queue was empty at one moment of this call. A seat whose queue
+    /// has no other pass has then claimed all that it has issued.
     pub fn claim<R: Wait>(&mut self, rt: &R) -> Option<Job>
         ensures rule { MatchOption result (FindsNone (views_of self.old) (views_of self.new))
             (ClaimsJob (views_of self.old) (views_of self.new)) }
+        ensures alone { MatchOption result (HasClaimedAlone (views_of self.old)) (λ job. ⊤) }
         ensures queues { queues_of self.new ≡ queues_of self.old }
         ensures capacity { capacity_of self.new ≡ capacity_of self.old }
     {
@@ -122,6 +125,7 @@ impl Seat {
     pub fn claim_own(&mut self) -> Option<Job>
         ensures rule { MatchOption result (FindsNoOwn (views_of self.old) (views_of self.new))
             (ClaimsOwn (views_of self.old) (views_of self.new)) }
+        ensures alone { MatchOption result (HasClaimedAlone (views_of self.old)) (λ job. ⊤) }
         ensures queues { queues_of self.new ≡ queues_of self.old }
         ensures capacity { capacity_of self.new ≡ capacity_of self.old }
     {
@@ -147,8 +151,7 @@ impl Seat {
     fn claim_own_entry(&mut self) -> Option<Numbered>
         ensures rule { MatchOption result
             ((worker_view self.new.own ≡ worker_view self.old.own) × MayBeEmpty (worker_view self.old.own))
-            (λ entry. worker_view self.new.own
-            ≡ knows (worker_view self.old.own).issued ((worker_view self.old.own).claimed ++ entry ∷ [])) }
+            (λ entry. worker_view self.new.own ≡ with_claimed (worker_view self.old.own) entry) }
         ensures queue { worker_deque self.new.own ≡ worker_deque self.old.own }
         ensures capacity { capacity_of self.new ≡ capacity_of self.old }
         ensures others { self.new.others ≡ self.old.others }
