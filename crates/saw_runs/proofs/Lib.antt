@@ -29,4 +29,5 @@ pub mod Between
 pub mod SideBySide
 pub mod MadeRuns
 pub mod SameFronts
+pub mod Leads
 pub mod Jumping

@@ -1,6 +1,6 @@
 -- Down the pieces of two maps, side by side.
 use Rattle.std.proofs.Common.{◌≡◌, ◌≢◌, ℕ, suc, ◌+◌, ◌<◌, ◌≤◌, true, List, [], ◌∷◌, ◌++◌, map, refl, sym, ap, ◌∙◌, subst, arith, append_assoc, nat_eq, Option, Some, None, inl, inr}
-use Rattle.std.specs.List.{AllByRecursion, flat_map}
+use Rattle.std.specs.List.{AllByRecursion}
 use Rattle.std.specs.List.Sorted.{IsStrictlySortedBy}
 use Rattle.std.specs.FinMap as finite
 use Rattle.std.specs.Ordering.{nat_cmp, ordering_then}
@@ -10,20 +10,15 @@ use Rattle.std.specs.declared.cmp.Ordering.TheVariants.{Less, Equal}
 use Rattle.std.proofs.lemmas.Bool.{true≢false, and_parts, eqb-true}
 use Rattle.std.proofs.lemmas.List.{append-nil}
 use Rattle.std.proofs.lemmas.List.Concat.{flat_map-append}
-use Rattle.std.proofs.lemmas.List.Folds.{flat_map-map}
-use Rattle.saw_address.specs.Maps.{Entries, StateMap}
+use Rattle.saw_address.specs.Maps.{StateMap}
 use Rattle.saw_address.specs.Prefixes.{covers}
 use Rattle.saw_messages.specs.declared.outcome.Change.{Change}
 use Rattle.saw_runs.specs.Below.{read_by}
-use Rattle.saw_runs.specs.Differing.{AddsDifference, Begins, Differ, IsBelow, IsDifference, IsFirst, Takes, changes_at, entries_of, part_of, run_of, set_for}
+use Rattle.saw_runs.specs.Differing.{AddsDifference, Begins, BeginsFrom, Differ, IsBelow, IsDifference, IsFirst, Lead, Takes, changes_at, entries_of, part_of, set_for}
 use Rattle.saw_runs.specs.Entries.{Entry, IsRead}
 use Rattle.saw_runs.specs.Listing.{entry_at, opened_by, read_below}
-use Rattle.saw_runs.specs.Lowers.{AreKidsOf, IsFrom, children_read, held_pair, kid_pair}
 use Rattle.saw_runs.specs.Readings.{entry_value}
 use Rattle.saw_runs.specs.Told.{IsRootOf}
-use Rattle.saw_runs.specs.declared.lowers.Lower.{Lower}
-use Rattle.saw_runs.specs.declared.lowers.Lower.TheVariants.{Made}
-use Rattle.saw_runs.specs.declared.lowers.Kid.{Kid}
 use Rattle.saw_runs.proofs.Between.{difference_is, differ-append, differ_as, differ_at, differ_none}
 use Rattle.saw_runs.proofs.Descending.{read_under_place}
 use Rattle.saw_runs.proofs.InOrder.{less_is}
@@ -52,76 +47,56 @@ byte_order (p ∷ place) b c (a ∷ x) (d ∷ y) lt one two =
 abbrev IsLow : List ℕ → ℕ → List ℕ → Type 0
 IsLow place bound q = (b : ℕ) × (b < bound) × (covers (place ++ b ∷ []) q ≡ true)
 
--- ---- what is read by a run, and by kids
-
-module _ (read : List ℕ → Option Entry) where
-  -- it lies below the place
-  part_under : (levels : ℕ) (place : List ℕ) (part : Option (List ℕ × List ℕ)) → AllByRecursion (λ e. IsBelow place e.0) (read_by read levels place part)
-  part_under levels place None = tt
-  part_under levels place (Some run) = read_under_place read levels place run.0 run.1
-
-  abbrev pair_entries : ℕ → List ℕ → ℕ × Lower → Entries
-  pair_entries levels place pair = read_by read levels (place ++ pair.0 ∷ []) (Some (run_of read pair.1))
-
-  by_pairs : (levels : ℕ) (place : List ℕ) (kids : List Kid) → entries_of read levels place kids ≡ flat_map (pair_entries levels place) (map kid_pair kids)
-  by_pairs levels place kids = sym (flat_map-map (pair_entries levels place) kid_pair kids)
-
-  -- what a run has is what its kids have
-  kids_have : (levels : ℕ) (place path : List ℕ) (bottom : Option (List ℕ)) (kids : List Kid) → AreKidsOf read path bottom kids
-      → read_by read (suc levels) place (part_of path bottom) ≡ entries_of read levels place kids
-  unfolding read_below
-  kids_have levels place path None kids none = sym (ap (entries_of read levels place) none)
-  kids_have levels place [] (Some bottom) kids are =
-      sym (by_pairs levels place kids ∙ ap (flat_map (pair_entries levels place)) are
-      ∙ flat_map-map (pair_entries levels place) held_pair (children_read (read bottom)))
-  kids_have levels place (c ∷ path) (Some bottom) kids only =
-      sym (by_pairs levels place kids ∙ ap (flat_map (pair_entries levels place)) only.3 ∙ append-nil (pair_entries levels place (c, Made only.0))
-      ∙ (λ k. read_below read levels (place ++ c ∷ []) (only.1 k) (only.2 k)))
+-- what is read by a run lies below the place
+part_under : (read : List ℕ → Option Entry) (levels : ℕ) (place : List ℕ) (part : Option (List ℕ × List ℕ))
+    → AllByRecursion (λ e. IsBelow place e.0) (read_by read levels place part)
+part_under read levels place None = tt
+part_under read levels place (Some run) = read_under_place read levels place run.0 run.1
 
 -- ---- the kids in step
 
-abbrev pub AreByBytes : List Kid → Type 0
-AreByBytes kids = IsStrictlySortedBy nat_cmp (map (λ kid. kid.byte) kids)
+abbrev pub AreByBytes : List Lead → Type 0
+AreByBytes kids = IsStrictlySortedBy nat_cmp (map (λ (kid : Lead). kid.0) kids)
 
 -- what lies before these kids is done
-pub record Walked (read : List ℕ → Option Entry) (levels : ℕ) (place : List ℕ) (firsts seconds left_first left_second : List Kid)
+pub record Walked (read : List ℕ → Option Entry) (levels : ℕ) (place : List ℕ) (from to : Option (List ℕ × List ℕ)) (left_first left_second : List Lead)
     (old now : List Change) : Type 0 where
-  pub done_first : List Kid
-  pub done_second : List Kid
-  pub first_is : firsts ≡ done_first ++ left_first
-  pub second_is : seconds ≡ done_second ++ left_second
+  pub done_first : List Lead
+  pub done_second : List Lead
+  pub has_first : read_by read (suc levels) place from ≡ entries_of read levels place (done_first ++ left_first)
+  pub has_second : read_by read (suc levels) place to ≡ entries_of read levels place (done_second ++ left_second)
   pub bound : ℕ
   pub rising_first : AreByBytes left_first
   pub rising_second : AreByBytes left_second
-  pub from_first : IsFrom bound left_first
-  pub from_second : IsFrom bound left_second
+  pub from_first : BeginsFrom bound left_first
+  pub from_second : BeginsFrom bound left_second
   pub more : List Change
   pub grown : now ≡ old ++ more
   pub differ : Differ (IsLow place bound) (entries_of read levels place done_first) (entries_of read levels place done_second) more
 
-from_zero : (kids : List Kid) → IsFrom 0 kids
+from_zero : (kids : List Lead) → BeginsFrom 0 kids
 from_zero [] = tt
 from_zero (kid ∷ kids) = omega arith
 
-from_above : (b : ℕ) (kids : List Kid) → AllByRecursion (λ y. nat_cmp b y ≡ Less) (map (λ kid. kid.byte) kids) → IsFrom (b + 1) kids
+from_above : (b : ℕ) (kids : List Lead) → AllByRecursion (λ y. nat_cmp b y ≡ Less) (map (λ (kid : Lead). kid.0) kids) → BeginsFrom (b + 1) kids
 from_above b [] all = tt
-from_above b (kid ∷ kids) all = let lt : b < kid.byte = less_is b kid.byte all.0 in omega (arith, lt)
+from_above b (kid ∷ kids) all = let lt : b < kid.0 = less_is b kid.0 all.0 in omega (arith, lt)
 
 -- kids that are taken from the front
-record Taken (read : List ℕ → Option Entry) (levels : ℕ) (place : List ℕ) (b : ℕ) (kids : List Kid) (part : Option (List ℕ × List ℕ)) (rest : List Kid)
+record Taken (read : List ℕ → Option Entry) (levels : ℕ) (place : List ℕ) (b : ℕ) (kids : List Lead) (part : Option (List ℕ × List ℕ)) (rest : List Lead)
     : Type 0 where
-  taken : List Kid
+  taken : List Lead
   is : kids ≡ taken ++ rest
   have : entries_of read levels place taken ≡ read_by read levels (place ++ b ∷ []) part
   rising : AreByBytes rest
-  from_next : IsFrom (b + 1) rest
+  from_next : BeginsFrom (b + 1) rest
 
 module _ (read : List ℕ → Option Entry) (levels : ℕ) (place : List ℕ) (b : ℕ) where
-  past : (kids : List Kid) → IsFrom b kids → (Begins b kids → ⊥) → IsFrom (b + 1) kids
+  past : (kids : List Lead) → BeginsFrom b kids → (Begins b kids → ⊥) → BeginsFrom (b + 1) kids
   past [] low other = tt
   past (kid ∷ kids) low other = omega (arith, low, other)
 
-  takes : (kids rest : List Kid) (part : Option (List ℕ × List ℕ)) → AreByBytes kids → IsFrom b kids → Takes read b kids part rest
+  takes : (kids rest : List Lead) (part : Option (List ℕ × List ℕ)) → AreByBytes kids → BeginsFrom b kids → Takes b kids part rest
       → Taken read levels place b kids part rest
   unfolding IsStrictlySortedBy
   takes kids rest part rising low none_or_one = elim none_or_one [
@@ -130,31 +105,32 @@ module _ (read : List ℕ → Option Entry) (levels : ℕ) (place : List ℕ) (b
       is = sym none.2;
       have = ap (read_by read levels (place ++ b ∷ [])) (sym none.1);
       rising = subst AreByBytes (sym none.2) rising;
-      from_next = subst (IsFrom (b + 1)) (sym none.2) (past kids low none.0);
+      from_next = subst (BeginsFrom (b + 1)) (sym none.2) (past kids low none.0);
     }
     | inr one ↦
-        let sorted : AreByBytes (one.0 ∷ rest) = subst AreByBytes one.1 rising in record {
-          taken = one.0 ∷ [];
-          is = one.1;
-          have = append-nil (read_by read levels (place ++ one.0.byte ∷ []) (Some (run_of read one.0.lower)))
-              ∙ (λ k. read_by read levels (place ++ one.2 k ∷ []) (sym one.3 k));
+        let sorted : AreByBytes ((b, part) ∷ rest) = subst AreByBytes one rising in record {
+          taken = (b, part) ∷ [];
+          is = one;
+          have = append-nil (read_by read levels (place ++ b ∷ []) part);
           rising = sorted.1;
-          from_next = from_above b rest (subst (λ x. AllByRecursion (λ y. nat_cmp x y ≡ Less) (map (λ kid. kid.byte) rest)) one.2 sorted.0);
+          from_next = from_above b rest sorted.0;
         }
   ]
 
   -- the bound is not above the first byte
-  bound_low : (bound : ℕ) (kids : List Kid) → IsFrom bound kids → Begins b kids → bound ≤ b
+  bound_low : (bound : ℕ) (kids : List Lead) → BeginsFrom bound kids → Begins b kids → bound ≤ b
   bound_low bound [] low begins = absurd begins
   bound_low bound (kid ∷ kids) low begins = omega (arith, low, begins)
 
-module _ (read : List ℕ → Option Entry) (levels : ℕ) (place : List ℕ) (firsts seconds : List Kid) (old : List Change) where
-  pub walk_start : AreByBytes firsts → AreByBytes seconds → Walked read levels place firsts seconds firsts seconds old old
-  walk_start first second = record {
+module _ (read : List ℕ → Option Entry) (levels : ℕ) (place : List ℕ) (from to : Option (List ℕ × List ℕ)) (old : List Change) where
+  pub walk_start : (firsts seconds : List Lead) → read_by read (suc levels) place from ≡ entries_of read levels place firsts
+      → read_by read (suc levels) place to ≡ entries_of read levels place seconds → AreByBytes firsts → AreByBytes seconds
+      → Walked read levels place from to firsts seconds old old
+  walk_start firsts seconds has_first has_second first second = record {
     done_first = [];
     done_second = [];
-    first_is = refl;
-    second_is = refl;
+    has_first = has_first;
+    has_second = has_second;
     bound = 0;
     rising_first = first;
     rising_second = second;
@@ -165,11 +141,11 @@ module _ (read : List ℕ → Option Entry) (levels : ℕ) (place : List ℕ) (f
     differ = differ_none (IsLow place 0) [] tt;
   }
 
-  pub walk_on : (left_first left_second rest_first rest_second : List Kid) (b : ℕ) (one two : Option (List ℕ × List ℕ)) (now next : List Change)
-      → Walked read levels place firsts seconds left_first left_second old now → IsFirst b left_first left_second
-      → Takes read b left_first one rest_first → Takes read b left_second two rest_second
+  pub walk_on : (left_first left_second rest_first rest_second : List Lead) (b : ℕ) (one two : Option (List ℕ × List ℕ)) (now next : List Change)
+      → Walked read levels place from to left_first left_second old now → IsFirst b left_first left_second
+      → Takes b left_first one rest_first → Takes b left_second two rest_second
       → AddsDifference read levels (place ++ b ∷ []) one two now next
-      → Walked read levels place firsts seconds rest_first rest_second old next
+      → Walked read levels place from to rest_first rest_second old next
   walk_on left_first left_second rest_first rest_second b one two now next walked first takes_first takes_second adds =
       let of_first = takes read levels place b left_first rest_first one walked.rising_first first.of_first takes_first in
       let of_second = takes read levels place b left_second rest_second two walked.rising_second first.of_second takes_second in
@@ -193,8 +169,10 @@ module _ (read : List ℕ → Option Entry) (levels : ℕ) (place : List ℕ) (f
       record {
         done_first = walked.done_first ++ of_first.taken;
         done_second = walked.done_second ++ of_second.taken;
-        first_is = walked.first_is ∙ ap (λ kids. walked.done_first ++ kids) of_first.is ∙ sym (append_assoc walked.done_first of_first.taken rest_first);
-        second_is = walked.second_is ∙ ap (λ kids. walked.done_second ++ kids) of_second.is ∙ sym (append_assoc walked.done_second of_second.taken rest_second);
+        has_first = walked.has_first ∙ ap (entries_of read levels place) (ap (λ kids. walked.done_first ++ kids) of_first.is
+            ∙ sym (append_assoc walked.done_first of_first.taken rest_first));
+        has_second = walked.has_second ∙ ap (entries_of read levels place) (ap (λ kids. walked.done_second ++ kids) of_second.is
+            ∙ sym (append_assoc walked.done_second of_second.taken rest_second));
         bound = b + 1;
         rising_first = of_first.rising;
         rising_second = of_second.rising;
@@ -208,21 +186,18 @@ module _ (read : List ℕ → Option Entry) (levels : ℕ) (place : List ℕ) (f
             (walked.more ++ adds.more)) both_second differ);
       }
 
-  pub walk_end : (now : List Change) (above : ℕ) (from_path to_path : List ℕ) (from to : Option (List ℕ)) → above ≡ suc levels
-      → AreKidsOf read from_path from firsts → AreKidsOf read to_path to seconds → Walked read levels place firsts seconds [] [] old now
-      → AddsDifference read above place (part_of from_path from) (part_of to_path to) old now
-  walk_end now above from_path to_path from to up of_from of_to walked =
-      let first : entries_of read levels place walked.done_first ≡ read_by read above place (part_of from_path from) =
-      ap (entries_of read levels place) (sym (walked.first_is ∙ append-nil walked.done_first)) ∙ sym (kids_have read levels place from_path from firsts of_from)
-      ∙ ap (λ n. read_by read n place (part_of from_path from)) (sym up) in
-      let second : entries_of read levels place walked.done_second ≡ read_by read above place (part_of to_path to) =
-      ap (entries_of read levels place) (sym (walked.second_is ∙ append-nil walked.done_second)) ∙ sym (kids_have read levels place to_path to seconds of_to)
-      ∙ ap (λ n. read_by read n place (part_of to_path to)) (sym up) in
+  pub walk_end : (now : List Change) (above : ℕ) → above ≡ suc levels → Walked read levels place from to [] [] old now
+      → AddsDifference read above place from to old now
+  walk_end now above up walked =
+      let first : entries_of read levels place walked.done_first ≡ read_by read above place from =
+      sym (walked.has_first ∙ ap (entries_of read levels place) (append-nil walked.done_first)) ∙ ap (λ n. read_by read n place from) (sym up) in
+      let second : entries_of read levels place walked.done_second ≡ read_by read above place to =
+      sym (walked.has_second ∙ ap (entries_of read levels place) (append-nil walked.done_second)) ∙ ap (λ n. read_by read n place to) (sym up) in
       record {
         more = walked.more;
         grown = walked.grown;
         differ = differ_as (IsLow place walked.bound) (IsBelow place) (λ q below. covers-shorter place (below.0 ∷ []) q below.2) _ _ walked.more
-            (subst (λ es. Differ (IsLow place walked.bound) es (read_by read above place (part_of to_path to)) walked.more) first
+            (subst (λ es. Differ (IsLow place walked.bound) es (read_by read above place to) walked.more) first
             (subst (λ fs. Differ (IsLow place walked.bound) (entries_of read levels place walked.done_first) fs walked.more) second walked.differ));
       }
 

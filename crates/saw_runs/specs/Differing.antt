@@ -1,5 +1,5 @@
 -- The changes that lead from one map to another, and how they are gathered from what is read of both.
-use Rattle.std.specs.Prelude.{◌≡◌, ◌≢◌, ◌⊎◌, ℕ, Bool, true, false, cond, List, [], ◌∷◌, ◌++◌, Option, Some, None}
+use Rattle.std.specs.Prelude.{◌≡◌, ◌≢◌, ◌⊎◌, ◌≤◌, ℕ, Bool, true, false, cond, List, [], ◌∷◌, ◌++◌, Option, Some, None, length, map, option_copied}
 use Rattle.std.specs.List.{AllByRecursion, flat_map}
 use Rattle.std.specs.Str.{bytes_eq}
 use Rattle.saw_address.specs.Maps.{Entries, StateMap, value_at}
@@ -11,10 +11,9 @@ use Rattle.saw_node.specs.Trees.{found_at}
 use Rattle.saw_runs.specs.Below.{read_by}
 use Rattle.saw_runs.specs.Entries.{Entry}
 use Rattle.saw_runs.specs.Listing.{opened_by}
-use Rattle.saw_runs.specs.Lowers.{IsFrom}
-use Rattle.saw_runs.specs.declared.lowers.Lower.{Lower}
-use Rattle.saw_runs.specs.declared.lowers.Lower.TheVariants.{Held, Made}
-use Rattle.saw_runs.specs.declared.lowers.Kid.{Kid}
+use Rattle.saw_runs.specs.declared.beside.Kids.{Kids}
+use Rattle.saw_runs.specs.declared.beside.Kids.TheVariants.{Node, Only}
+use Rattle.saw_runs.specs.declared.ways.Way.{Way}
 
 -- rising changes, each of which changes something, that lead from the first map to the second
 pub record IsDifference (m n : StateMap) (changes : List Change) : Type 0 where
@@ -64,6 +63,10 @@ abbrev pub part_of : List ℕ → Option (List ℕ) → Option (List ℕ × List
 part_of path None = None
 part_of path (Some bottom) = Some (path, bottom)
 
+-- the run that a way stands for
+abbrev pub way_part : Way → Option (List ℕ × List ℕ)
+way_part way = part_of way.path.now (option_copied way.bottom)
+
 -- the changes from what is read by one run to what is read by another stand behind those before
 pub record AddsDifference (read : List ℕ → Option Entry) (levels : ℕ) (place : List ℕ) (first second : Option (List ℕ × List ℕ))
     (old new : List Change) : Type 0 where
@@ -71,34 +74,45 @@ pub record AddsDifference (read : List ℕ → Option Entry) (levels : ℕ) (pla
   pub grown : new ≡ old ++ more
   pub differ : Differ (IsBelow place) (read_by read levels place first) (read_by read levels place second) more
 
--- the run that leads down from a kid
-abbrev pub run_of : (List ℕ → Option Entry) → Lower → List ℕ × List ℕ
-run_of read (Held h) = opened_by h (read h)
-run_of read (Made run) = (run.path.items, run.bottom)
+-- a kid: its byte, and the run that leads down from it
+abbrev pub Lead : Type 0
+Lead = ℕ × Option (List ℕ × List ℕ)
+
+-- the kids, as they are read
+abbrev pub kids_in : (List ℕ → Option Entry) → Kids → List Lead
+kids_in read (Node children) = map (λ child. (child.byte, Some (opened_by child.hash (read child.hash)))) children.now
+kids_in read (Only byte way) = (byte, way_part way) ∷ []
+
+-- no way is longer than an address
+abbrev pub FitKids : Kids → Type 0
+FitKids (Node children) = Unit {0}
+FitKids (Only byte way) = length way.path.now ≤ 35
 
 -- the entries below kids
-abbrev pub entries_of : (List ℕ → Option Entry) → ℕ → List ℕ → List Kid → Entries
-entries_of read levels place kids = flat_map (λ kid. read_by read levels (place ++ kid.byte ∷ []) (Some (run_of read kid.lower))) kids
+abbrev pub entries_of : (List ℕ → Option Entry) → ℕ → List ℕ → List Lead → Entries
+entries_of read levels place kids = flat_map (λ kid. read_by read levels (place ++ kid.0 ∷ []) kid.1) kids
 
 -- the first kid has the byte
-abbrev pub Begins : ℕ → List Kid → Type 0
+abbrev pub Begins : ℕ → List Lead → Type 0
 Begins b [] = ⊥
-Begins b (kid ∷ kids) = kid.byte ≡ b
+Begins b (kid ∷ kids) = kid.0 ≡ b
 
--- both begin with the same kid
-abbrev pub BeginAlike : List Kid → List Kid → Type 0
-BeginAlike [] seconds = ⊥
-BeginAlike (kid ∷ kids) [] = ⊥
-BeginAlike (kid ∷ kids) (other ∷ others) = kid ≡ other
+-- the first kid, if there is one, has no lesser byte
+abbrev pub BeginsFrom : ℕ → List Lead → Type 0
+BeginsFrom b [] = Unit {0}
+BeginsFrom b (kid ∷ kids) = b ≤ kid.0
 
 -- the byte is the least of both lists
-pub record IsFirst (b : ℕ) (firsts seconds : List Kid) : Type 0 where
-  pub of_first : IsFrom b firsts
-  pub of_second : IsFrom b seconds
+pub record IsFirst (b : ℕ) (firsts seconds : List Lead) : Type 0 where
+  pub of_first : BeginsFrom b firsts
+  pub of_second : BeginsFrom b seconds
   pub begins : Begins b firsts ⊎ Begins b seconds
 
 -- the first kid, if it has the byte, is taken; else none is
-abbrev pub Takes : (List ℕ → Option Entry) → ℕ → List Kid → Option (List ℕ × List ℕ) → List Kid → Type 0
-Takes read b kids part rest =
-    ((Begins b kids → ⊥) × (part ≡ None) × (rest ≡ kids))
-    ⊎ ((kid : Kid) × (kids ≡ kid ∷ rest) × (kid.byte ≡ b) × (part ≡ Some (run_of read kid.lower)))
+abbrev pub Takes : ℕ → List Lead → Option (List ℕ × List ℕ) → List Lead → Type 0
+Takes b kids part rest = ((Begins b kids → ⊥) × (part ≡ None) × (rest ≡ kids)) ⊎ (kids ≡ (b, part) ∷ rest)
+
+-- kids that stand at the front of both are passed over
+abbrev pub PassSame : (firsts seconds rest others : List Lead) → Type 0
+PassSame firsts seconds rest others =
+    (same : List Lead) × (firsts ≡ same ++ rest) × (seconds ≡ same ++ others)

@@ -1,18 +1,18 @@
 //! The changes that lead from one root's map to another's.
 
-ghost use Rattle.std.specs.Prelude.{◌≡◌, ◌⊎◌, ◌≤◌, ◌+◌, ◌-◌, ◌++◌, [], ℕ, List, IfOk, IsTrue, MatchOption, OnOk, length, option_copied, take};
+ghost use Rattle.std.specs.Prelude.{◌≡◌, ◌⊎◌, ◌≤◌, ◌+◌, ◌-◌, ◌++◌, [], ℕ, List, IfOk, IsTrue, OnOk, length, option_copied, take};
 ghost use Rattle.saw_address.specs.Maps.{StateMap};
 ghost use Rattle.saw_runs.specs.Below.{read_by};
-ghost use Rattle.saw_runs.specs.Differing.{AddsDifference, BeginAlike, Begins, IsDifference, IsFirst, Takes, changes_at, is_same_value, part_of, set_for};
+ghost use Rattle.saw_runs.specs.Differing.{AddsDifference, IsDifference, changes_at, is_same_value, part_of, set_for, way_part};
 ghost use Rattle.saw_runs.specs.Entries.{IsRead};
 ghost use Rattle.saw_runs.specs.Listing.{entry_at};
 ghost use Rattle.saw_runs.specs.Readings.{read_at};
 ghost use Rattle.saw_runs.specs.Told.{IsRootOf};
 
 use crate::Tables;
-use crate::kids::kids_of;
-use crate::lowers::{Kid, Lower, opened};
+use crate::beside::{behind_same, first_byte, kids_below, split};
 use crate::reading::value_of;
+use crate::ways::{Way, way_of, way_to};
 use saw_address::Address;
 use saw_messages::Change;
 use saw_node::NodeHash;
@@ -31,104 +31,66 @@ pub fn difference<H>(
         → IsDifference m n changes.items) }
 {
     let mut changes = Vec::new(alloc);
-    let (from, to) = (Lower::Held(*from), Lower::Held(*to));
-    let (from_path, from) = opened(tables, Some(&from));
-    let (to_path, to) = opened(tables, Some(&to));
-    add_difference(
-        alloc,
-        tables,
-        [0; 35],
-        0,
-        from_path,
-        &from,
-        to_path,
-        &to,
-        &mut changes,
-    )?;
+    let (from, to) = (way_of(tables, from), way_of(tables, to));
+    add_difference(alloc, tables, [0; 35], 0, from, to, &mut changes)?;
     Ok(changes)
 }
 
-// Adds the changes below a place, which the first bytes lead to, by the run that leads down from there in each map.
+// Adds the changes below a place, which the first bytes lead to, by the way down from there in each map.
 fn add_difference<H>(
     alloc: Global,
     tables: &Tables<H>,
     at: [u8; 35],
     depth: usize,
-    from_path: &[u8],
-    from: &Option<NodeHash>,
-    to_path: &[u8],
-    to: &Option<NodeHash>,
+    from: Way<'_>,
+    to: Way<'_>,
     changes: &mut Vec<Change>,
 ) -> Result<(), AllocError>
     requires whole { length at ≡ 35 }
     requires within { depth ≤ 35 }
-    requires from { length from_path.now ≤ 35 }
-    requires to { length to_path.now ≤ 35 }
+    requires from { length from.path.now ≤ 35 }
+    requires to { length to.path.now ≤ 35 }
     ensures { OnOk result (AddsDifference (read_at tables.now) (35 - depth) (take depth at)
-        (part_of from_path.now from.now) (part_of to_path.now to.now) changes.old.items changes.new.items) }
+        (way_part from.entry) (way_part to.entry) changes.old.items changes.new.items) }
 {
-    if is_same(from_path, from, to_path, to) {
+    if is_same(from, to) {
         return Ok(());
     }
     if depth == 35 {
-        let old = leaf_of(tables, from_path, from);
-        let new = leaf_of(tables, to_path, to);
+        let (old, new) = (leaf_of(tables, from), leaf_of(tables, to));
         add_value(alloc, at, old, new, changes)?;
         return Ok(());
     }
-    let shared = shared_path(from_path, from, to_path, to);
+    let shared = shared_path(from, to);
     if !shared.is_empty() && shared.len() <= 35 - depth {
-        let end = depth + shared.len();
-        let at = moved(at, depth, shared);
-        add_difference(alloc, tables, at, end, &[], from, &[], to, changes)?;
+        let (at, end) = (moved(at, depth, shared), depth + shared.len());
+        let (from, to) = (way_to(from.bottom), way_to(to.bottom));
+        add_difference(alloc, tables, at, end, from, to, changes)?;
         return Ok(());
     }
-    let from_kids = kids_of(alloc, tables, from_path, from)?;
-    let to_kids = kids_of(alloc, tables, to_path, to)?;
-    let mut firsts = from_kids.as_slice();
-    let mut seconds = to_kids.as_slice();
-    while let Some(byte) = first_byte(firsts, seconds) {
-        if is_same_front(firsts, seconds) {
-            firsts = &firsts[1..];
-            seconds = &seconds[1..];
-        } else {
-            let one = split(tables, firsts, byte);
-            let two = split(tables, seconds, byte);
-            let mut at = at;
-            at[depth] = byte;
-            add_difference(
-                alloc,
-                tables,
-                at,
-                depth + 1,
-                one.0,
-                &one.1,
-                two.0,
-                &two.1,
-                changes,
-            )?;
-            firsts = one.2;
-            seconds = two.2;
-        }
+    let mut left = behind_same(kids_below(tables, from), kids_below(tables, to));
+    while let Some(byte) = first_byte(left.0, left.1) {
+        let (one, firsts) = split(tables, left.0, byte);
+        let (two, seconds) = split(tables, left.1, byte);
+        let mut at = at;
+        at[depth] = byte;
+        add_difference(alloc, tables, at, depth + 1, one, two, changes)?;
+        left = behind_same(firsts, seconds);
     }
     Ok(())
 }
 
-// Bytes by which both runs lead down, as far as they lead to a node; none where they part.
-fn shared_path<'a>(
-    path: &'a [u8],
-    bottom: &Option<NodeHash>,
-    other_path: &'a [u8],
-    other: &Option<NodeHash>,
-) -> &'a [u8]
-    ensures { (result.now ≡ []) ⊎ ((part_of result.now bottom.now ≡ part_of path.now bottom.now)
-        × (part_of result.now other.now ≡ part_of other_path.now other.now)) }
+// Bytes by which both ways lead down, as far as they lead to a node; none where they part.
+fn shared_path<'a>(one: Way<'a>, other: Way<'a>) -> &'a [u8]
+    ensures { (result.now ≡ []) ⊎ (
+        (part_of result.now (option_copied one.entry.bottom) ≡ way_part one.entry)
+        × (part_of result.now (option_copied other.entry.bottom) ≡ way_part other.entry)) }
 {
-    if bottom.is_none() {
-        return other_path;
+    if one.bottom.is_none() {
+        return other.path;
     }
-    if other.is_none() || path == other_path {
-        return path;
+    if other.bottom.is_none() || one.path == other.path {
+        return one.path;
     }
     &[]
 }
@@ -144,51 +106,30 @@ fn moved(at: [u8; 35], depth: usize, path: &[u8]) -> [u8; 35]
     moved
 }
 
-// Whether both begin with one kid, which need not be looked up.
-fn is_same_front(firsts: &[Kid], seconds: &[Kid]) -> bool
-    ensures { IsTrue result → BeginAlike firsts.now seconds.now }
+// Whether both ways are one, or lead to nothing by the same bytes.
+fn is_same(one: Way<'_>, other: Way<'_>) -> bool
+    ensures { IsTrue result → (one.entry.path.now ≡ other.entry.path.now)
+        × (option_copied one.entry.bottom ≡ option_copied other.entry.bottom) }
 {
-    if firsts.is_empty() || seconds.is_empty() || firsts[0].byte != seconds[0].byte {
+    if one.path != other.path {
         return false;
     }
-    match (&firsts[0].lower, &seconds[0].lower) {
-        (Lower::Held(first), Lower::Held(second)) => *first == *second,
-        _ => false,
-    }
-}
-
-// Whether both runs lead down to one node by the same bytes, or both to none.
-fn is_same(
-    path: &[u8],
-    bottom: &Option<NodeHash>,
-    other_path: &[u8],
-    other: &Option<NodeHash>,
-) -> bool
-    ensures { IsTrue result → (path.now ≡ other_path.now) × (bottom.now ≡ other.now) }
-{
-    if path != other_path {
-        return false;
-    }
-    match (bottom, other) {
+    match (one.bottom, other.bottom) {
         (None, None) => true,
         (Some(bottom), Some(other)) => *bottom == *other,
         _ => false,
     }
 }
 
-// The value of a leaf. A run with bytes leads to none.
-fn leaf_of<'a, H>(
-    tables: &'a Tables<H>,
-    path: &[u8],
-    bottom: &Option<NodeHash>,
-) -> Option<&'a Bytes>
+// The value of a leaf. A way with bytes leads to none.
+fn leaf_of<'a, H>(tables: &'a Tables<H>, way: Way<'_>) -> Option<&'a Bytes>
     ensures { (place : List ℕ) → entry_at place (option_copied result)
-        ≡ read_by (read_at tables.now) 0 place (part_of path.now bottom.now) }
+        ≡ read_by (read_at tables.now) 0 place (way_part way.entry) }
 {
-    let Some(bottom) = bottom else {
+    let Some(bottom) = way.bottom else {
         return None;
     };
-    if !path.is_empty() {
+    if !way.path.is_empty() {
         return None;
     }
     value_of(tables, bottom)
@@ -227,42 +168,4 @@ fn same_value(one: Option<&Bytes>, other: Option<&Bytes>) -> bool
         (Some(one), Some(other)) => one.as_slice() == other.as_slice(),
         _ => false,
     }
-}
-
-// The least byte of both lists of kids. None: both are empty.
-fn first_byte(firsts: &[Kid], seconds: &[Kid]) -> Option<u8>
-    ensures { MatchOption result ((firsts.now ≡ []) × (seconds.now ≡ []))
-        (λ byte. IsFirst byte firsts.now seconds.now) }
-{
-    match (front_byte(firsts), front_byte(seconds)) {
-        (None, None) => None,
-        (Some(byte), None) => Some(byte),
-        (None, Some(byte)) => Some(byte),
-        (Some(first), Some(second)) => Some(first.min(second)),
-    }
-}
-
-fn front_byte(kids: &[Kid]) -> Option<u8>
-    ensures { MatchOption result (kids.now ≡ []) (λ byte. Begins byte kids.now) }
-{
-    if kids.is_empty() {
-        return None;
-    }
-    Some(kids[0].byte)
-}
-
-// The run that leads down from the first kid, if it has this byte, and the kids behind it; else none, and all kids.
-fn split<'a, H>(
-    tables: &'a Tables<H>,
-    kids: &'a [Kid],
-    byte: u8,
-) -> (&'a [u8], Option<NodeHash>, &'a [Kid])
-    ensures short { length result.0.now ≤ 35 }
-    ensures takes { Takes (read_at tables.now) byte kids.now (part_of result.0.now result.1) result.2.now }
-{
-    if kids.is_empty() || kids[0].byte != byte {
-        return (&[], None, kids);
-    }
-    let (path, bottom) = opened(tables, Some(&kids[0].lower));
-    (path, bottom, &kids[1..])
 }

@@ -1,6 +1,7 @@
 //! The state's tree kept as runs, forks and leaves.
 #![tactic(auto)]
 
+mod beside;
 mod changing;
 mod differing;
 mod effective;
@@ -16,6 +17,7 @@ mod run;
 mod sharing;
 mod tables;
 mod testing;
+mod ways;
 
 pub use differing::difference;
 pub use listing::{Listed, list_below};
