@@ -153,7 +153,7 @@ fn sent_to(alloc: Global, remotes: &[RemoteStation<MemoryPeer>]) -> Result<Vec<u
 }
 
 /// The status of a run over these ends.
-fn status_of<R: Station, T: Threads + Wait + Sync>(
+fn run_status<R: Station, T: Threads + Wait + Sync>(
     rt: &T,
     alloc: Global,
     words: &[String],
@@ -198,7 +198,7 @@ fn said_among<R: Station, T: Threads + Wait + Sync>(
 ) -> Result<Said, AllocError>
     requires { All (λ remote. R.begun remote ≡ false) remotes.old.items }
 {
-    let status = status_of(rt, alloc, words, ends, remotes)?;
+    let status = run_status(rt, alloc, words, ends, remotes)?;
     said_by(alloc, status, ends, Vec::new(alloc))
 }
 
@@ -211,7 +211,7 @@ fn said_over_link<T: Threads + Wait + Sync>(
     frames: Vec<Vec<u8>>,
 ) -> Result<Said, AllocError> {
     let mut remotes = remotes_of(alloc, frames)?;
-    let status = status_of(rt, alloc, words, ends, &mut remotes)?;
+    let status = run_status(rt, alloc, words, ends, &mut remotes)?;
     said_by(alloc, status, ends, sent_to(alloc, &remotes)?)
 }
 

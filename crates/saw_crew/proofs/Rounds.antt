@@ -6,7 +6,6 @@ use Rattle.saw_schedule.specs.Histories.{History, IsTake}
 use Rattle.saw_schedule.specs.declared.step.Step.{Step}
 use Rattle.saw_schedule.specs.declared.step.Step.TheVariants.{Take}
 use Rattle.saw_station.specs.declared.offer.Offer.{Offer}
-use Rattle.saw_tickets.specs.TicketHistory.{knows}
 use Rattle.saw_tickets.specs.Seats.{ClaimsJob, FindsNone, IssuesJob, issued_by}
 use Rattle.saw_tickets.specs.declared.rule.View.{View}
 use Rattle.saw_crew.specs.Rounds.{ClaimsOne, IssuesJobs, NoneIsReady, TakesJobs, TakesMore, TakesSome, takes_of}
@@ -29,12 +28,12 @@ takes-one old mid new jobs job taken take offers = record {
 }
 
 issues-none : (own : View) (others : List View) → IssuesJobs (own ∷ others) (own ∷ others) []
-issues-none own others = ap (λ (jobs : List Job). knows jobs own.claimed ∷ others) (sym (append-nil own.issued))
+issues-none own others = ap (λ (jobs : List Job). record own { issued = jobs } ∷ others) (sym (append-nil own.issued))
 
 issues-one : (views mid views' : List View) (issued : List Job) (job : Job) → IssuesJobs views mid issued → IssuesJob mid views' job → IssuesJobs views views' (issued ++ job ∷ [])
 issues-one [] mid views' issued job so_far one = absurd so_far
 issues-one (own ∷ others) mid views' issued job so_far one =
-    (rw so_far at one) ∙ ap (λ (jobs : List Job). knows jobs own.claimed ∷ others) (append_assoc own.issued issued (job ∷ []))
+    (rw so_far at one) ∙ ap (λ (jobs : List Job). record own { issued = jobs } ∷ others) (append_assoc own.issued issued (job ∷ []))
 
 -- ---- a loop that takes
 

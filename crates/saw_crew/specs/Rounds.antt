@@ -12,7 +12,6 @@ use Rattle.saw_schedule.specs.declared.ended.Finished.{Finished}
 use Rattle.saw_schedule.specs.declared.ended.Given.{Given}
 use Rattle.saw_schedule.specs.declared.step.Step.{Step}
 use Rattle.saw_schedule.specs.declared.step.Step.TheVariants.{Take}
-use Rattle.saw_tickets.specs.TicketHistory.{knows}
 use Rattle.saw_tickets.specs.Seats.{ClaimsJob, ClaimsOwn, FindsNoOwn, FindsNone}
 use Rattle.saw_tickets.specs.declared.rule.View.{View}
 use Rattle.saw_crew.specs.Stored.{Stored}
@@ -31,7 +30,7 @@ pub record TakesJobs (old new : Stored) (jobs : List Job) : Type 0 where
 -- jobs were issued to the own queue, and nothing else changed
 abbrev pub IssuesJobs : List View → List View → List Job → Type 0
 IssuesJobs [] new jobs = ⊥
-IssuesJobs (own ∷ others) new jobs = new ≡ knows (own.issued ++ jobs) own.claimed ∷ others
+IssuesJobs (own ∷ others) new jobs = new ≡ record own { issued = own.issued ++ jobs } ∷ others
 
 -- The first of the jobs that were taken stays in hand, the next ones were issued to the seat, and what it handed back
 -- stays in hand, too. None: nothing was taken.

@@ -16,7 +16,7 @@ behind_last test (x ∷ xs) = option_or (behind_last test xs) (if test x then So
 abbrev pub is_known : List (List ℕ) → BlockRecord → Bool
 is_known known block = list_any (λ id. bytes_eq block.id id) known
 
--- the blocks behind the last one that is known; where none is named all of them, and where none of the named is there, none
+-- The blocks behind the last one that is known, and all of them where none is named. None: none of the named is there.
 abbrev pub news_of : List (List ℕ) → List BlockRecord → Option (List BlockRecord)
 news_of [] branch = Some branch
 news_of (first ∷ others) branch = behind_last (is_known (first ∷ others)) branch

@@ -40,7 +40,7 @@ fn run_all(host: &HostRuntime) -> anyhow::Result<bool> {
     for kind in KINDS {
         run_kind(host, kind, &mut count)?;
     }
-    Ok(count.tell(host)?)
+    Ok(count.print(host)?)
 }
 
 fn main(rt: HostRuntime) -> anyhow::Result<ExitCode> {

@@ -36,7 +36,7 @@ pub(crate) fn kept_at<M: Message>(
 }
 
 /// An event tells of the change, and then the transaction is valid.
-fn tell(talk: &Talk, name: &str, at: usize) -> Result<Action, AllocError>
+fn add_update(talk: &Talk, name: &str, at: usize) -> Result<Action, AllocError>
     ensures { IfOk result (λ action. action ≡ then_do
         (done 401 (actions.AddEvent (update_of (codes "identity/update") name.now)) (replies_from at talk.now.turns.now))
         (λ told behind. actions.Ok)) }
@@ -61,7 +61,7 @@ pub(crate) fn write<M: Message>(
 {
     match talk.done_at(REFUSED, at) {
         Some(Told::Due(action)) => Ok(action),
-        Some(Told::Goes((), at)) => tell(talk, name, at),
+        Some(Told::Goes((), at)) => add_update(talk, name, at),
         None => {
             let body = list.encode(talk.alloc)?;
             Action::set(talk.alloc, address, Bytes::from_vec(body))

@@ -94,7 +94,7 @@ failure_fault results = option_map (λ failure. BatchInvalid failure.0 failure.1
 abbrev pub root_fault : BlockHeader → List ℕ → Option BlockFault
 root_fault header root = when (not (bytes_eq header.state_root_hash (encode_lower root))) (Root header.state_root_hash root)
 
--- what its results are, which its batches have over the map before it
+-- whether its batches, run over the map before it, all apply, and leave the stated root
 abbrev pub run_tests : (List ℕ → List ℕ) → StateMap → List BatchResult → BlockHeader → List Test
 run_tests hash before results header =
     (14, failure_fault results) ∷ (15, root_fault header (root_of_map hash (left_after before results))) ∷ []

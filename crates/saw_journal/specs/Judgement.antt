@@ -124,7 +124,7 @@ module _ (hash : List ℕ → List ℕ) (policy : Policy) (runs : Runs) (map_beh
   left_unless blocks content (Some fault) = None
   left_unless blocks content None = left_block blocks (block content)
 
--- the map that the bytes of a block would leave behind accepted ones: none where its batches are not run or one fails
+-- the map that the bytes of a block would leave behind accepted ones: none where a test but that of the root finds a fault
 unfoldable pub would_leave : Rules → (Option BlockRecord → StateMap) → List BlockRecord → List ℕ → Option StateMap
 would_leave rules map_behind blocks content =
     left_unless rules.hash rules.policy rules.runs map_behind blocks content (structure_fault rules.accepts content)

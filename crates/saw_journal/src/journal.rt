@@ -29,7 +29,7 @@ use crate::branch_ids::{BranchIds, Holders, ids_behind};
 use crate::fault::JournalFault;
 use crate::head::choose;
 use crate::holding::{counts, cut, hold_block};
-use crate::judge::{New, judge};
+use crate::judge::{New, judge_block};
 use crate::stop::Stop;
 use indexmap::IndexMap;
 use saw_merkle::State;
@@ -337,7 +337,7 @@ impl<H: NodeHasher> Journal<H> {
         ensures desks { KeepsDesks R.faults R.offered desks.old desks.new }
         ensures cause { IsErrOf result JournalFault.PeerFailed → Failed R.faults desks.old desks.new }
     {
-        match judge::<P, H, T, V, R>(
+        match judge_block::<P, H, T, V, R>(
             rt,
             self.alloc,
             &self.blocks,

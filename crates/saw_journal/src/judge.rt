@@ -49,7 +49,7 @@ fn root_of(parent: Option<&BlockRecord>) -> Option<NodeHash>
 }
 
 /// Judges the bytes of a block. It stops at the first fault.
-pub(crate) fn judge<
+pub(crate) fn judge_block<
     P: BlockPolicy,
     H: NodeHasher,
     T: Threads + Wait + Sync,

@@ -2,7 +2,7 @@
 use Rattle.std.proofs.Common.{◌≡◌, ℕ, Bool, List, Option, refl, sym, ◌∙◌, subst}
 use Rattle.saw_faults.specs.Counts.{Rose}
 use Rattle.saw_station.specs.declared.fault.StationFault.{StationFault}
-use Rattle.saw_link.specs.Remotes.{IsKept, Leaves, Remote, Why, breach_of, fault_of, health_of}
+use Rattle.saw_link.specs.Remotes.{AgreesWithLink, Leaves, Remote, Why, breach_of, fault_of, health_of}
 use Rattle.saw_link.specs.declared.exchange.Trouble.{Trouble}
 use Rattle.saw_link.specs.declared.exchange.Trouble.TheVariants as troubles
 use Rattle.saw_link.specs.declared.passed.Passed.{Passed}
@@ -22,7 +22,7 @@ lost troubles.Early is = cc
 lost troubles.Closed is = cc
 lost troubles.OutOfMemory is = cc
 
-kept_lost : (told : Option (List Passed)) (standing : Standing) (begun : Bool) (health : Health) → (health ≡ Sound → ⊥) → IsKept told standing begun health
+kept_lost : (told : Option (List Passed)) (standing : Standing) (begun : Bool) (health : Health) → (health ≡ Sound → ⊥) → AgreesWithLink told standing begun health
 kept_lost told standing begun health not = record {
   spelled = λ sound. absurd (not sound);
   still = λ sound. absurd (not sound);
@@ -66,8 +66,8 @@ remote_same link other standing next begun health later faults count breach show
 -- what a station keeps after a call that failed
 pub kept_settled : (trouble : Trouble) (told : Option (List Passed)) (standing : Standing) (begun : Bool) (health : Health) (later : Option (List Passed))
     (next : Standing) (then_health : Health)
-    → IsKept told standing begun health → (trouble ≡ troubles.Early → (later ≡ told) × (next ≡ standing) × (then_health ≡ health))
-    → ((trouble ≡ troubles.Early → ⊥) → then_health ≡ health_of (fault_of trouble)) → IsKept later next begun then_health
+    → AgreesWithLink told standing begun health → (trouble ≡ troubles.Early → (later ≡ told) × (next ≡ standing) × (then_health ≡ health))
+    → ((trouble ≡ troubles.Early → ⊥) → then_health ≡ health_of (fault_of trouble)) → AgreesWithLink later next begun then_health
 kept_settled troubles.Link told standing begun health later next then_health kept early left = kept_lost later next begun then_health (λ is. lost troubles.Link (sym (left (λ e. absurd cc)) ∙ is))
 kept_settled troubles.TooLong told standing begun health later next then_health kept early left = kept_lost later next begun then_health (λ is. lost troubles.TooLong (sym (left (λ e. absurd cc)) ∙ is))
 kept_settled troubles.Ended told standing begun health later next then_health kept early left = kept_lost later next begun then_health (λ is. lost troubles.Ended (sym (left (λ e. absurd cc)) ∙ is))
@@ -76,9 +76,9 @@ kept_settled (troubles.Breach frame) told standing begun health later next then_
 kept_settled troubles.Exhausted told standing begun health later next then_health kept early left = kept_lost later next begun then_health (λ is. lost troubles.Exhausted (sym (left (λ e. absurd cc)) ∙ is))
 kept_settled troubles.Early told standing begun health later next then_health kept early left =
     let e = early refl in
-    let P : Option (List Passed) → Type 0 = λ t. IsKept t next begun then_health in
-    let Q : Standing → Type 0 = λ s. IsKept told s begun then_health in
-    let R : Health → Type 0 = λ h. IsKept told standing begun h in
+    let P : Option (List Passed) → Type 0 = λ t. AgreesWithLink t next begun then_health in
+    let Q : Standing → Type 0 = λ s. AgreesWithLink told s begun then_health in
+    let R : Health → Type 0 = λ h. AgreesWithLink told standing begun h in
     subst P (sym e.0) (subst Q (sym e.1) (subst R (sym e.2) kept))
 kept_settled troubles.Closed told standing begun health later next then_health kept early left = kept_lost later next begun then_health (λ is. lost troubles.Closed (sym (left (λ e. absurd cc)) ∙ is))
 kept_settled troubles.OutOfMemory told standing begun health later next then_health kept early left = kept_lost later next begun then_health (λ is. lost troubles.OutOfMemory (sym (left (λ e. absurd cc)) ∙ is))

@@ -2,7 +2,7 @@
 use Rattle.std.proofs.Common.{◌≡◌, ◌≤◌, inl, inr, ℕ, length, Bool, true, false, List, [], ◌∷◌, ◌++◌, Option, Some, None, refl, sym, ap, ◌∙◌, subst, append_assoc, append-nil}
 use Rattle.std.specs.List.{AllByRecursion}
 use Rattle.std.specs.Option.{IsSome, IfSome}
-use Rattle.saw_link.specs.Remotes.{IsKept, Stepped}
+use Rattle.saw_link.specs.Remotes.{AgreesWithLink, Stepped}
 use Rattle.saw_link.specs.declared.remote.Health.{Health}
 use Rattle.saw_link.specs.declared.remote.Health.TheVariants.{Sound}
 use Rattle.saw_messages.specs.TxShapes.{TxShape}
@@ -170,7 +170,7 @@ spelled_fresh : (told : Option (List Passed)) → IfSome told (λ passed. passed
 spelled_fresh None some = tt
 spelled_fresh (Some passed) some = let P : List Passed → Type 0 = λ x. Spells fresh [] x fresh in ([], subst P (sym some) none)
 
-pub kept_fresh : (told : Option (List Passed)) (standing : Standing) → IfSome told (λ passed. passed ≡ []) → standing ≡ fresh → IsKept told standing false Sound
+pub kept_fresh : (told : Option (List Passed)) (standing : Standing) → IfSome told (λ passed. passed ≡ []) → standing ≡ fresh → AgreesWithLink told standing false Sound
 kept_fresh told standing first is = record {
   spelled = λ _. let P : Standing → Type 0 = λ x. IsSpelled told x in subst P (sym is) (spelled_fresh told first);
   still = λ _. ap (λ x. x.refused) is;
@@ -180,8 +180,8 @@ kept_fresh told standing first is = record {
 
 -- what a station keeps after a call
 pub kept_on : (told : Option (List Passed)) (s : Standing) (begun : Bool) (health : Health) (later : Option (List Passed)) (next : Standing) (begins : Bool)
-    → IsKept told s begun health → begins ≡ true → (IsSpelled told s → IsSpelled later next) → next.refused ≡ 0 → next.more ≡ false
-    → IsKept later next begins health
+    → AgreesWithLink told s begun health → begins ≡ true → (IsSpelled told s → IsSpelled later next) → next.refused ≡ 0 → next.more ≡ false
+    → AgreesWithLink later next begins health
 kept_on told s begun health later next begins kept is on still ready = record {
   still = λ sound. still;
   ready = λ yes_begun sound. ready;

@@ -30,7 +30,7 @@ pub record Remote (L : Type 0) : Type 0 where
   pub breach : Option (List ℕ)
 
 -- while it is sound, what the link tells spells how it stands; nothing passed before it began
-pub record IsKept (told : Option (List Passed)) (standing : Standing) (begun : Bool) (health : Health) : Type 0 where
+pub record AgreesWithLink (told : Option (List Passed)) (standing : Standing) (begun : Bool) (health : Health) : Type 0 where
   pub spelled : health ≡ Sound → IsSpelled told standing
   pub still : health ≡ Sound → standing.refused ≡ 0
   pub ready : begun ≡ true → health ≡ Sound → standing.more ≡ false

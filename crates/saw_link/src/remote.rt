@@ -56,13 +56,13 @@ impl<L: Link> Drop for RemoteStation<L> {
 }
 
 impl<L: Link> Model for RemoteStation<L> {
-    ghost use Rattle.saw_link.specs.Remotes.{Remote, IsKept};
+    ghost use Rattle.saw_link.specs.Remotes.{Remote, AgreesWithLink};
 
     ghost Value = { Remote L };
 
     ghost view = { λ s. record { link = s.link; standing = s.standing; begun = s.begun; health = s.health; faults = s.faults; breach = s.breach } };
 
-    ghost invariant = { λ s. IsKept (L.told s.link) s.standing s.begun s.health };
+    ghost invariant = { λ s. AgreesWithLink (L.told s.link) s.standing s.begun s.health };
 }
 
 // The last of the turns.

@@ -3,14 +3,14 @@ use Rattle.std.proofs.Common.{◌≡◌, ℕ, zero, suc, ◌+◌, ◌<◌, ◌�
 use Rattle.saw_machine.specs.Orders.{AreEdgesOf, Order, stands}
 use Rattle.saw_machine.specs.Serial.{within}
 use Rattle.saw_machine.specs.Machine.{ArePredsOk, State, holds_ok}
-use Rattle.saw_machine.specs.Laws.{EdgesDecide, EdgesHit, IsKept}
+use Rattle.saw_machine.specs.Laws.{EdgesDecide, EdgesHit, IsLawful}
 use Rattle.saw_machine.proofs.Closure.{Through, any-same, stands-after, stands-back, stands-direct, stands-through, stands-trans}
 use Rattle.saw_machine.proofs.Puts.{ok-task}
 
 -- ---- who is ready
 
 -- down the edges, what is unsettled holds Ok
-ok-below : (order : Order) (edges : ℕ → ℕ → Bool) (st : State) → AreEdgesOf order.precedes edges → IsKept order st
+ok-below : (order : Order) (edges : ℕ → ℕ → Bool) (st : State) → AreEdgesOf order.precedes edges → IsLawful order st
     → (n i j : ℕ) → i < n → ArePredsOk edges st.slots st.first i → st.first ≤ j → stands edges i j ≡ true → holds_ok (st.slots j) ≡ true
 ok-below order edges st are kept zero i j less preds from on = absurd (omega arith)
 ok-below order edges st are kept (suc n) i j less preds from on =

@@ -3,7 +3,7 @@ use Rattle.std.proofs.Common.{◌≡◌, ℕ, ◌<◌, ◌≤◌, true, false, L
 use Rattle.std.proofs.lemmas.Bool.{true≢false}
 use Rattle.saw_machine.specs.Orders.{AreMeetings, Order}
 use Rattle.saw_machine.specs.Machine.{Running, Slot, Slots, State, Task, closed_in, holds_ok, is_closed, made, put, task_in}
-use Rattle.saw_machine.specs.Laws.{AreDeclared, IsKept, KeepsTask}
+use Rattle.saw_machine.specs.Laws.{AreDeclared, IsLawful, KeepsTask}
 use Rattle.saw_machine.proofs.Puts.{made-none, none_or_some, put-other, put-same, same_or}
 use Rattle.saw_machine.proofs.Views.{names_failed-same, told, told-none, view_of-same}
 
@@ -14,10 +14,10 @@ pub record Keeps (order : Order) (slots : Slots) (first : ℕ) : Type 0 where
   pub declared : AreDeclared order slots
 
 -- the same of a state, both ways
-pub is_kept : (order : Order) (st : State) → Keeps order st.slots st.first → IsKept order st
+pub is_kept : (order : Order) (st : State) → Keeps order st.slots st.first → IsLawful order st
 is_kept order st keeps = record { tasks = keeps.tasks; running = keeps.running; declared = keeps.declared }
 
-pub keeps_of : (order : Order) (st : State) → IsKept order st → Keeps order st.slots st.first
+pub keeps_of : (order : Order) (st : State) → IsLawful order st → Keeps order st.slots st.first
 keeps_of order st kept = record { tasks = kept.tasks; running = kept.running; declared = kept.declared }
 
 -- what made a change at an address that i reads precedes i

@@ -3,7 +3,7 @@ use Rattle.std.proofs.Common.{◌≡◌, ℕ, zero, suc, ◌<◌, ◌≤◌, tru
 use Rattle.std.proofs.lemmas.Bool.{cases_Bool, true≢false}
 use Rattle.saw_machine.specs.Orders.{AreMeetings, Order}
 use Rattle.saw_machine.specs.Machine.{Slots, State, holds_ok, made, view_below}
-use Rattle.saw_machine.specs.Laws.{AreDeclared, IsKept, NoLaterChange, NoLaterWrite, ViewIsLast, last_below}
+use Rattle.saw_machine.specs.Laws.{AreDeclared, IsLawful, NoLaterChange, NoLaterWrite, ViewIsLast, last_below}
 use Rattle.saw_machine.proofs.Closure.{stands-direct}
 use Rattle.saw_machine.proofs.Kept.{made-precedes}
 use Rattle.saw_machine.proofs.Puts.{made-ok, none_or_some, ok-task}
@@ -30,7 +30,7 @@ view-is-last order slots i at meetings declared = elim (cases_Bool (order.reads 
 ]
 
 -- what made a change has none before it, in an unsettled batch, that precedes it and holds no Ok
-pub changed-after : (order : Order) (st : State) (i j : ℕ) (at : List ℕ) (value : Option (List ℕ)) → IsKept order st → st.first ≤ i → i < j
+pub changed-after : (order : Order) (st : State) (i j : ℕ) (at : List ℕ) (value : Option (List ℕ)) → IsLawful order st → st.first ≤ i → i < j
     → made (st.slots j) at ≡ Some value → order.precedes i j ≡ true → holds_ok (st.slots i) ≡ true
 changed-after order st i j at value kept from less e edge =
     let has = ok-task (st.slots j) (made-ok (st.slots j) at value e) in

@@ -3,7 +3,7 @@ use Rattle.std.proofs.Common.{ℕ, true, false, List, []}
 use Rattle.saw_context.specs.declared.batch_result.BatchResult.{BatchResult}
 use Rattle.saw_machine.specs.Orders.{AreMeetings, Order}
 use Rattle.saw_machine.specs.Machine.{AreLegal, Finish, GiveBack, IsLegal, Move, Slots, State, Take, Waiting, next, put, run, settle, start}
-use Rattle.saw_machine.specs.Laws.{IsKept, StatesAreKept}
+use Rattle.saw_machine.specs.Laws.{IsLawful, StatesAreLawful}
 use Rattle.saw_machine.proofs.Inductions.{run-all, settle-all}
 use Rattle.saw_machine.proofs.Kept.{Keeps, is_kept, keep-put, keeps_of}
 use Rattle.saw_machine.proofs.Moves.{given, mover, move-puts}
@@ -31,20 +31,20 @@ keep-move order st move meetings keeps legal =
     go (Finish i n outcome false) keeps = keeps
     go (GiveBack i n) keeps = keeps
 
-pub kept-start : (order : Order) (sizes : List ℕ) → AreMeetings order → IsKept order (start order sizes)
+pub kept-start : (order : Order) (sizes : List ℕ) → AreMeetings order → IsLawful order (start order sizes)
 kept-start order sizes meetings =
     is_kept order (start order sizes)
     (keep-settle order (λ i. Waiting) (λ i. 0) [] 0 sizes meetings
     (record { tasks = λ i task from e. absurd cc; running = λ i n task e. absurd cc; declared = λ j at value e. absurd cc }))
 
-pub kept-move : (order : Order) (st : State) (move : Move) → AreMeetings order → IsKept order st → IsLegal order st move
-    → IsKept order (next order st move)
+pub kept-move : (order : Order) (st : State) (move : Move) → AreMeetings order → IsLawful order st → IsLegal order st move
+    → IsLawful order (next order st move)
 kept-move order st move meetings kept legal = is_kept order (next order st move) (keep-move order st move meetings (keeps_of order st kept) legal)
 
-pub kept-run : (order : Order) (st : State) (moves : List Move) → AreMeetings order → IsKept order st → AreLegal order st moves
-    → IsKept order (run order st moves)
+pub kept-run : (order : Order) (st : State) (moves : List Move) → AreMeetings order → IsLawful order st → AreLegal order st moves
+    → IsLawful order (run order st moves)
 kept-run order st moves meetings kept legal =
-    run-all order (IsKept order) (λ st move kept legal. kept-move order st move meetings kept legal) st moves kept legal
+    run-all order (IsLawful order) (λ st move kept legal. kept-move order st move meetings kept legal) st moves kept legal
 
-pub states-are-kept : StatesAreKept
-states-are-kept order sizes moves meetings legal = kept-run order (start order sizes) moves meetings (kept-start order sizes meetings) legal
+pub states-are-lawful : StatesAreLawful
+states-are-lawful order sizes moves meetings legal = kept-run order (start order sizes) moves meetings (kept-start order sizes meetings) legal

@@ -47,15 +47,16 @@ pub record KeepsTask (order : Order) (slots : Slots) (first i : ℕ) (task : Tas
 abbrev pub AreDeclared : Order → Slots → Type 0
 AreDeclared order slots = (j : ℕ) (at : List ℕ) (value : Option (List ℕ)) → made (slots j) at ≡ Some value → order.writes j at ≡ true
 
-pub record IsKept (order : Order) (st : State) : Type 0 where
+-- what runs or is held is as its predecessors and the present state ask
+pub record IsLawful (order : Order) (st : State) : Type 0 where
   -- of each transaction of an unsettled batch that runs or is held
   pub tasks : (i : ℕ) (task : Task) → st.first ≤ i → task_in (st.slots i) ≡ Some task → KeepsTask order st.slots st.first i task
   pub running : (i n : ℕ) (task : Task) → st.slots i ≡ Running n task → st.first ≤ i
   pub declared : AreDeclared order st.slots
 
-abbrev pub StatesAreKept : Type 0
-StatesAreKept = (order : Order) (sizes : List ℕ) (moves : List Move)
-    → AreMeetings order → AreLegal order (start order sizes) moves → IsKept order (run order (start order sizes) moves)
+abbrev pub StatesAreLawful : Type 0
+StatesAreLawful = (order : Order) (sizes : List ℕ) (moves : List Move)
+    → AreMeetings order → AreLegal order (start order sizes) moves → IsLawful order (run order (start order sizes) moves)
 
 -- nothing runs
 abbrev pub IsQuiet : State → Type 0
@@ -84,13 +85,13 @@ ViewIsLast = (order : Order) (slots : Slots) (i : ℕ) (at : List ℕ)
 -- nothing after a transaction that waits has changed what it reads
 abbrev pub NoLaterChange : Type 0
 NoLaterChange = (order : Order) (st : State) (i j : ℕ) (at : List ℕ)
-    → AreMeetings order → IsKept order st
+    → AreMeetings order → IsLawful order st
     → st.first ≤ i → st.slots i ≡ Waiting → order.reads i at ≡ true → i < j → made (st.slots j) at ≡ None
 
 -- nothing after a transaction that runs has changed what it may change
 abbrev pub NoLaterWrite : Type 0
 NoLaterWrite = (order : Order) (st : State) (i j n : ℕ) (task : Task) (at : List ℕ)
-    → AreMeetings order → IsKept order st
+    → AreMeetings order → IsLawful order st
     → st.slots i ≡ Running n task → order.writes i at ≡ true → i < j → made (st.slots j) at ≡ None
 
 -- ---- fewer edges
@@ -98,7 +99,7 @@ NoLaterWrite = (order : Order) (st : State) (i j n : ℕ) (task : Task) (at : Li
 -- edges of which all pairs follow say as much: who is ready, and what stands on a failed batch
 abbrev pub EdgesDecide : Type 0
 EdgesDecide = (order : Order) (edges : ℕ → ℕ → Bool) (st : State) (i : ℕ)
-    → AreEdgesOf order.precedes edges → IsKept order st → IsReadyBy edges st i ↔ IsReady order st i
+    → AreEdgesOf order.precedes edges → IsLawful order st → IsReadyBy edges st i ↔ IsReady order st i
 
 abbrev pub EdgesHit : Type 0
 EdgesHit = (precedes edges : ℕ → ℕ → Bool) (n size i : ℕ)

@@ -2,11 +2,11 @@
 //! serial order.
 #![tactic(auto)]
 
-ghost use Rattle.saw_machine.specs.Laws.{EdgesDecide, EdgesHit, FewReruns, NeverStuck, NoLaterChange, NoLaterWrite, NoNeedlessRerun, StatesAreKept, ViewIsLast};
+ghost use Rattle.saw_machine.specs.Laws.{EdgesDecide, EdgesHit, FewReruns, NeverStuck, NoLaterChange, NoLaterWrite, NoNeedlessRerun, StatesAreLawful, ViewIsLast};
 
 /// What runs or is held stands on results that hold, and its task is that of the present state.
-pub fn states_are_kept()
-    ensures { StatesAreKept }
+pub fn states_are_lawful()
+    ensures { StatesAreLawful }
 {}
 
 /// Where nothing runs and not all is settled, some transaction may be taken.

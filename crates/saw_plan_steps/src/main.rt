@@ -49,7 +49,7 @@ fn run_all<T: Threads + Wait + Sync>(rt: &T, host: &HostRuntime) -> anyhow::Resu
     for kind in KINDS {
         run_kind(rt, host, kind, &mut count)?;
     }
-    Ok(count.tell(host)?)
+    Ok(count.print(host)?)
 }
 
 fn main(rt: HostRuntime) -> anyhow::Result<ExitCode> {

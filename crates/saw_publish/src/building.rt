@@ -20,7 +20,7 @@ use crate::block::{ids_of, signed_bytes};
 use crate::candidate::Candidate;
 use crate::fates::{Fate, losses, merged};
 use crate::fault::PublishFault;
-use crate::judge::{Passed, judge, staying};
+use crate::judge::{Passed, judge_batches, staying};
 use crate::run::{Ran, run_passed};
 use crate::sift::{Sifted, sift};
 use saw_crew::workers_at;
@@ -57,7 +57,7 @@ fn pass<P: BlockPolicy, H: NodeHasher>(
 {
     match state.tree(before) {
         None => unreachable!(),
-        Some(tree) => judge::<P, _>(alloc, &tree, signer, sifted),
+        Some(tree) => judge_batches::<P, _>(alloc, &tree, signer, sifted),
     }
 }
 

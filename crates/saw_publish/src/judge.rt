@@ -67,7 +67,7 @@ pub(crate) struct Passed {
 }
 
 /// Judges the batches that found room, over the parent's state: each behind those that passed before it.
-pub(crate) fn judge<P: BlockPolicy, B: Base>(
+pub(crate) fn judge_batches<P: BlockPolicy, B: Base>(
     alloc: Global,
     parent: &B,
     signer: &str,

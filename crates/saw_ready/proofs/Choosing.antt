@@ -8,10 +8,10 @@ use Rattle.saw_ready.specs.Marks.{NoneInvalid}
 use Rattle.saw_ready.specs.Queues.{MayTake}
 use Rattle.saw_ready.specs.Sets.{NoneIn}
 use Rattle.saw_ready.specs.declared.layout.Layout.{Layout}
-use Rattle.saw_ready.specs.declared.mark.Mark.{Mark}
+use Rattle.saw_ready.specs.declared.slot_state.SlotState.{SlotState}
 use Rattle.saw_ready.proofs.Batches.{mate-of, member-low}
 
-module _ (layout : Layout) (marks : List Mark) (first : ℕ) (cursors lowest : List ℕ)
+module _ (layout : Layout) (marks : List SlotState) (first : ℕ) (cursors lowest : List ℕ)
     (placed : IsPlaced layout marks first cursors lowest) where
   -- no earlier member is invalid exactly where the lowest one is no earlier member
   pub clean-lowest : (k : ℕ) → first ≤ k → k < length marks → k ≤ get_or lowest (get_or layout.starts.items k 0) 0
@@ -57,7 +57,7 @@ module _ (layout : Layout) (marks : List Mark) (first : ℕ) (cursors lowest : L
 
 -- ---- flags
 
-module _ (layout : Layout) (marks : List Mark) (first : ℕ) (cursors lowest : List ℕ) (flags : List Bool)
+module _ (layout : Layout) (marks : List SlotState) (first : ℕ) (cursors lowest : List ℕ) (flags : List Bool)
     (q : IsQueue layout marks first cursors lowest flags) where
   pub may-later : (to : ℕ) → NoneIn flags first to → (j : ℕ) → MayTake (waits_of layout marks first) j → to ≤ j
   may-later to none j may = elim (cases_lt j to) [

@@ -6,17 +6,17 @@ use Rattle.saw_ready.specs.Cursors.{AreCursors, AreFlagged, IsCursor, IsDue}
 use Rattle.saw_ready.specs.Edges.{begin, target}
 use Rattle.saw_ready.specs.Fronts.{AreSeen}
 use Rattle.saw_ready.specs.Hits.{IsIn}
-use Rattle.saw_ready.specs.Kept.{IsKept, IsPlaced, IsQueue}
+use Rattle.saw_ready.specs.Kept.{IsCoherent, IsPlaced, IsQueue}
 use Rattle.saw_ready.specs.Layouts.{IsLayout}
 use Rattle.saw_ready.specs.Lowest.{AreLowest}
 use Rattle.saw_ready.specs.Marks.{is_invalid, is_met, is_valid, is_waiting}
 use Rattle.saw_ready.specs.declared.layout.Layout.{Layout}
-use Rattle.saw_ready.specs.declared.mark.Mark.{Mark}
-use Rattle.saw_ready.specs.declared.mark.Mark.TheVariants.{Valid, Waiting}
+use Rattle.saw_ready.specs.declared.slot_state.SlotState.{SlotState}
+use Rattle.saw_ready.specs.declared.slot_state.SlotState.TheVariants.{Valid, Waiting}
 use Rattle.saw_ready.proofs.Lowering.{lowest-same}
 use Rattle.saw_ready.proofs.MarkFacts.{met-same, none-back}
 
-module _ (layout : Layout) (marks : List Mark) (first k : ℕ) (m : Mark) (inside : k < length marks) where
+module _ (layout : Layout) (marks : List SlotState) (first k : ℕ) (m : SlotState) (inside : k < length marks) where
   cursors-set : (cursors : List ℕ) → is_valid m ≡ is_valid (get_or marks k Waiting) → AreCursors layout.preds marks first cursors
       → AreCursors layout.preds (set marks k m) first cursors
   cursors-set cursors v are i l r =
@@ -52,14 +52,14 @@ module _ (layout : Layout) (marks : List Mark) (first k : ℕ) (m : Mark) (insid
   }
 
 -- another mark than a valid one at k, which held none
-pub kept-mark : (layout : Layout) (marks : List Mark) (first k : ℕ) (m : Mark) (cursors lowest lowest' : List ℕ) (flags flags' : List Bool)
+pub kept-mark : (layout : Layout) (marks : List SlotState) (first k : ℕ) (m : SlotState) (cursors lowest lowest' : List ℕ) (flags flags' : List Bool)
     (seen : ℕ)
     → k < length marks → is_valid (get_or marks k Waiting) ≡ false → is_invalid (get_or marks k Waiting) ≡ false → is_valid m ≡ false
     → length lowest' ≡ length lowest → AreLowest layout.starts.items (set marks k m) first lowest'
     → length flags' ≡ length flags → (IsDue layout.preds (set marks k m) cursors k → IsIn flags' k)
     → ((i : ℕ) → i ≢ k → IsIn flags i → IsIn flags' i)
     → IsQueue layout marks first cursors lowest flags → AreSeen marks first seen
-    → IsKept layout (set marks k m) first cursors lowest' flags' seen
+    → IsCoherent layout (set marks k m) first cursors lowest' flags' seen
 kept-mark layout marks first k m cursors lowest lowest' flags flags' seen inside v w is low_long lows flag_long at others q s =
     record {
       queue = record {
@@ -78,12 +78,12 @@ kept-mark layout marks first k m cursors lowest lowest' flags flags' seen inside
     }
 
 -- a valid mark at k, which held none
-pub kept-valid : (layout : Layout) (marks : List Mark) (first k : ℕ) (cursors cursors' lowest : List ℕ) (flags flags' : List Bool)
+pub kept-valid : (layout : Layout) (marks : List SlotState) (first k : ℕ) (cursors cursors' lowest : List ℕ) (flags flags' : List Bool)
     (seen : ℕ)
     → k < length marks → is_valid (get_or marks k Waiting) ≡ false → is_invalid (get_or marks k Waiting) ≡ false
     → length cursors' ≡ length marks → AreCursors layout.preds (set marks k Valid) first cursors'
     → length flags' ≡ length marks → AreFlagged layout.preds layout.starts.items (set marks k Valid) first cursors' flags'
-    → IsKept layout marks first cursors lowest flags seen → IsKept layout (set marks k Valid) first cursors' lowest flags' seen
+    → IsCoherent layout marks first cursors lowest flags seen → IsCoherent layout (set marks k Valid) first cursors' lowest flags' seen
 kept-valid layout marks first k cursors cursors' lowest flags flags' seen inside v w point_long points flag_long flagged kept =
     let p = kept.queue.placed in
     record {
@@ -104,10 +104,10 @@ kept-valid layout marks first k cursors cursors' lowest flags flags' seen inside
 
 -- ---- another first unsettled number
 
-pub kept-first : (layout : Layout) (marks : List Mark) (first end : ℕ) (cursors lowest : List ℕ) (flags : List Bool) (seen : ℕ)
+pub kept-first : (layout : Layout) (marks : List SlotState) (first end : ℕ) (cursors lowest : List ℕ) (flags : List Bool) (seen : ℕ)
     → first ≤ end → end ≤ length marks
     → ((j : ℕ) → first ≤ j → j < end → is_valid (get_or marks j Waiting) ≡ true)
-    → IsKept layout marks first cursors lowest flags seen → IsKept layout marks end cursors lowest flags end
+    → IsCoherent layout marks first cursors lowest flags seen → IsCoherent layout marks end cursors lowest flags end
 kept-first layout marks first end cursors lowest flags seen le within valid kept = record {
   queue = record {
     placed = record {
@@ -162,12 +162,12 @@ all-waiting n i = elim (cases_lt i n) [
   | inr le ↦ get_or_past (replicate n Waiting) i Waiting (rw (length-replicate n Waiting) le)
 ]
 
-pub kept-new : (layout : Layout) (marks : List Mark) (cursors lowest : List ℕ) (flags : List Bool) → IsLayout layout (length marks)
+pub kept-new : (layout : Layout) (marks : List SlotState) (cursors lowest : List ℕ) (flags : List Bool) → IsLayout layout (length marks)
     → ((i : ℕ) → get_or marks i Waiting ≡ Waiting)
     → length cursors ≡ length marks → ((k : ℕ) → k < length marks → get_or cursors k 0 ≡ begin layout.preds k)
     → length lowest ≡ length marks → ((i : ℕ) → i < length marks → get_or lowest i 0 ≡ length marks)
     → length flags ≡ length marks → ((k : ℕ) → k < length marks → IsDue layout.preds marks cursors k → IsIn flags k)
-    → IsKept layout marks 0 cursors lowest flags 0
+    → IsCoherent layout marks 0 cursors lowest flags 0
 kept-new layout marks cursors lowest flags is all point_long begun low_long none flag_long ready = record {
   queue = record {
     placed = record {

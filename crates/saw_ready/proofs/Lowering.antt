@@ -5,12 +5,12 @@ use Rattle.saw_ready.specs.Layouts.{AreStarts}
 use Rattle.saw_ready.specs.Lowest.{AreLowest, IsLowest, IsNextInvalid}
 use Rattle.saw_ready.specs.Marks.{is_invalid}
 use Rattle.saw_ready.specs.Resets.{AreClosed}
-use Rattle.saw_ready.specs.declared.mark.Mark.{Mark}
-use Rattle.saw_ready.specs.declared.mark.Mark.TheVariants.{Invalid, Waiting}
+use Rattle.saw_ready.specs.declared.slot_state.SlotState.{SlotState}
+use Rattle.saw_ready.specs.declared.slot_state.SlotState.TheVariants.{Invalid, Waiting}
 use Rattle.saw_ready.proofs.Batches.{start-after}
 
 -- the marks of other numbers are the same
-module _ (starts : List ℕ) (old new : List Mark) (k : ℕ) (long : length new ≡ length old)
+module _ (starts : List ℕ) (old new : List SlotState) (k : ℕ) (long : length new ≡ length old)
     (others : (i : ℕ) → i ≢ k → get_or new i Waiting ≡ get_or old i Waiting) where
   pub lowest-other : (s l : ℕ) → s ≢ get_or starts k 0 → IsLowest starts old s l → IsLowest starts new s l
   lowest-other s l apart is = record {
@@ -64,7 +64,7 @@ module _ (starts : List ℕ) (old new : List Mark) (k : ℕ) (long : length new 
       go lt (inr more) = let same : min l k ≡ k = omega (arith, more) in rw same (refl, is_now)
 
 -- a mark that is no more and no less invalid
-pub lowest-same : (starts : List ℕ) (marks : List Mark) (first k : ℕ) (m : Mark) (lowest : List ℕ) → k < length marks
+pub lowest-same : (starts : List ℕ) (marks : List SlotState) (first k : ℕ) (m : SlotState) (lowest : List ℕ) → k < length marks
     → is_invalid (get_or marks k Waiting) ≡ false → is_invalid m ≡ false
     → AreLowest starts marks first lowest → AreLowest starts (set marks k m) first lowest
 lowest-same starts marks first k m lowest inside was is are i l r =
@@ -74,7 +74,7 @@ lowest-same starts marks first k m lowest inside was is are i l r =
     (rw (get_or-set_same marks k m Waiting inside) is) (λ e. true≢false (sym (old.here (rw e inside)).1 ∙ rw e was)) old
 
 -- an invalid mark
-pub lowest-set : (starts : List ℕ) (marks : List Mark) (first k : ℕ) (lowest : List ℕ) → k < length marks
+pub lowest-set : (starts : List ℕ) (marks : List SlotState) (first k : ℕ) (lowest : List ℕ) → k < length marks
     → get_or starts k 0 < length lowest
     → AreLowest starts marks first lowest
     → AreLowest starts (set marks k Invalid) first (set lowest (get_or starts k 0) (min (get_or lowest (get_or starts k 0) 0) k))
@@ -96,7 +96,7 @@ lowest-set starts marks first k lowest inside low are i l r =
         (λ j apart. get_or-set_other marks k j Invalid Waiting apart) (get_or starts i 0) (get_or lowest (get_or starts i 0) 0) diff old)
 
 -- members are closed
-pub lowest-closed : (starts : List ℕ) (old new : List Mark) (first end : ℕ) (lowest : List ℕ) → AreStarts starts
+pub lowest-closed : (starts : List ℕ) (old new : List SlotState) (first end : ℕ) (lowest : List ℕ) → AreStarts starts
     → length starts ≡ length old → first ≤ end → (end < length old → end ≤ get_or starts end 0)
     → AreClosed first end old new → AreLowest starts old first lowest → AreLowest starts new end lowest
 lowest-closed starts old new first end lowest are long within ends closed lows k l r =

@@ -2,17 +2,17 @@
 use Rattle.std.proofs.Common.{◌≡◌, ◌≢◌, ◌<◌, ℕ, Bool, true, false, ◌||◌, nat_lt, List, length, get_or, set, refl, sym, ap, ◌∙◌, ◌⊎◌, inl, inr, true≢false, get_or-set_same, get_or-set_other}
 use Rattle.std.proofs.lemmas.Bool.{cases_eq}
 use Rattle.saw_ready.specs.Marks.{NoneInvalid, is_invalid, is_met, is_valid, is_waiting}
-use Rattle.saw_ready.specs.declared.mark.Mark.{Mark}
-use Rattle.saw_ready.specs.declared.mark.Mark.TheVariants.{Closed, Invalid, Running, Valid, Waiting}
+use Rattle.saw_ready.specs.declared.slot_state.SlotState.{SlotState}
+use Rattle.saw_ready.specs.declared.slot_state.SlotState.TheVariants.{Closed, Invalid, Running, Valid, Waiting}
 
-pub waiting-valid : (m : Mark) → is_waiting m ≡ true → is_valid m ≡ false
+pub waiting-valid : (m : SlotState) → is_waiting m ≡ true → is_valid m ≡ false
 waiting-valid Waiting e = refl
 waiting-valid Running e = absurd (true≢false (sym e))
 waiting-valid Valid e = absurd (true≢false (sym e))
 waiting-valid Invalid e = absurd (true≢false (sym e))
 waiting-valid Closed e = absurd (true≢false (sym e))
 
-pub waiting-invalid : (m : Mark) → is_waiting m ≡ true → is_invalid m ≡ false
+pub waiting-invalid : (m : SlotState) → is_waiting m ≡ true → is_invalid m ≡ false
 waiting-invalid Waiting e = refl
 waiting-invalid Running e = absurd (true≢false (sym e))
 waiting-invalid Valid e = absurd (true≢false (sym e))
@@ -21,7 +21,7 @@ waiting-invalid Closed e = absurd (true≢false (sym e))
 
 -- ---- another mark at j
 
-module _ (marks : List Mark) (j : ℕ) (m : Mark) (inside : j < length marks) where
+module _ (marks : List SlotState) (j : ℕ) (m : SlotState) (inside : j < length marks) where
   pub met-same : (first i : ℕ) → is_valid m ≡ is_valid (get_or marks j Waiting) → is_met (set marks j m) first i ≡ is_met marks first i
   met-same first i v = ap (λ (b : Bool). nat_lt i first || b) (go (cases_eq i j))
     where

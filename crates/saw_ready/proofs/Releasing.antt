@@ -5,11 +5,11 @@ use Rattle.saw_ready.specs.Cursors.{AreCursors, AreFlagged, AreHalfCursors, IsCu
 use Rattle.saw_ready.specs.Edges.{AreTurned, begin, finish, target}
 use Rattle.saw_ready.specs.Marks.{is_met, is_valid}
 use Rattle.saw_ready.specs.declared.edges.Edges.{Edges}
-use Rattle.saw_ready.specs.declared.mark.Mark.{Mark}
-use Rattle.saw_ready.specs.declared.mark.Mark.TheVariants.{Valid, Waiting}
+use Rattle.saw_ready.specs.declared.slot_state.SlotState.{SlotState}
+use Rattle.saw_ready.specs.declared.slot_state.SlotState.TheVariants.{Valid, Waiting}
 use Rattle.saw_ready.proofs.MarkFacts.{met-other}
 
-pub half-start : (preds succs : Edges) (marks : List Mark) (first : ℕ) (cursors : List ℕ) (j : ℕ) → j < length marks
+pub half-start : (preds succs : Edges) (marks : List SlotState) (first : ℕ) (cursors : List ℕ) (j : ℕ) → j < length marks
     → AreTurned preds succs (length marks)
     → AreCursors preds marks first cursors → AreHalfCursors preds succs (set marks j Valid) first j (begin succs j) cursors
 half-start preds succs marks first cursors j inside turned are k l r =
@@ -47,7 +47,7 @@ later-next succs j q k i at diff (r, l, lt, e) = elim (cases_eq r q) [
   | inr m ↦ (r, omega (arith, l, m), lt, e)
 ]
 
-module _ (preds succs : Edges) (marks : List Mark) (first j q k : ℕ) (is_k : target succs q ≡ k) where
+module _ (preds succs : Edges) (marks : List SlotState) (first j q k : ℕ) (is_k : target succs q ≡ k) where
   half-other : (i c : ℕ) → i ≢ k → IsHalfCursor preds succs marks first j q i c → IsHalfCursor preds succs marks first j (q + 1) i c
   half-other i c diff h = record {
     low = h.low;
@@ -77,7 +77,7 @@ module _ (preds succs : Edges) (marks : List Mark) (first j q k : ℕ) (is_k : t
     | inr diff ↦ rw (get_or-set_other cursors k i c 0 diff) (half-other i (get_or cursors i 0) diff (are i l r))
   ]
 
-pub flagged-go : (preds : Edges) (starts : List ℕ) (marks : List Mark) (first : ℕ) (cursors : List ℕ) (k c : ℕ) (flags flags' : List Bool)
+pub flagged-go : (preds : Edges) (starts : List ℕ) (marks : List SlotState) (first : ℕ) (cursors : List ℕ) (k c : ℕ) (flags flags' : List Bool)
     → IsRefreshed (IsDue preds marks (set cursors k c) k) k flags flags' → AreFlagged preds starts marks first cursors flags
     → AreFlagged preds starts marks first (set cursors k c) flags'
 flagged-go preds starts marks first cursors k c flags flags' fresh are i l r due none = elim (cases_eq i k) [
@@ -85,7 +85,7 @@ flagged-go preds starts marks first cursors k c flags flags' fresh are i l r due
   | inr diff ↦ fresh.others i (are i l r (due.0, rw (get_or-set_other cursors k i c 0 diff) at due.1) none)
 ]
 
-pub half-end : (preds succs : Edges) (marks : List Mark) (first j q : ℕ) (cursors : List ℕ) → finish succs j ≤ q
+pub half-end : (preds succs : Edges) (marks : List SlotState) (first j q : ℕ) (cursors : List ℕ) → finish succs j ≤ q
     → AreHalfCursors preds succs marks first j q cursors → AreCursors preds marks first cursors
 half-end preds succs marks first j q cursors past are k l r =
     let h = are k l r in

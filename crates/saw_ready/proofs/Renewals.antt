@@ -10,14 +10,14 @@ use Rattle.saw_ready.specs.Marks.{NoneInvalid, is_invalid, is_met, is_valid, is_
 use Rattle.saw_ready.specs.Resets.{AreClosed, AreRenewed, IsOut, IsPast, IsReset, past}
 use Rattle.saw_ready.specs.Sets.{NoneIn}
 use Rattle.saw_ready.specs.declared.edges.Edges.{Edges}
-use Rattle.saw_ready.specs.declared.mark.Mark.{Mark}
-use Rattle.saw_ready.specs.declared.mark.Mark.TheVariants.{Waiting}
+use Rattle.saw_ready.specs.declared.slot_state.SlotState.{SlotState}
+use Rattle.saw_ready.specs.declared.slot_state.SlotState.TheVariants.{Waiting}
 use Rattle.saw_ready.proofs.Batches.{mate-of}
 use Rattle.saw_ready.proofs.Blocks.{in-before}
 
 -- ---- at the start
 
-module _ (preds : Edges) (starts : List ℕ) (marks closed : List Mark) (first end : ℕ) (cursors : List ℕ) (flags hits : List Bool)
+module _ (preds : Edges) (starts : List ℕ) (marks closed : List SlotState) (first end : ℕ) (cursors : List ℕ) (flags hits : List Bool)
     (are : AreHits preds first end hits) (same : length hits ≡ length marks) (is_closed : AreClosed first end marks closed)
     (within : first ≤ end) where
   start-past : (i p : ℕ) → end ≤ i → i < length marks → IsOut hits i → IsAt preds i p
@@ -80,7 +80,7 @@ module _ (preds : Edges) (starts : List ℕ) (marks closed : List Mark) (first e
 
 -- ---- one more
 
-module _ (preds : Edges) (starts : List ℕ) (hits : List Bool) (old new : List Mark) (end from k : ℕ) (before after lows lows' : List ℕ)
+module _ (preds : Edges) (starts : List ℕ) (hits : List Bool) (old new : List SlotState) (end from k : ℕ) (before after lows lows' : List ℕ)
     (flags flags' : List Bool)
     (earlier : AreEarlier preds (length old)) (starts_are : AreStarts starts) (all_start : length starts ≡ length old) (hit : IsIn hits k)
     (low : from ≤ k) (inside : k < length old) (none : NoneIn hits from k)
@@ -94,7 +94,7 @@ module _ (preds : Edges) (starts : List ℕ) (hits : List Bool) (old new : List 
   past-same : (t : ℕ) → past hits new end t ≡ past hits old end t
   past-same t = elim (cases_eq t k) [
     | inl e ↦ rw (e, hit) refl
-    | inr diff ↦ ap (λ (m : Mark). nat_lt t end || (not (get_or hits t false) && is_valid m)) (reset.others t diff)
+    | inr diff ↦ ap (λ (m : SlotState). nat_lt t end || (not (get_or hits t false) && is_valid m)) (reset.others t diff)
   ]
 
   own-past : (p : ℕ) → IsAt preds k p → past hits new end (target preds p) ≡ is_met new end (target preds p)
@@ -167,7 +167,7 @@ module _ (preds : Edges) (starts : List ℕ) (hits : List Bool) (old new : List 
 
 -- ---- at the end
 
-module _ (preds : Edges) (starts : List ℕ) (hits : List Bool) (marks : List Mark) (end from : ℕ) (cursors lowest : List ℕ)
+module _ (preds : Edges) (starts : List ℕ) (hits : List Bool) (marks : List SlotState) (end from : ℕ) (cursors lowest : List ℕ)
     (flags : List Bool)
     (none : NoneIn hits from (length hits)) (in_range : (i : ℕ) → IsIn hits i → i < length hits)
     (so : AreRenewed preds starts hits marks end from cursors lowest flags) where
@@ -198,7 +198,7 @@ module _ (preds : Edges) (starts : List ℕ) (hits : List Bool) (marks : List Ma
 
 -- ---- marks
 
-pub waits-next : (hits : List Bool) (old new : List Mark) (from k : ℕ) → NoneIn hits from k → get_or new k Waiting ≡ Waiting
+pub waits-next : (hits : List Bool) (old new : List SlotState) (from k : ℕ) → NoneIn hits from k → get_or new k Waiting ≡ Waiting
     → ((i : ℕ) → i ≢ k → get_or new i Waiting ≡ get_or old i Waiting)
     → ((i : ℕ) → IsIn hits i → i < from → get_or old i Waiting ≡ Waiting) → (i : ℕ) → IsIn hits i → i < k + 1
     → get_or new i Waiting ≡ Waiting
@@ -207,7 +207,7 @@ waits-next hits old new from k none at others so i h lt = elim (cases_eq i k) [
   | inr diff ↦ others i diff ∙ so i h (in-before hits from k i none h (omega (arith, lt, diff)))
 ]
 
-pub others-next : (hits : List Bool) (first old new : List Mark) (k : ℕ) → IsIn hits k
+pub others-next : (hits : List Bool) (first old new : List SlotState) (k : ℕ) → IsIn hits k
     → ((i : ℕ) → i ≢ k → get_or new i Waiting ≡ get_or old i Waiting)
     → ((i : ℕ) → IsOut hits i → get_or old i Waiting ≡ get_or first i Waiting) → (i : ℕ) → IsOut hits i
     → get_or new i Waiting ≡ get_or first i Waiting

@@ -8,13 +8,13 @@ use Rattle.saw_ready.specs.Lowest.{AreLowest, IsLowest}
 use Rattle.saw_ready.specs.Marks.{NoneInvalid, is_invalid}
 use Rattle.saw_ready.specs.Resets.{IsReopened, IsReset}
 use Rattle.saw_ready.specs.declared.edges.Edges.{Edges}
-use Rattle.saw_ready.specs.declared.mark.Mark.{Mark}
-use Rattle.saw_ready.specs.declared.mark.Mark.TheVariants.{Waiting}
+use Rattle.saw_ready.specs.declared.slot_state.SlotState.{SlotState}
+use Rattle.saw_ready.specs.declared.slot_state.SlotState.TheVariants.{Waiting}
 use Rattle.saw_ready.proofs.Batches.{member-low}
 use Rattle.saw_ready.proofs.Lowering.{lowest-next, lowest-other, lowest-stays}
 use Rattle.saw_ready.proofs.MarkFacts.{waiting-invalid}
 
-module _ (preds : Edges) (starts : List ℕ) (old new : List Mark) (end k : ℕ) (after lows lows' : List ℕ) (flags flags' : List Bool)
+module _ (preds : Edges) (starts : List ℕ) (old new : List SlotState) (end k : ℕ) (after lows lows' : List ℕ) (flags flags' : List Bool)
     (starts_are : AreStarts starts) (all_start : length starts ≡ length old) (late : end ≤ k) (inside : k < length old)
     (long : length new ≡ length old) (others : (i : ℕ) → i ≢ k → get_or new i Waiting ≡ get_or old i Waiting)
     (at : get_or new k Waiting ≡ Waiting)
@@ -72,7 +72,7 @@ module _ (preds : Edges) (starts : List ℕ) (old new : List Mark) (end k : ℕ)
       go (inl is_k) = next is_k (cases_lt i (get_or lows' (get_or starts k 0) 0))
       go (inr not) = other not (cases_lt (get_or lows (get_or starts k 0) 0) k)
 
-pub reset-is : (preds : Edges) (starts : List ℕ) (old : List Mark) (end k c : ℕ) (before lows lows' : List ℕ) (flags mid flags' : List Bool)
+pub reset-is : (preds : Edges) (starts : List ℕ) (old : List SlotState) (end k c : ℕ) (before lows lows' : List ℕ) (flags mid flags' : List Bool)
     → AreStarts starts → length starts ≡ length old → end ≤ k → k < length old → length before ≡ length old → AreLowest starts old end lows
     → IsCursor preds (set old k Waiting) end k c → IsRefreshed (IsDue preds (set old k Waiting) (set before k c) k) k flags mid
     → IsReopened preds starts (set old k Waiting) (set before k c) k lows lows' mid flags'

@@ -6,11 +6,11 @@ use Rattle.saw_ready.specs.Marks.{is_valid}
 use Rattle.saw_ready.specs.Resets.{AreClosed, IsOut}
 use Rattle.saw_ready.specs.Undone.{AreHitsNoted, AreMembersNoted, AreNoted, IsIdle}
 use Rattle.saw_ready.specs.declared.edges.Edges.{Edges}
-use Rattle.saw_ready.specs.declared.mark.Mark.{Mark}
-use Rattle.saw_ready.specs.declared.mark.Mark.TheVariants.{Waiting}
+use Rattle.saw_ready.specs.declared.slot_state.SlotState.{SlotState}
+use Rattle.saw_ready.specs.declared.slot_state.SlotState.TheVariants.{Waiting}
 
 -- members and then hits were noted; members were closed in between, and hits wait again
-module _ (preds : Edges) (first end : ℕ) (old closed new : List Mark) (hits undone mid undone' : List Bool) (are : AreHits preds first end hits)
+module _ (preds : Edges) (first end : ℕ) (old closed new : List SlotState) (hits undone mid undone' : List Bool) (are : AreHits preds first end hits)
     (is_closed : AreClosed first end old closed)
     (waits : (i : ℕ) → IsIn hits i → get_or new i Waiting ≡ Waiting)
     (others : (i : ℕ) → IsOut hits i → get_or new i Waiting ≡ get_or closed i Waiting)

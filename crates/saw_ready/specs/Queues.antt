@@ -3,14 +3,14 @@ use Rattle.std.specs.Prelude.{◌≡◌, ◌<◌, ◌≤◌, ℕ, true, List, le
 use Rattle.saw_ready.specs.Edges.{IsAt, target}
 use Rattle.saw_ready.specs.Marks.{NoneInvalid, is_met, is_waiting}
 use Rattle.saw_ready.specs.declared.edges.Edges.{Edges}
-use Rattle.saw_ready.specs.declared.mark.Mark.{Mark}
-use Rattle.saw_ready.specs.declared.mark.Mark.TheVariants.{Running, Waiting}
+use Rattle.saw_ready.specs.declared.slot_state.SlotState.{SlotState}
+use Rattle.saw_ready.specs.declared.slot_state.SlotState.TheVariants.{Running, Waiting}
 
 -- predecessors, the first number of each one's batch, what each slot holds, and the first unsettled number
 pub record Waits : Type 0 where
   pub preds : Edges
   pub starts : List ℕ
-  pub marks : List Mark
+  pub marks : List SlotState
   pub first : ℕ
 
 -- k is unsettled and waits, its predecessors are met, and no earlier member of its batch is invalid
@@ -30,7 +30,7 @@ pub record IsNew (preds : Edges) (starts : List ℕ) (w : Waits) : Type 0 where
   pub none_settled : w.first ≡ 0
 
 -- the same with another mark at k
-abbrev pub with_mark : Waits → ℕ → Mark → Waits
+abbrev pub with_mark : Waits → ℕ → SlotState → Waits
 with_mark w k m = record { preds = w.preds; starts = w.starts; marks = slice_set w.marks k m; first = w.first }
 
 -- the same with another first unsettled number

@@ -6,16 +6,16 @@ use Rattle.saw_ready.specs.Hits.{AreHits, IsIn}
 use Rattle.saw_ready.specs.Lowest.{AreLowest, IsNextInvalid}
 use Rattle.saw_ready.specs.Marks.{NoneInvalid, is_invalid, is_valid}
 use Rattle.saw_ready.specs.declared.edges.Edges.{Edges}
-use Rattle.saw_ready.specs.declared.mark.Mark.{Mark}
-use Rattle.saw_ready.specs.declared.mark.Mark.TheVariants.{Closed, Waiting}
+use Rattle.saw_ready.specs.declared.slot_state.SlotState.{SlotState}
+use Rattle.saw_ready.specs.declared.slot_state.SlotState.TheVariants.{Closed, Waiting}
 
 -- the mark of one behind a batch that has failed, by whether it stands on it
-abbrev pub failed_mark : Bool → Mark → Mark
+abbrev pub failed_mark : Bool → SlotState → SlotState
 failed_mark true old = Waiting
 failed_mark false old = old
 
 -- members are closed, exactly what stands on one of them waits again, and the others stay
-pub record IsFailed (preds : Edges) (first end : ℕ) (old new : List Mark) : Type 0 where
+pub record IsFailed (preds : Edges) (first end : ℕ) (old new : List SlotState) : Type 0 where
   pub long : length new ≡ length old
   pub hits : List Bool
   pub all_hit : length hits ≡ length old
@@ -27,13 +27,13 @@ pub record IsFailed (preds : Edges) (first end : ℕ) (old new : List Mark) : Ty
 -- ---- on the way
 
 -- members are closed, and the others stay
-pub record AreClosed (first end : ℕ) (old new : List Mark) : Type 0 where
+pub record AreClosed (first end : ℕ) (old new : List SlotState) : Type 0 where
   pub long : length new ≡ length old
   pub inside : (i : ℕ) → first ≤ i → i < end → get_or new i Waiting ≡ Closed
   pub outside : (i : ℕ) → (i < first) ⊎ (end ≤ i) → get_or new i Waiting ≡ get_or old i Waiting
 
 -- a flag is set for each mate behind k and before `to` that waits for no predecessor
-pub record AreMatesFlagged (preds : Edges) (starts : List ℕ) (marks : List Mark) (cursors : List ℕ) (k to : ℕ)
+pub record AreMatesFlagged (preds : Edges) (starts : List ℕ) (marks : List SlotState) (cursors : List ℕ) (k to : ℕ)
     (old new : List Bool) : Type 0 where
   pub long : length new ≡ length old
   pub kept : (i : ℕ) → IsIn old i → IsIn new i
@@ -41,7 +41,7 @@ pub record AreMatesFlagged (preds : Edges) (starts : List ℕ) (marks : List Mar
       → IsDue preds marks cursors i → IsIn new i
 
 -- where k was the lowest invalid member of its batch the next one is, and mates before that one are flagged
-pub record IsReopened (preds : Edges) (starts : List ℕ) (marks : List Mark) (cursors : List ℕ) (k : ℕ)
+pub record IsReopened (preds : Edges) (starts : List ℕ) (marks : List SlotState) (cursors : List ℕ) (k : ℕ)
     (lows lows' : List ℕ) (flags flags' : List Bool) : Type 0 where
   pub all_low : length lows' ≡ length lows
   pub other_lows : (s : ℕ) → s ≢ get_or starts k 0 → get_or lows' s 0 ≡ get_or lows s 0
@@ -54,7 +54,7 @@ pub record IsReopened (preds : Edges) (starts : List ℕ) (marks : List Mark) (c
       → i < length marks → get_or starts i 0 ≡ get_or starts k 0 → IsDue preds marks cursors i → IsIn flags' i
 
 -- k waits again
-pub record IsReset (preds : Edges) (starts : List ℕ) (old new : List Mark) (end : ℕ)
+pub record IsReset (preds : Edges) (starts : List ℕ) (old new : List SlotState) (end : ℕ)
     (before after lows lows' : List ℕ) (flags flags' : List Bool) (k : ℕ) : Type 0 where
   pub long : length new ≡ length old
   pub at : get_or new k Waiting ≡ Waiting
@@ -76,18 +76,18 @@ abbrev pub IsOut : List Bool → ℕ → Type 0
 IsOut hits i = get_or hits i false ≡ false
 
 -- whether j is met once all hits wait again
-abbrev pub past : List Bool → List Mark → ℕ → ℕ → Bool
+abbrev pub past : List Bool → List SlotState → ℕ → ℕ → Bool
 past hits marks end j = nat_lt j end || (not (get_or hits j false) && is_valid (get_or marks j Waiting))
 
 -- c is the first place of k whose predecessor won't be met then, or the end
-pub record IsPast (preds : Edges) (hits : List Bool) (marks : List Mark) (end k c : ℕ) : Type 0 where
+pub record IsPast (preds : Edges) (hits : List Bool) (marks : List SlotState) (end k c : ℕ) : Type 0 where
   pub low : begin preds k ≤ c
   pub high : c ≤ finish preds k
   pub met : (p : ℕ) → begin preds k ≤ p → p < c → past hits marks end (target preds p) ≡ true
   pub stop : c < finish preds k → past hits marks end (target preds c) ≡ false
 
 -- those before `from`, and those that are no hits, are as they are to be
-pub record AreRenewed (preds : Edges) (starts : List ℕ) (hits : List Bool) (marks : List Mark) (end from : ℕ)
+pub record AreRenewed (preds : Edges) (starts : List ℕ) (hits : List Bool) (marks : List SlotState) (end from : ℕ)
     (cursors lowest : List ℕ) (flags : List Bool) : Type 0 where
   pub points : length cursors ≡ length marks
   pub all_low : length lowest ≡ length marks

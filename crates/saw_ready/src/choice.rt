@@ -6,13 +6,13 @@ ghost use Rattle.saw_ready.specs.Queues.{MayTake};
 
 use crate::due::is_due;
 use crate::layout::Layout;
-use crate::mark::Mark;
 use crate::set::ReadySet;
+use crate::slot_state::SlotState;
 
 /// The least that may be taken. Flags of such as may not are taken away.
 pub(crate) fn find_ready(
     layout: &Layout,
-    marks: &[Mark],
+    marks: &[SlotState],
     first: usize,
     cursors: &[usize],
     lowest: &[usize],
@@ -42,7 +42,7 @@ pub(crate) fn find_ready(
 // Whether k may be taken, by its cursor and by the lowest invalid member of its batch.
 fn may_take(
     layout: &Layout,
-    marks: &[Mark],
+    marks: &[SlotState],
     first: usize,
     cursors: &[usize],
     lowest: &[usize],

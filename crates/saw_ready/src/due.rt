@@ -5,16 +5,16 @@ ghost use Rattle.saw_ready.specs.Cursors.{IsCursor, IsDue, IsMetTo, IsRefreshed}
 ghost use Rattle.saw_ready.specs.Edges.{AreEdges, begin, finish};
 ghost use Rattle.saw_ready.specs.Hits.{IsIn};
 ghost use Rattle.saw_ready.specs.Marks.{is_met};
-ghost use Rattle.saw_ready.specs.declared.mark.Mark.TheVariants.{Waiting};
+ghost use Rattle.saw_ready.specs.declared.slot_state.SlotState.TheVariants.{Waiting};
 
 use crate::edges::Edges;
-use crate::mark::Mark;
 use crate::set::ReadySet;
+use crate::slot_state::SlotState;
 
 /// Each waits for its first predecessor, if it has one.
 pub(crate) fn begin_all(
     preds: &Edges,
-    marks: &[Mark],
+    marks: &[SlotState],
     cursors: &mut Vec<usize>,
     ready: &mut ReadySet,
 )
@@ -36,7 +36,7 @@ pub(crate) fn begin_all(
 /// Flags k where it waits, and for no predecessor.
 pub(crate) fn refresh(
     preds: &Edges,
-    marks: &[Mark],
+    marks: &[SlotState],
     cursors: &[usize],
     ready: &mut ReadySet,
     k: usize,
@@ -53,7 +53,7 @@ pub(crate) fn refresh(
 }
 
 /// Whether k waits, and for no predecessor.
-pub(crate) fn is_due(preds: &Edges, marks: &[Mark], cursors: &[usize], k: usize) -> bool
+pub(crate) fn is_due(preds: &Edges, marks: &[SlotState], cursors: &[usize], k: usize) -> bool
     requires inside { k < length marks.now }
     requires cursors { length cursors.now ≡ length marks.now }
     requires long { length preds.now.from.items ≡ length marks.now + 1 }
@@ -63,7 +63,13 @@ pub(crate) fn is_due(preds: &Edges, marks: &[Mark], cursors: &[usize], k: usize)
 }
 
 /// The first place from `from` on of a predecessor of k that isn't met, or the end of its places.
-pub(crate) fn met_from(preds: &Edges, marks: &[Mark], first: usize, k: usize, from: usize) -> usize
+pub(crate) fn met_from(
+    preds: &Edges,
+    marks: &[SlotState],
+    first: usize,
+    k: usize,
+    from: usize,
+) -> usize
     requires edges { AreEdges preds.now (length marks.now) }
     requires number { k < length marks.now }
     requires low { begin preds.now k ≤ from }
@@ -80,7 +86,7 @@ pub(crate) fn met_from(preds: &Edges, marks: &[Mark], first: usize, k: usize, fr
     end
 }
 
-fn is_met(marks: &[Mark], first: usize, j: usize) -> bool
+fn is_met(marks: &[SlotState], first: usize, j: usize) -> bool
     requires { j < length marks.now }
     ensures { result ≡ is_met marks.now first j }
 {

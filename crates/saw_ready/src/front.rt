@@ -3,9 +3,9 @@
 ghost use Rattle.std.specs.Prelude.{◌≡◌, ◌≤◌, ◌<◌, ◌+◌, false, length, get_or};
 ghost use Rattle.saw_ready.specs.Fronts.{AreSeen, IsFrontOf, IsValidTo};
 ghost use Rattle.saw_ready.specs.Marks.{is_valid};
-ghost use Rattle.saw_ready.specs.declared.mark.Mark.TheVariants.{Waiting};
+ghost use Rattle.saw_ready.specs.declared.slot_state.SlotState.TheVariants.{Waiting};
 
-use crate::mark::Mark;
+use crate::slot_state::SlotState;
 
 /// What a batch holds.
 #[derive(Clone, Copy, Debug, PartialEq, Eq)]
@@ -19,7 +19,7 @@ pub enum Front {
 }
 
 /// The first number from `from` on and before `end` that isn't valid, or else the later of the two.
-pub(crate) fn valid_to(marks: &[Mark], from: usize, end: usize) -> usize
+pub(crate) fn valid_to(marks: &[SlotState], from: usize, end: usize) -> usize
     requires { end ≤ length marks.now }
     ensures { IsValidTo marks.now from end result }
 {
@@ -32,7 +32,7 @@ pub(crate) fn valid_to(marks: &[Mark], from: usize, end: usize) -> usize
 }
 
 /// What the members from `first` on hold, where those before `seen` are valid and it isn't.
-pub(crate) fn front_at(marks: &[Mark], first: usize, size: usize, seen: usize) -> Front
+pub(crate) fn front_at(marks: &[SlotState], first: usize, size: usize, seen: usize) -> Front
     requires within { first + size ≤ length marks.now }
     requires seen { AreSeen marks.now first seen }
     requires stop { seen < first + size → is_valid (get_or marks.now seen Waiting) ≡ false }

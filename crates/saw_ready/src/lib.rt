@@ -7,16 +7,16 @@ mod edges;
 mod front;
 mod hits;
 mod layout;
-mod mark;
 mod queue;
 mod release;
 mod reset;
 mod set;
+mod slot_state;
 mod successors;
 mod undone;
 
 pub use edges::Edges;
 pub use front::Front;
-pub use mark::Mark;
 pub use queue::Queue;
 pub use set::ReadySet;
+pub use slot_state::SlotState;

@@ -9,17 +9,17 @@ ghost use Rattle.saw_ready.specs.Queues.{IsNew, IsTaken, MayTake, with_first, wi
 ghost use Rattle.saw_ready.specs.Resets.{IsFailed};
 ghost use Rattle.saw_ready.specs.Sets.{IsEmpty};
 ghost use Rattle.saw_ready.specs.Undone.{AreNoted};
-ghost use Rattle.saw_ready.specs.declared.mark.Mark.TheVariants.{Invalid, Running, Valid, Waiting};
+ghost use Rattle.saw_ready.specs.declared.slot_state.SlotState.TheVariants.{Invalid, Running, Valid, Waiting};
 
 use crate::choice::find_ready;
 use crate::due::{begin_all, refresh};
 use crate::edges::Edges;
 use crate::front::{Front, front_at, valid_to};
 use crate::layout::Layout;
-use crate::mark::Mark;
 use crate::release::release;
 use crate::reset::fail_batch;
 use crate::set::ReadySet;
+use crate::slot_state::SlotState;
 use std::alloc::{AllocError, Global};
 use std::marker::Model;
 
@@ -27,7 +27,7 @@ use std::marker::Model;
 #[derive(Drop)]
 pub struct Queue {
     layout: Layout,
-    marks: Vec<Mark>,
+    marks: Vec<SlotState>,
     // For each one the place of the first predecessor that it waits for.
     cursors: Vec<usize>,
     // At the first number of each batch its least member that holds an invalid result.
@@ -39,14 +39,14 @@ pub struct Queue {
 }
 
 impl Model for Queue {
-    ghost use Rattle.saw_ready.specs.Kept.{IsKept, waits_of};
+    ghost use Rattle.saw_ready.specs.Kept.{IsCoherent, waits_of};
     ghost use Rattle.saw_ready.specs.Queues.{Waits};
 
     ghost Value = { Waits };
 
     ghost view = { λ q. waits_of q.layout q.marks.items q.first };
 
-    ghost invariant = { λ q. IsKept q.layout q.marks.items q.first q.cursors.items q.lowest.items q.ready q.seen };
+    ghost invariant = { λ q. IsCoherent q.layout q.marks.items q.first q.cursors.items q.lowest.items q.ready q.seen };
 }
 
 impl Queue {
@@ -60,7 +60,7 @@ impl Queue {
     {
         let count = starts.len();
         let layout = Layout::new(alloc, preds, starts)?;
-        let marks = Vec::from_elem(alloc, Mark::Waiting, count)?;
+        let marks = Vec::from_elem(alloc, SlotState::Waiting, count)?;
         let mut cursors = Vec::from_elem(alloc, 0, count)?;
         let lowest = Vec::from_elem(alloc, count, count)?;
         let mut ready = ReadySet::new(alloc, count)?;
@@ -90,7 +90,7 @@ impl Queue {
             &mut self.ready,
         )?;
         self.ready.remove(k);
-        self.marks[k] = Mark::Running;
+        self.marks[k] = SlotState::Running;
         Some(k)
     }
 
@@ -100,7 +100,7 @@ impl Queue {
         requires runs { get_or self.old.marks k Waiting ≡ Running }
         ensures { self.new ≡ with_mark self.old k Waiting }
     {
-        self.marks[k] = Mark::Waiting;
+        self.marks[k] = SlotState::Waiting;
         refresh(
             &self.layout.preds,
             &self.marks,
@@ -117,7 +117,7 @@ impl Queue {
         ensures { self.new ≡ with_mark self.old k Invalid }
     {
         let start = self.layout.starts[k];
-        self.marks[k] = Mark::Invalid;
+        self.marks[k] = SlotState::Invalid;
         self.lowest[start] = self.lowest[start].min(k);
     }
 
@@ -127,7 +127,7 @@ impl Queue {
         requires runs { get_or self.old.marks k Waiting ≡ Running }
         ensures { self.new ≡ with_mark self.old k Valid }
     {
-        self.marks[k] = Mark::Valid;
+        self.marks[k] = SlotState::Valid;
         release(
             &self.layout,
             &self.marks,
@@ -190,7 +190,7 @@ impl Queue {
     }
 
     /// What the transaction holds.
-    pub fn mark(&self, k: usize) -> Mark
+    pub fn mark(&self, k: usize) -> SlotState
         requires { k < length self.now.marks }
         ensures { result ≡ get_or self.now.marks k Waiting }
     {

@@ -5,18 +5,18 @@ ghost use Rattle.saw_ready.specs.Cursors.{AreCursors, AreFlagged, AreHalfCursors
 ghost use Rattle.saw_ready.specs.Edges.{AreEdges, begin, finish, target};
 ghost use Rattle.saw_ready.specs.Layouts.{IsLayout};
 ghost use Rattle.saw_ready.specs.Marks.{is_valid};
-ghost use Rattle.saw_ready.specs.declared.mark.Mark.TheVariants.{Waiting};
+ghost use Rattle.saw_ready.specs.declared.slot_state.SlotState.TheVariants.{Waiting};
 
 use crate::due::{met_from, refresh};
 use crate::edges::Edges;
 use crate::layout::Layout;
-use crate::mark::Mark;
 use crate::set::ReadySet;
+use crate::slot_state::SlotState;
 
 /// What waits for j, which is met now, goes on.
 pub(crate) fn release(
     layout: &Layout,
-    marks: &[Mark],
+    marks: &[SlotState],
     first: usize,
     cursors: &mut Vec<usize>,
     ready: &mut ReadySet,

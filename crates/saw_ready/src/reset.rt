@@ -9,20 +9,20 @@ ghost use Rattle.saw_ready.specs.Lowest.{AreLowest, IsNextInvalid};
 ghost use Rattle.saw_ready.specs.Resets.{AreClosed, AreMatesFlagged, AreRenewed, IsFailed, IsOut, IsReopened, IsReset};
 ghost use Rattle.saw_ready.specs.Sets.{IsEmpty};
 ghost use Rattle.saw_ready.specs.Undone.{AreNoted};
-ghost use Rattle.saw_ready.specs.declared.mark.Mark.TheVariants.{Waiting};
+ghost use Rattle.saw_ready.specs.declared.slot_state.SlotState.TheVariants.{Waiting};
 
 use crate::due::{met_from, refresh};
 use crate::hits::spread;
 use crate::layout::Layout;
-use crate::mark::Mark;
 use crate::set::ReadySet;
+use crate::slot_state::SlotState;
 use crate::undone::{note_hits, note_members};
 
 /// A batch is failed: its members are closed, and whatever stands on one of them waits again. `hits` is empty, before
 /// and after. Whatever held a valid result and does no more is added to `undone`.
 pub(crate) fn fail_batch(
     layout: &Layout,
-    marks: &mut Vec<Mark>,
+    marks: &mut Vec<SlotState>,
     first: usize,
     end: usize,
     cursors: &mut Vec<usize>,
@@ -53,19 +53,19 @@ pub(crate) fn fail_batch(
 }
 
 // Closes the members of a batch.
-fn close(marks: &mut Vec<Mark>, first: usize, end: usize)
+fn close(marks: &mut Vec<SlotState>, first: usize, end: usize)
     requires { (first ≤ end) × (end ≤ length marks.old.items) }
     ensures { AreClosed first end marks.old.items marks.new.items }
 {
     for m in first..end {
-        marks[m] = Mark::Closed;
+        marks[m] = SlotState::Closed;
     }
 }
 
 // Whatever is among the hits waits again.
 fn renew(
     layout: &Layout,
-    marks: &mut Vec<Mark>,
+    marks: &mut Vec<SlotState>,
     end: usize,
     cursors: &mut Vec<usize>,
     lowest: &mut Vec<usize>,
@@ -101,7 +101,7 @@ fn renew(
 // One that stands on a failed batch, which ends before `end`, waits again.
 fn reset_one(
     layout: &Layout,
-    marks: &mut Vec<Mark>,
+    marks: &mut Vec<SlotState>,
     end: usize,
     cursors: &mut Vec<usize>,
     lowest: &mut Vec<usize>,
@@ -118,7 +118,7 @@ fn reset_one(
     ensures { IsReset layout.now.preds layout.now.starts.items marks.old.items marks.new.items end cursors.old.items
         cursors.new.items lowest.old.items lowest.new.items ready.old ready.new k }
 {
-    marks[k] = Mark::Waiting;
+    marks[k] = SlotState::Waiting;
     cursors[k] = met_from(&layout.preds, marks, end, k, layout.preds.begin(k));
     refresh(&layout.preds, marks, cursors, ready, k);
     reopen(layout, marks, cursors, lowest, ready, k);
@@ -128,7 +128,7 @@ fn reset_one(
 // that wait for no predecessor are flagged.
 fn reopen(
     layout: &Layout,
-    marks: &[Mark],
+    marks: &[SlotState],
     cursors: &[usize],
     lowest: &mut Vec<usize>,
     ready: &mut ReadySet,
@@ -152,7 +152,7 @@ fn reopen(
 // predecessor are flagged.
 fn next_invalid(
     layout: &Layout,
-    marks: &[Mark],
+    marks: &[SlotState],
     cursors: &[usize],
     ready: &mut ReadySet,
     k: usize,

@@ -23,11 +23,11 @@ families_key = codes "sawtooth.validator.transaction_families"
 abbrev pub rules_key : List ℕ
 rules_key = codes "sawtooth.validator.block_validation_rules"
 
--- the families that are allowed, and none where that is not set
+-- The families that are allowed. None: that is not set, and every family is.
 abbrev pub allowed : StateMap → Option (List Family)
 allowed m = option_and_then families_of (setting_of m families_key)
 
--- the rules that are listed, and none where that is not set
+-- The rules that are listed. None: that is not set, and there are none.
 abbrev pub listed : StateMap → Option (List Rule)
 listed m = option_and_then rules_of (setting_of m rules_key)
 
@@ -75,7 +75,7 @@ is_broken signer earlier txs (NofX most family) = nat_lt most (how_many family (
 is_broken signer earlier txs (XatY family place) = is_other_at family (length earlier) txs place
 is_broken signer earlier txs (Local indices) = list_any (is_of_other signer (length earlier) txs) indices
 
--- the first transaction of another family than the allowed ones
+-- the first transaction whose family and version are not allowed
 abbrev pub family_fault : Option (List Family) → List TxShape → Option PolicyFault
 family_fault None txs = None
 family_fault (Some families) txs = option_map faults.Family (position (λ tx. not (is_allowed families tx)) txs)

@@ -17,8 +17,8 @@ use Rattle.saw_ready.specs.Layouts.{AreStarts}
 use Rattle.saw_ready.specs.Queues.{IsNew, Waits}
 use Rattle.saw_ready.specs.Sets.{IsEmpty}
 use Rattle.saw_ready.specs.declared.edges.Edges.{Edges}
-use Rattle.saw_ready.specs.declared.mark.Mark.{Mark}
-use Rattle.saw_ready.specs.declared.mark.Mark.TheVariants as marks
+use Rattle.saw_ready.specs.declared.slot_state.SlotState.{SlotState}
+use Rattle.saw_ready.specs.declared.slot_state.SlotState.TheVariants as marks
 use Rattle.saw_schedule.specs.Begun.{AreNewSlotsOf, IsNewQueueOf}
 use Rattle.saw_schedule.specs.Histories.{begun, order_in, sizes_in, txs_in}
 use Rattle.saw_schedule.specs.Inside.{AreSlotsOf, IsScheduleOf, running_in}
@@ -41,7 +41,7 @@ use Rattle.saw_schedule.proofs.Undoing.{with_undone}
 abbrev pub initial : List ℕ → State
 initial sizes = record { slots = λ i. Waiting; attempts = λ i. 0; results = []; first = 0; rest = sizes }
 
-none-run : (all : List Mark) → ((i : ℕ) → get_or all i marks.Waiting ≡ marks.Waiting) → running_in all ≡ 0
+none-run : (all : List SlotState) → ((i : ℕ) → get_or all i marks.Waiting ≡ marks.Waiting) → running_in all ≡ 0
 none-run [] wait = refl
 none-run (m ∷ all) wait =
     let here : m ≡ marks.Waiting = wait 0 in
@@ -148,7 +148,7 @@ begun-schedule plan txs named slots last lasts before capacity txs_are few edges
     none≢some v e = grind arith
 
 -- what was undone while batches without transactions were settled
-pub begun-idle : (old new : List Mark) (undone undone' : List Bool) → LeavesUndone old new undone undone' → length new ≡ length old → length undone ≡ length old → IsEmpty undone → AreIdle new undone'
+pub begun-idle : (old new : List SlotState) (undone undone' : List Bool) → LeavesUndone old new undone undone' → length new ≡ length old → length undone ≡ length old → IsEmpty undone → AreIdle new undone'
 begun-idle old new undone undone' leaves long same empty = record {
   long = leaves.noted.long ∙ (same ∙ sym long);
   are = λ i in_it. elim (leaves.noted.only i in_it) [

@@ -23,7 +23,7 @@ use Rattle.saw_machine.proofs.Puts.{put-other, put-same}
 use Rattle.saw_ready.specs.Marks.{is_valid}
 use Rattle.saw_ready.specs.Queues.{with_mark}
 use Rattle.saw_ready.specs.declared.edges.Edges.{Edges}
-use Rattle.saw_ready.specs.declared.mark.Mark.TheVariants as marks
+use Rattle.saw_ready.specs.declared.slot_state.SlotState.TheVariants as marks
 use Rattle.saw_schedule.specs.Agreement.{difference_from}
 use Rattle.saw_schedule.specs.Histories.{History, IsReplay, difference_in, move_of, moves_of, order_in, sizes_in, start_of, state_of, txs_in, with_step}
 use Rattle.saw_schedule.specs.Inside.{AreSlotsOf, DoPlacesRise, IsPlacedAt, IsResultAt, IsRunning, IsScheduleOf, IsTaskOf, one_if_running}
@@ -41,7 +41,7 @@ use Rattle.saw_schedule.proofs.Agreeing.{agreed-declared}
 use Rattle.saw_schedule.proofs.GivingBack.{inside, not-undone, running-some, some-run, task-so, unsettled, waits-again}
 use Rattle.saw_schedule.proofs.Meetings.{meetings}
 use Rattle.saw_schedule.proofs.Reached.{replay-with_step, state-with_step}
-use Rattle.saw_schedule.proofs.Replays.{histories-are-kept, history-legal, history-runs}
+use Rattle.saw_schedule.proofs.Replays.{histories-are-lawful, history-legal, history-runs}
 use Rattle.saw_schedule.proofs.Settleds.{settled-rise}
 use Rattle.saw_schedule.proofs.SlotChanges.{changed, get-last, slot-changes}
 use Rattle.saw_schedule.proofs.Undoing.{put-on, settled-on, with_undone}
@@ -149,7 +149,7 @@ module _ (h : History) (txs : List (Arc Tx Global)) (named : Edges) (slots : Slo
       | inl a_is ↦
           let writes : (order_in h).writes i at ≡ true = declared at v (sym (rw (a_is, put-same st.slots i held) refl) ∙ made_a) in
           let b_apart : b ≢ i = λ e. absurd (omega (arith, less, a_is, e)) in
-          let none : made (st.slots b) at ≡ None = no-later-write (order_in h) st i b done.ticket.attempt task at (meetings (txs_in h)) (histories-are-kept h is.replay) running-is writes (omega (arith, less, a_is)) in
+          let none : made (st.slots b) at ≡ None = no-later-write (order_in h) st i b done.ticket.attempt task at (meetings (txs_in h)) (histories-are-lawful h is.replay) running-is writes (omega (arith, less, a_is)) in
           let some : made (st.slots b) at ≡ Some w = sym (rw (put-other st.slots i held b b_apart) refl) ∙ made_b in
           absurd (none≢some w (sym none ∙ some))
       | inr a_apart ↦

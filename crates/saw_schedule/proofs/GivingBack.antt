@@ -11,7 +11,7 @@ use Rattle.saw_ready.specs.Hits.{IsIn}
 use Rattle.saw_ready.specs.Marks.{is_valid}
 use Rattle.saw_ready.specs.Queues.{with_mark}
 use Rattle.saw_ready.specs.declared.edges.Edges.{Edges}
-use Rattle.saw_ready.specs.declared.mark.Mark.TheVariants as marks
+use Rattle.saw_ready.specs.declared.slot_state.SlotState.TheVariants as marks
 use Rattle.saw_schedule.specs.Histories.{History, MayHappen, RunsIn, move_of, order_in, sizes_in, state_of, txs_in}
 use Rattle.saw_schedule.specs.Inside.{DoPlacesRise, IsRunning, IsScheduleOf, one_if_running, running_in}
 use Rattle.saw_schedule.specs.declared.kept.Kept.{Kept}
@@ -20,7 +20,7 @@ use Rattle.saw_schedule.specs.declared.slots.Slots.{Slots}
 use Rattle.saw_schedule.specs.declared.step.Step.{Step}
 use Rattle.saw_schedule.specs.declared.step.Step.TheVariants.{GiveBack}
 use Rattle.saw_schedule.proofs.Counting.{count-set}
-use Rattle.saw_schedule.proofs.Replays.{histories-are-kept}
+use Rattle.saw_schedule.proofs.Replays.{histories-are-lawful}
 use Rattle.saw_schedule.proofs.ScheduleSteps.{inside-of, one-step, runs-iff}
 use Rattle.saw_schedule.proofs.SlotChanges.{changed}
 use Rattle.saw_schedule.proofs.Undoing.{Puts, put-on}
@@ -52,7 +52,7 @@ module _ (h : History) (txs : List (Arc Tx Global)) (named : Edges) (slots : Slo
   task-so = (runs-iff h txs named slots lasts capacity is ticket).0 runs
 
   pub unsettled : (state_of h).first ≤ i
-  unsettled = (histories-are-kept h is.replay).running i ticket.attempt task-so.0 task-so.1
+  unsettled = (histories-are-lawful h is.replay).running i ticket.attempt task-so.0 task-so.1
 
   -- what runs was not undone
   pub not-undone : IsIn lasts.undone i → ⊥

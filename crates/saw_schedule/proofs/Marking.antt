@@ -7,7 +7,7 @@ use Rattle.saw_machine.specs.Machine.{Slot, Waiting, Running, Held, Closed, agai
 use Rattle.saw_ready.specs.Edges.{IsAt, begin, finish, target}
 use Rattle.saw_ready.specs.Marks.{is_invalid, is_valid, is_waiting}
 use Rattle.saw_ready.specs.declared.edges.Edges.{Edges}
-use Rattle.saw_ready.specs.declared.mark.Mark.TheVariants as marks
+use Rattle.saw_ready.specs.declared.slot_state.SlotState.TheVariants as marks
 use Rattle.saw_schedule.specs.Shows.{is_edge, mark_of, targets_of}
 
 pub marked-waiting : (slot : Slot) → is_waiting (mark_of slot) ≡ true → slot ≡ Waiting

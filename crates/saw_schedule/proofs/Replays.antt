@@ -5,9 +5,9 @@ use Rattle.saw_context.specs.declared.job.Done.{Done}
 use Rattle.saw_context.specs.declared.job.Ticket.{Ticket}
 use Rattle.saw_machine.proofs.Counts.{few-reruns}
 use Rattle.saw_machine.proofs.Reruns.{no-needless-rerun}
-use Rattle.saw_machine.proofs.States.{states-are-kept}
+use Rattle.saw_machine.proofs.States.{states-are-lawful}
 use Rattle.saw_machine.proofs.Stuck.{never-stuck}
-use Rattle.saw_machine.specs.Laws.{IsKept, IsQuiet, failed_before, returns_of, some_disturbs}
+use Rattle.saw_machine.specs.Laws.{IsLawful, IsQuiet, failed_before, returns_of, some_disturbs}
 use Rattle.saw_machine.specs.Machine.{AreLegal, IsLegal, IsReady, Move, State, next, run}
 use Rattle.saw_machine.specs.Machine as machine
 use Rattle.saw_machine.specs.Orders.{Order}
@@ -15,7 +15,7 @@ use Rattle.saw_schedule.proofs.Agreeing.{agreed-declared}
 use Rattle.saw_schedule.proofs.Meetings.{meetings}
 use Rattle.saw_schedule.specs.Histories.{AllMayHappen, History, IsReplay, MayHappen, RunsIn, after_steps, difference_in, move_of, moves_of}
 use Rattle.saw_schedule.specs.Histories.{order_in, sizes_in, start_of, state_of, txs_in}
-use Rattle.saw_schedule.specs.Laws.{FewReruns, HistoriesAreKept, NeverStuck, NoNeedlessRerun}
+use Rattle.saw_schedule.specs.Laws.{FewReruns, HistoriesAreLawful, NeverStuck, NoNeedlessRerun}
 use Rattle.saw_schedule.specs.Orders.{order_of}
 use Rattle.saw_schedule.specs.declared.ended.Difference.{Difference}
 use Rattle.saw_schedule.specs.declared.step.Step.{Step}
@@ -78,10 +78,10 @@ history-runs h = run-moves (txs_in h) (start_of h) h.steps
 -- ---- laws of the machine
 
 -- what the machine keeps is kept
-pub histories-are-kept : HistoriesAreKept
-histories-are-kept h replay =
-    subst (IsKept (order_in h)) (history-runs h)
-    (states-are-kept (order_in h) (sizes_in h) (moves_of (txs_in h) (start_of h) h.steps) (meetings (txs_in h)) (history-legal h replay))
+pub histories-are-lawful : HistoriesAreLawful
+histories-are-lawful h replay =
+    subst (IsLawful (order_in h)) (history-runs h)
+    (states-are-lawful (order_in h) (sizes_in h) (moves_of (txs_in h) (start_of h) h.steps) (meetings (txs_in h)) (history-legal h replay))
 
 -- where nothing runs and not all is settled, some transaction may be taken
 pub history-not-stuck : NeverStuck

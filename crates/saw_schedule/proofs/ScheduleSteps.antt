@@ -15,7 +15,7 @@ use Rattle.saw_machine.specs.Orders.{Order}
 use Rattle.saw_plan.specs.BatchShapes.{txs_of}
 use Rattle.saw_plan.specs.Precedence.{all_txs}
 use Rattle.saw_ready.specs.declared.edges.Edges.{Edges}
-use Rattle.saw_ready.specs.declared.mark.Mark.TheVariants as marks
+use Rattle.saw_ready.specs.declared.slot_state.SlotState.TheVariants as marks
 use Rattle.saw_schedule.specs.Histories.{History, MayHappen, RunsIn, move_of, order_in, sizes_in, state_of, txs_in, with_step}
 use Rattle.saw_schedule.specs.Inside.{AreSlotsOf, DoPlacesRise, IsRunning, IsScheduleOf}
 use Rattle.saw_schedule.specs.Shows.{mark_of}

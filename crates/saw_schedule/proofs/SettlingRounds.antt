@@ -18,8 +18,8 @@ use Rattle.saw_ready.specs.Queues.{with_first}
 use Rattle.saw_ready.specs.Resets.{IsFailed, failed_mark}
 use Rattle.saw_ready.specs.Sets.{IsEmpty}
 use Rattle.saw_ready.specs.declared.front.Front.TheVariants.{Broken, Open, Whole}
-use Rattle.saw_ready.specs.declared.mark.Mark.{Mark}
-use Rattle.saw_ready.specs.declared.mark.Mark.TheVariants as marks
+use Rattle.saw_ready.specs.declared.slot_state.SlotState.{SlotState}
+use Rattle.saw_ready.specs.declared.slot_state.SlotState.TheVariants as marks
 use Rattle.saw_schedule.specs.Inside.{AreSlotsOf, IsKeptAt, IsResultAt, one_if_running}
 use Rattle.saw_schedule.specs.Layout.{ends_of}
 use Rattle.saw_schedule.specs.Settling.{GoesOnFrom, HaveState, IsOpen, settled as settled_all}
@@ -36,7 +36,7 @@ use Rattle.saw_schedule.proofs.Verdicts.{coming, front-holds, left-of, length-en
 le-or-lt : (a b : ℕ) → (a ≤ b) ⊎ (b < a)
 le-or-lt a b = grind arith
 
-reset : (hit : Bool) (m : Mark) → one_if_running (failed_mark hit m) ≤ one_if_running m
+reset : (hit : Bool) (m : SlotState) → one_if_running (failed_mark hit m) ≤ one_if_running m
 reset true m = omega arith
 reset false m = omega arith
 

@@ -15,8 +15,8 @@ use Rattle.saw_ready.specs.Edges.{target}
 use Rattle.saw_ready.specs.Hits.{AreHits, IsIn, IsSource}
 use Rattle.saw_ready.specs.Queues.{Waits, with_first}
 use Rattle.saw_ready.specs.Resets.{IsFailed, failed_mark}
-use Rattle.saw_ready.specs.declared.mark.Mark.{Mark}
-use Rattle.saw_ready.specs.declared.mark.Mark.TheVariants as marks
+use Rattle.saw_ready.specs.declared.slot_state.SlotState.{SlotState}
+use Rattle.saw_ready.specs.declared.slot_state.SlotState.TheVariants as marks
 use Rattle.saw_schedule.specs.Shows.{ShowsMachine, is_edge, mark_of}
 use Rattle.saw_schedule.proofs.Marking.{again-marked, at-edge, edge-at}
 use Rattle.saw_schedule.proofs.Meetings.{and-left, and-right, or-left, or-right}
@@ -138,7 +138,7 @@ module _ (order : Order) (st : State) (q : Waits) (size : ℕ) (rest : List ℕ)
           not-le : (a b : ℕ) → b < a → nat_le a b ≡ false
           not-le a b l = grind arith
 
-      later : (s : Slot) (h : Bool) (m : Mark) → m ≡ mark_of s → is_closed s ≡ false → failed_mark h m ≡ mark_of (failed_slot false h s)
+      later : (s : Slot) (h : Bool) (m : SlotState) → m ≡ mark_of s → is_closed s ≡ false → failed_mark h m ≡ mark_of (failed_slot false h s)
       later s true m e c = sym (again-marked s c)
       later s false m e c = e
 

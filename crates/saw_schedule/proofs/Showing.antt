@@ -1,6 +1,6 @@
 -- What the queue calls free to take is what the machine calls ready, and it goes on to show the machine's state.
 use Rattle.std.proofs.Common.{◌≡◌, ◌≢◌, ◌<◌, ◌≤◌, ℕ, Bool, true, ◌||◌, nat_lt, length, get_or, refl, sym, ap, ◌∙◌, arith, ◌⊎◌, inl, inr, get_or-set_same, get_or-set_other, length-set}
-use Rattle.saw_machine.specs.Laws.{IsKept}
+use Rattle.saw_machine.specs.Laws.{IsLawful}
 use Rattle.saw_machine.specs.Machine.{IsReady, IsReadyBy, Slot, State, put}
 use Rattle.saw_machine.specs.Orders.{Order}
 use Rattle.saw_machine.proofs.Edges.{edges-decide}
@@ -8,7 +8,7 @@ use Rattle.saw_machine.proofs.Puts.{put-other, put-same}
 use Rattle.saw_ready.specs.Edges.{target}
 use Rattle.saw_ready.specs.Marks.{is_met, is_invalid, is_valid, is_waiting}
 use Rattle.saw_ready.specs.Queues.{MayTake, Waits, with_mark}
-use Rattle.saw_ready.specs.declared.mark.Mark.TheVariants as marks
+use Rattle.saw_ready.specs.declared.slot_state.SlotState.TheVariants as marks
 use Rattle.saw_schedule.specs.Shows.{ShowsMachine, is_edge, mark_of}
 use Rattle.saw_schedule.proofs.Marking.{at-edge, edge-at, marked-invalid, marked-valid, marked-waiting}
 use Rattle.saw_schedule.proofs.Meetings.{or-right}
@@ -63,10 +63,10 @@ module _ (order : Order) (st : State) (q : Waits) (i : ℕ) (shows : ShowsMachin
           (ap is_valid (shows.marks j (omega (arith, h, inside))) ∙ (marked-valid (st.slots j) ∙ ready.preds j (rw (← shows.first) l) h e))
 
   -- what the queue may take is ready, and the other way round
-  pub taken-ready : IsKept order st → MayTake q i → IsReady order st i
+  pub taken-ready : IsLawful order st → MayTake q i → IsReady order st i
   taken-ready kept may = (edges-decide order (is_edge q.preds) st i shows.edges kept).0 (by-edges may)
 
-  pub ready-taken : IsKept order st → IsReady order st i → MayTake q i
+  pub ready-taken : IsLawful order st → IsReady order st i → MayTake q i
   ready-taken kept ready = from-edges ((edges-decide order (is_edge q.preds) st i shows.edges kept).1 ready)
 
 -- ---- a slot is changed

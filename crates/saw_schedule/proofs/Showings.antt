@@ -12,7 +12,7 @@ use Rattle.saw_machine.specs.Orders.{Order, change_at, made_by}
 use Rattle.saw_messages.specs.declared.outcome.Outcome.{Outcome}
 use Rattle.saw_messages.specs.declared.outcome.Outcome.TheVariants.{Ok, Invalid}
 use Rattle.saw_ready.specs.Marks.{is_valid}
-use Rattle.saw_ready.specs.declared.mark.Mark.TheVariants as marks
+use Rattle.saw_ready.specs.declared.slot_state.SlotState.TheVariants as marks
 use Rattle.saw_schedule.specs.Shows.{mark_of}
 use Rattle.saw_schedule.specs.Inside.{AreSlotsOf, DoPlacesRise, IsResultAt}
 use Rattle.saw_schedule.specs.Lasts.{changes_at, changes_by, changes_in, lefts_in, lefts_of}

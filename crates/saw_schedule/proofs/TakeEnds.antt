@@ -14,8 +14,8 @@ use Rattle.saw_ready.specs.Marks.{is_valid, is_waiting}
 use Rattle.saw_ready.specs.Queues.{MayTake, Waits, with_mark}
 use Rattle.saw_ready.specs.Sets.{IsEmpty}
 use Rattle.saw_ready.specs.declared.edges.Edges.{Edges}
-use Rattle.saw_ready.specs.declared.mark.Mark.{Mark}
-use Rattle.saw_ready.specs.declared.mark.Mark.TheVariants as marks
+use Rattle.saw_ready.specs.declared.slot_state.SlotState.{SlotState}
+use Rattle.saw_ready.specs.declared.slot_state.SlotState.TheVariants as marks
 use Rattle.saw_schedule.specs.Histories.{History, after_steps, move_of, order_in, sizes_in, start_of, state_of, txs_in}
 use Rattle.saw_schedule.specs.Inside.{IsScheduleOf}
 use Rattle.saw_schedule.specs.Layering.{AreLastsOf}
@@ -67,16 +67,16 @@ pub kept-still : (h : History) (txs : List (Arc Tx Global)) (named : Edges) (slo
     → IsScheduleOf h txs named slots lasts capacity → AreLastsOf h.steps slots new → new.wide ≡ lasts.wide → IsScheduleOf h txs named slots new capacity
 kept-still h txs named slots lasts new capacity is lefts wide = kept-on h txs named slots lasts new capacity capacity slots.queue h.steps is lefts wide is.room refl refl
 
-waiting-is : (m : Mark) → is_waiting m ≡ true → m ≡ marks.Waiting
+waiting-is : (m : SlotState) → is_waiting m ≡ true → m ≡ marks.Waiting
 waiting-is m e = grind arith
 
 -- what waits again is as before
 pub back-is : (q : Waits) (k : ℕ) → MayTake q k → with_mark (with_mark q k marks.Running) k marks.Waiting ≡ q
-back-is q k may = ap (λ (all : List Mark). record { preds = q.preds; starts = q.starts; marks = all; first = q.first })
+back-is q k may = ap (λ (all : List SlotState). record { preds = q.preds; starts = q.starts; marks = all; first = q.first })
     (set-set q.marks k marks.Running marks.Waiting
-    ∙ (ap (λ (m : Mark). set q.marks k m) (sym (waiting-is (get_or q.marks k marks.Waiting) may.waiting)) ∙ set-get_or q.marks k marks.Waiting))
+    ∙ (ap (λ (m : SlotState). set q.marks k m) (sym (waiting-is (get_or q.marks k marks.Waiting) may.waiting)) ∙ set-get_or q.marks k marks.Waiting))
 
-waits-not-valid : (m : Mark) → is_waiting m ≡ true → is_valid m ≡ false
+waits-not-valid : (m : SlotState) → is_waiting m ≡ true → is_valid m ≡ false
 waits-not-valid m e = grind arith
 
 -- a transaction that waits was marked as running

@@ -13,7 +13,7 @@ use Rattle.saw_context.specs.Views.{layers_of}
 use Rattle.saw_context.specs.declared.job.Job.{Job}
 use Rattle.saw_context.specs.declared.view.View.{View}
 use Rattle.saw_context.specs.declared.view.ViewEntry.{ViewEntry}
-use Rattle.saw_machine.specs.Laws.{IsKept, last_below}
+use Rattle.saw_machine.specs.Laws.{IsLawful, last_below}
 use Rattle.saw_machine.specs.Machine as machine
 use Rattle.saw_machine.specs.Machine.{Closed, Held, IsReady, Running, Slot, Slots as Machine, State, Task, View as Shown, Waiting, closed_in, is_closed, made, next, put, seen, task_of, view_of}
 use Rattle.saw_machine.proofs.Lasts.{no-later-change, view-is-last}
@@ -22,8 +22,8 @@ use Rattle.saw_ready.specs.Marks.{is_valid, is_waiting}
 use Rattle.saw_ready.specs.Queues.{MayTake, with_mark}
 use Rattle.saw_ready.specs.Sets.{IsEmpty}
 use Rattle.saw_ready.specs.declared.edges.Edges.{Edges}
-use Rattle.saw_ready.specs.declared.mark.Mark.{Mark}
-use Rattle.saw_ready.specs.declared.mark.Mark.TheVariants as marks
+use Rattle.saw_ready.specs.declared.slot_state.SlotState.{SlotState}
+use Rattle.saw_ready.specs.declared.slot_state.SlotState.TheVariants as marks
 use Rattle.saw_schedule.specs.Histories.{History, IsTake, MayHappen, move_of, order_in, state_of, txs_in, with_step}
 use Rattle.saw_schedule.specs.Inside.{DoPlacesRise, IsScheduleOf}
 use Rattle.saw_schedule.specs.Jobs.{IsJobAt}
@@ -38,13 +38,13 @@ use Rattle.saw_schedule.proofs.Counting.{count-set}
 use Rattle.saw_schedule.proofs.Firsts.{view-none}
 use Rattle.saw_schedule.proofs.Meetings.{meetings}
 use Rattle.saw_schedule.proofs.NamedFailures.{failed-is, marked-closed}
-use Rattle.saw_schedule.proofs.Replays.{histories-are-kept}
+use Rattle.saw_schedule.proofs.Replays.{histories-are-lawful}
 use Rattle.saw_schedule.proofs.ScheduleSteps.{one-step, txs-all}
 use Rattle.saw_schedule.proofs.Showing.{taken-ready}
 use Rattle.saw_schedule.proofs.SlotChanges.{changed}
 use Rattle.saw_schedule.proofs.Undoing.{Puts, put-on}
 
-waits-not-valid : (m : Mark) → is_waiting m ≡ true → is_valid m ≡ false
+waits-not-valid : (m : SlotState) → is_waiting m ≡ true → is_valid m ≡ false
 waits-not-valid m e = grind arith
 
 -- where nothing was changed from k on, the last change is before k
@@ -63,8 +63,8 @@ module _ (h : History) (txs : List (Arc Tx Global)) (named : Edges) (slots : Slo
   abbrev st : State
   st = state_of h
 
-  kept : IsKept (order_in h) st
-  kept = histories-are-kept h is.replay
+  kept : IsLawful (order_in h) st
+  kept = histories-are-lawful h is.replay
 
   pub ready : IsReady (order_in h) st k
   ready = taken-ready (order_in h) st slots.queue k is.slots_are.shows kept may

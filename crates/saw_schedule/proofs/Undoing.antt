@@ -11,8 +11,8 @@ use Rattle.saw_ready.specs.Queues.{Waits, with_mark}
 use Rattle.saw_ready.specs.Resets.{IsFailed, failed_mark}
 use Rattle.saw_ready.specs.Undone.{AreNoted, IsIdle}
 use Rattle.saw_ready.specs.declared.edges.Edges.{Edges}
-use Rattle.saw_ready.specs.declared.mark.Mark.{Mark}
-use Rattle.saw_ready.specs.declared.mark.Mark.TheVariants as marks
+use Rattle.saw_ready.specs.declared.slot_state.SlotState.{SlotState}
+use Rattle.saw_ready.specs.declared.slot_state.SlotState.TheVariants as marks
 use Rattle.saw_schedule.specs.Lasts.{changes_at, changes_if, lefts_at, lefts_of}
 use Rattle.saw_schedule.specs.Layering.{AreIdle, AreLastsOf, IsChangedBy, IsRightAt, IsUndoneAt, lefts_to}
 use Rattle.saw_schedule.specs.Places.{place_by, place_in}
@@ -153,7 +153,7 @@ and-no true = refl
 and-no false = refl
 
 -- the mark of a slot that holds no valid result was changed; if it holds one now, its result stands behind the steps
-pub record Puts (steps : List Step) (slots slots' : Slots) (undone : List Bool) (k : ℕ) (m : Mark) : Type 0 where
+pub record Puts (steps : List Step) (slots slots' : Slots) (undone : List Bool) (k : ℕ) (m : SlotState) : Type 0 where
   pub inside : k < length slots.queue.marks
   pub queue : slots'.queue ≡ with_mark slots.queue k m
   pub others : (j : ℕ) → j ≢ k → slice_get slots'.kept.items j ≡ slice_get slots.kept.items j
@@ -161,7 +161,7 @@ pub record Puts (steps : List Step) (slots slots' : Slots) (undone : List Bool) 
   pub after : (is_valid m ≡ false) ⊎ (length steps ≤ place_in slots'.kept.items k)
   pub apart : IsIn undone k → ⊥
 
-module _ (steps : List Step) (step : Step) (slots slots' : Slots) (lasts : Lasts) (k : ℕ) (m : Mark) (so : AreLastsOf steps slots lasts) (puts : Puts steps slots slots' lasts.undone k m) where
+module _ (steps : List Step) (step : Step) (slots slots' : Slots) (lasts : Lasts) (k : ℕ) (m : SlotState) (so : AreLastsOf steps slots lasts) (puts : Puts steps slots slots' lasts.undone k m) where
   abbrev more : List Step
   more = steps ++ step ∷ []
 
@@ -216,7 +216,7 @@ module _ (steps : List Step) (step : Step) (slots slots' : Slots) (lasts : Lasts
 
 -- ---- one slot is changed, and no step comes
 
-module _ (steps : List Step) (slots slots' : Slots) (lasts : Lasts) (k : ℕ) (m : Mark) (so : AreLastsOf steps slots lasts) (puts : Puts steps slots slots' lasts.undone k m) where
+module _ (steps : List Step) (slots slots' : Slots) (lasts : Lasts) (k : ℕ) (m : SlotState) (so : AreLastsOf steps slots lasts) (puts : Puts steps slots slots' lasts.undone k m) where
   -- any step serves
   abbrev some_step : Step
   some_step = Take (record { index = 0; attempt = 0 })
@@ -329,7 +329,7 @@ leaves-same marks undone = record {
   idle = λ i idle. idle;
 }
 
-pub leaves-both : (a b c : List Mark) (x y z : List Bool) → LeavesUndone a b x y → LeavesUndone b c y z → LeavesUndone a c x z
+pub leaves-both : (a b c : List SlotState) (x y z : List Bool) → LeavesUndone a b x y → LeavesUndone b c y z → LeavesUndone a c x z
 leaves-both a b c x y z first second = record {
   noted = record {
     long = second.noted.long ∙ first.noted.long;
@@ -351,10 +351,10 @@ leaves-both a b c x y z first second = record {
 }
 
 -- a batch fails
-pub leaves-failed : (preds : Edges) (first end : ℕ) (old new : List Mark) (undone undone' : List Bool) → IsFailed preds first end old new → AreNoted old new undone undone' → LeavesUndone old new undone undone'
+pub leaves-failed : (preds : Edges) (first end : ℕ) (old new : List SlotState) (undone undone' : List Bool) → IsFailed preds first end old new → AreNoted old new undone undone' → LeavesUndone old new undone undone'
 leaves-failed preds first end old new undone undone' failed noted = record {
   noted = noted;
-  valid = λ i valid. subst (λ (m : Mark). is_valid m ≡ true) (back-valid i valid) valid;
+  valid = λ i valid. subst (λ (m : SlotState). is_valid m ≡ true) (back-valid i valid) valid;
   idle = λ i idle. stays-idle i idle;
 }
   where
@@ -374,7 +374,7 @@ leaves-failed preds first end old new undone undone' failed noted = record {
         go true e = inr (inl e)
         go false e = inl e
 
-    not-idle : (m : Mark) → IsIdle m → is_valid m ≡ true → ⊥
+    not-idle : (m : SlotState) → IsIdle m → is_valid m ≡ true → ⊥
     not-idle m (inl waits) valid = true≢false (sym valid ∙ ap is_valid waits)
     not-idle m (inr closed) valid = true≢false (sym valid ∙ ap is_valid closed)
 

@@ -18,8 +18,8 @@ use Rattle.saw_plan.specs.BatchShapes.{shapes_of}
 use Rattle.saw_ready.specs.Edges.{AreEarlier, AreEdges}
 use Rattle.saw_ready.specs.Sets.{IsEmpty}
 use Rattle.saw_ready.specs.declared.edges.Edges.{Edges}
-use Rattle.saw_ready.specs.declared.mark.Mark.{Mark}
-use Rattle.saw_ready.specs.declared.mark.Mark.TheVariants as marks
+use Rattle.saw_ready.specs.declared.slot_state.SlotState.{SlotState}
+use Rattle.saw_ready.specs.declared.slot_state.SlotState.TheVariants as marks
 use Rattle.saw_schedule.specs.Layering.{AreLastsOf}
 use Rattle.saw_schedule.specs.LookedUp.{do_read_whole}
 use Rattle.saw_schedule.specs.Layout.{ends_of}
@@ -90,14 +90,14 @@ AreVerdictsOf st n [] (result ∷ results) (verdict ∷ verdicts) = ⊥
 AreVerdictsOf st n (size ∷ sizes) (result ∷ results) (verdict ∷ verdicts) =
     IsVerdictOf st n size result verdict × AreVerdictsOf st (n + size) sizes results verdicts
 
-abbrev pub one_if_running : Mark → ℕ
+abbrev pub one_if_running : SlotState → ℕ
 one_if_running marks.Waiting = 0
 one_if_running marks.Running = 1
 one_if_running marks.Valid = 0
 one_if_running marks.Invalid = 0
 one_if_running marks.Closed = 0
 
-abbrev pub running_in : List Mark → ℕ
+abbrev pub running_in : List SlotState → ℕ
 running_in all = sum_by one_if_running all
 
 -- the slots are those of a state; `sizes` are those of all batches

@@ -10,7 +10,7 @@ use Rattle.saw_context.specs.Possible.{MayComeOfAll, are_told}
 use Rattle.saw_context.specs.Serial.{left_after, serial}
 use Rattle.saw_context.specs.SoundResults.{IsOfBase, IsSoundDone}
 use Rattle.saw_context.specs.declared.job.Ticket.{Ticket}
-use Rattle.saw_machine.specs.Laws.{IsKept, failed_before, returns_of, some_disturbs}
+use Rattle.saw_machine.specs.Laws.{IsLawful, failed_before, returns_of, some_disturbs}
 use Rattle.saw_machine.specs.Laws as laws
 use Rattle.saw_machine.specs.Machine.{IsReady, State, look, next}
 use Rattle.saw_plan.specs.BatchShapes.{txs_of}
@@ -48,8 +48,8 @@ StepsAreSerial = (processors : Processors) (m : StateMap) (h : History)
 
 -- ---- what every step keeps
 
-abbrev pub HistoriesAreKept : Type 0
-HistoriesAreKept = (h : History) → IsReplay h → IsKept (order_in h) (state_of h)
+abbrev pub HistoriesAreLawful : Type 0
+HistoriesAreLawful = (h : History) → IsReplay h → IsLawful (order_in h) (state_of h)
 
 -- where nothing runs and not all is settled, some transaction may be taken
 abbrev pub NeverStuck : Type 0

@@ -6,8 +6,8 @@ use Rattle.std.specs.Str.{bytes_eq}
 use Rattle.saw_messages.specs.declared.outcome.Change.{Change}
 use Rattle.saw_ready.specs.Hits.{IsIn}
 use Rattle.saw_ready.specs.Undone.{IsIdle}
-use Rattle.saw_ready.specs.declared.mark.Mark.{Mark}
-use Rattle.saw_ready.specs.declared.mark.Mark.TheVariants.{Waiting}
+use Rattle.saw_ready.specs.declared.slot_state.SlotState.{SlotState}
+use Rattle.saw_ready.specs.declared.slot_state.SlotState.TheVariants.{Waiting}
 use Rattle.saw_schedule.specs.Lasts.{IsAdded, changes_at, lefts_at, lefts_in, lefts_of}
 use Rattle.saw_schedule.specs.Places.{place_in}
 use Rattle.saw_schedule.specs.Shown.{entry_at, is_held_at, last_held, shown_by}
@@ -29,7 +29,7 @@ abbrev pub IsUndoneAt : List Step → Slots → List Bool → List ℕ → Type 
 IsUndoneAt steps slots undone at = (i : ℕ) × IsIn undone i × IsChangedBy steps (place_in slots.kept.items i) at
 
 -- those that were undone hold nothing
-pub record AreIdle (marks : List Mark) (undone : List Bool) : Type 0 where
+pub record AreIdle (marks : List SlotState) (undone : List Bool) : Type 0 where
   pub long : length undone ≡ length marks
   pub are : (i : ℕ) → IsIn undone i → IsIdle (get_or marks i Waiting)
 

@@ -4,8 +4,8 @@ use Rattle.saw_machine.specs.Machine.{State, is_closed, settle}
 use Rattle.saw_machine.specs.Orders.{Order}
 use Rattle.saw_ready.specs.Marks.{is_valid}
 use Rattle.saw_ready.specs.Undone.{AreNoted, IsIdle}
-use Rattle.saw_ready.specs.declared.mark.Mark.{Mark}
-use Rattle.saw_ready.specs.declared.mark.Mark.TheVariants.{Waiting}
+use Rattle.saw_ready.specs.declared.slot_state.SlotState.{SlotState}
+use Rattle.saw_ready.specs.declared.slot_state.SlotState.TheVariants.{Waiting}
 use Rattle.saw_schedule.specs.Inside.{AreSlotsOf}
 use Rattle.saw_schedule.specs.declared.slots.Slots.{Slots}
 use Rattle.saw_schedule.specs.declared.step.Step.{Step}
@@ -34,7 +34,7 @@ pub record HaveState (steps : List Step) (slots : Slots) : Type 0 where
   pub are : AreSlotsOf order sizes state steps slots
 
 -- marks from which others came while batches were settled: of those that held a valid result and do no more each is noted
-pub record LeavesUndone (old new : List Mark) (undone undone' : List Bool) : Type 0 where
+pub record LeavesUndone (old new : List SlotState) (undone undone' : List Bool) : Type 0 where
   pub noted : AreNoted old new undone undone'
   pub valid : (i : ℕ) → is_valid (get_or new i Waiting) ≡ true → is_valid (get_or old i Waiting) ≡ true
   pub idle : (i : ℕ) → IsIdle (get_or old i Waiting) → IsIdle (get_or new i Waiting)

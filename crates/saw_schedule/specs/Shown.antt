@@ -6,7 +6,7 @@ use Rattle.saw_context.specs.declared.job.Done.{Done}
 use Rattle.saw_context.specs.declared.view.ViewEntry.{ViewEntry}
 use Rattle.saw_machine.specs.Machine.{View}
 use Rattle.saw_ready.specs.Marks.{is_valid}
-use Rattle.saw_ready.specs.declared.mark.Mark.TheVariants.{Waiting}
+use Rattle.saw_ready.specs.declared.slot_state.SlotState.TheVariants.{Waiting}
 use Rattle.saw_schedule.specs.Lasts.{changes_by, lefts_of}
 use Rattle.saw_schedule.specs.declared.kept.Kept.{Kept}
 use Rattle.saw_schedule.specs.declared.lasts.Left.{Left}

@@ -8,20 +8,20 @@ use Rattle.saw_machine.specs.Orders.{AreEdgesOf, Order}
 use Rattle.saw_ready.specs.Edges.{IsAt, begin, finish, target}
 use Rattle.saw_ready.specs.Queues.{Waits}
 use Rattle.saw_ready.specs.declared.edges.Edges.{Edges}
-use Rattle.saw_ready.specs.declared.mark.Mark.{Mark}
-use Rattle.saw_ready.specs.declared.mark.Mark.TheVariants as marks
+use Rattle.saw_ready.specs.declared.slot_state.SlotState.{SlotState}
+use Rattle.saw_ready.specs.declared.slot_state.SlotState.TheVariants as marks
 
-abbrev pub mark_by : Outcome → Mark
+abbrev pub mark_by : Outcome → SlotState
 mark_by (Ok changes events) = marks.Valid
 mark_by (Invalid reason) = marks.Invalid
 
-abbrev pub mark_of : Slot → Mark
+abbrev pub mark_of : Slot → SlotState
 mark_of Waiting = marks.Waiting
 mark_of (Running n task) = marks.Running
 mark_of (Held task outcome) = mark_by outcome
 mark_of Closed = marks.Closed
 
-abbrev pub is_closed_mark : Mark → Bool
+abbrev pub is_closed_mark : SlotState → Bool
 is_closed_mark marks.Waiting = false
 is_closed_mark marks.Running = false
 is_closed_mark marks.Valid = false

@@ -8,7 +8,7 @@ use crate::slots::Slots;
 use crate::step::Step;
 use saw_context::ViewEntry;
 use saw_messages::Outcome;
-use saw_ready::Mark;
+use saw_ready::SlotState;
 use saw_wire::Bytes;
 use std::alloc::{AllocError, Global};
 
@@ -22,7 +22,7 @@ pub(crate) fn is_held(steps: &[Step], slots: &Slots, left: Left) -> bool
             let i = done.ticket.index as usize;
             i < slots.kept.len()
                 && slots.kept[i].place == left.place
-                && slots.queue.mark(i) == Mark::Valid
+                && slots.queue.mark(i) == SlotState::Valid
         }
         _other => false,
     }

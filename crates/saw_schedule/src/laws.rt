@@ -1,6 +1,6 @@
 //! What every list of steps comes to.
 
-ghost use Rattle.saw_schedule.specs.Laws.{FewReruns, HistoriesAreKept, NeverStuck, NoNeedlessRerun, StepsAreSerial};
+ghost use Rattle.saw_schedule.specs.Laws.{FewReruns, HistoriesAreLawful, NeverStuck, NoNeedlessRerun, StepsAreSerial};
 
 /// Every list of steps that ends finished is serial execution, where each accepted result is true.
 pub fn steps_are_serial()
@@ -8,8 +8,8 @@ pub fn steps_are_serial()
 {}
 
 /// What runs or is held stands on results that hold, and its task is that of the present state.
-pub fn histories_are_kept()
-    ensures { HistoriesAreKept }
+pub fn histories_are_lawful()
+    ensures { HistoriesAreLawful }
 {}
 
 /// Where nothing runs and not all is settled, some transaction may be taken.

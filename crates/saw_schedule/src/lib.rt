@@ -21,7 +21,9 @@ mod verdict;
 mod view;
 
 pub use ended::{Difference, Finished, Given};
-pub use laws::{few_reruns, histories_are_kept, never_stuck, no_needless_rerun, steps_are_serial};
+pub use laws::{
+    few_reruns, histories_are_lawful, never_stuck, no_needless_rerun, steps_are_serial,
+};
 pub use results::Results;
 pub use saw_context::BatchResult;
 pub use schedule::Schedule;

@@ -5,7 +5,7 @@ ghost use Rattle.std.specs.Arc.{arc_value};
 ghost use Rattle.saw_plan.specs.BatchShapes.{shapes_of, transactions_in};
 ghost use Rattle.std.specs.List.{list_any};
 ghost use Rattle.saw_ready.specs.Edges.{AreEarlier, AreEdges};
-ghost use Rattle.saw_ready.specs.declared.mark.Mark.TheVariants.{Invalid, Running, Valid, Waiting};
+ghost use Rattle.saw_ready.specs.declared.slot_state.SlotState.TheVariants.{Invalid, Running, Valid, Waiting};
 ghost use Rattle.saw_ready.specs.Queues.{with_mark};
 ghost use Rattle.saw_ready.specs.Sets.{IsEmpty};
 ghost use Rattle.std.specs.Global.{Global};
@@ -35,7 +35,7 @@ use crate::view::view_at;
 use saw_context::{Done, Job, Ticket, View};
 use saw_messages::{Outcome, Tx};
 use saw_plan::Plan;
-use saw_ready::{Edges, Mark, Queue, ReadySet};
+use saw_ready::{Edges, Queue, ReadySet, SlotState};
 use saw_wire::{Items, Text};
 use std::alloc::{AllocError, Global};
 use std::marker::Model;
@@ -86,7 +86,7 @@ fn is_closed(queue: &Queue, j: u32) -> bool
     ensures { result ≡ is_closed_mark (get_or queue.now.marks j Waiting) }
 {
     let j = j as usize;
-    j < queue.count() && queue.mark(j) == Mark::Closed
+    j < queue.count() && queue.mark(j) == SlotState::Closed
 }
 
 fn is_one_closed(queue: &Queue, numbers: &[u32]) -> bool
@@ -113,7 +113,7 @@ fn runs(slots: &Slots, ticket: Ticket) -> bool
     ensures no { result ≡ false → IsRunning slots.now ticket → ⊥ }
 {
     let k = ticket.index as usize;
-    if k >= slots.kept.len() || slots.queue.mark(k) != Mark::Running {
+    if k >= slots.kept.len() || slots.queue.mark(k) != SlotState::Running {
         return false;
     }
     let attempts = slots.kept[k].attempts;

@@ -71,8 +71,8 @@ impl Count {
         println!(host; "{}", String::from_utf8_lossy(host.alloc(), said)?)
     }
 
-    /// Tells the numbers; gives whether all scripts passed.
-    pub fn tell(self, host: &HostRuntime) -> io::Result<bool> {
+    /// Prints the numbers; gives whether all scripts passed.
+    pub fn print(self, host: &HostRuntime) -> io::Result<bool> {
         let Count { passed, failed } = self;
         println!(host; "{passed} passed, {failed} failed")?;
         Ok(failed == 0)

@@ -54,7 +54,7 @@ impl Talk<'_> {
     }
 
     /// An event tells of the change, unless it is one of the list of proposals.
-    fn tell(&self, key: &str, at: usize) -> Result<Told<()>, AllocError>
+    fn announce(&self, key: &str, at: usize) -> Result<Told<()>, AllocError>
         ensures { IfOk result (λ told. seen self.now.turns.now told
             ≡ told_of key.now (replies_from at self.now.turns.now)) }
     {
@@ -84,7 +84,7 @@ impl Talk<'_> {
         };
         match self.put(key, value, kept.entries, at)? {
             Told::Due(action) => Ok(Told::Due(action)),
-            Told::Goes((), at) => self.tell(key, at),
+            Told::Goes((), at) => self.announce(key, at),
         }
     }
 

@@ -71,7 +71,7 @@ fn laws_of_transactions_and_families(_rt: HostRuntime) {
 
 #[test]
 fn laws_of_schedules(_rt: HostRuntime) {
-    saw_machine::states_are_kept();
+    saw_machine::states_are_lawful();
     saw_machine::never_stuck();
     saw_machine::view_is_last();
     saw_machine::no_later_change();
@@ -81,7 +81,7 @@ fn laws_of_schedules(_rt: HostRuntime) {
     saw_machine::no_needless_rerun();
     saw_machine::few_reruns();
     saw_schedule::steps_are_serial();
-    saw_schedule::histories_are_kept();
+    saw_schedule::histories_are_lawful();
     saw_schedule::never_stuck();
     saw_schedule::no_needless_rerun();
     saw_schedule::few_reruns();

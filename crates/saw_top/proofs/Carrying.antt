@@ -12,7 +12,7 @@ use Rattle.saw_report.specs.declared.run_fault.RunFault.TheVariants as runs
 use Rattle.saw_top.specs.Answers.{Prepared, answer_for, prepared}
 use Rattle.saw_generate.specs.Streams.{stream}
 use Rattle.saw_generate.specs.declared.wish.GenerateWish.{GenerateWish}
-use Rattle.saw_top.specs.Command.{Asked, Check, Claim, Generate, Judge, Wish}
+use Rattle.saw_top.specs.Command.{Asked, Check, Claim, Generate, Judge, Assignment}
 use Rattle.saw_top.specs.Headline.{ChecksClaim, DoesAsked, DoesJob, DoesTask, EndsBy, LinesInTime, HasCause, HasFault, WritesAnswer, TellsFirst, WritesBy}
 use Rattle.saw_top.specs.History.{ended, history}
 use Rattle.saw_top.specs.Outside.{AreLater, End, Outside, SomeRose, sides, sides_of}
@@ -161,7 +161,7 @@ pub claimed : (given : Files → World) (asked : Option Asked) (claim : Claim) (
 claimed given asked claim before after came is checks = subst (λ (a : Option Asked). DoesAsked given a before after came) is checks
 
 -- a job was done
-pub judged : (given : Files → World) (asked : Option Asked) (wish : Wish) (before after : Outside) (came : Result ℕ RunFault) → Some (Judge wish) ≡ asked
+pub judged : (given : Files → World) (asked : Option Asked) (wish : Assignment) (before after : Outside) (came : Result ℕ RunFault) → Some (Judge wish) ≡ asked
     → DoesJob given (Some wish) before after came → DoesAsked given asked before after came
 judged given asked wish before after came is does = subst (λ (a : Option Asked). DoesAsked given a before after came) is does
 
@@ -174,7 +174,7 @@ generated given asked wish before after came is still wrote =
 
 module _ (accepts : Accepts) (signing : Signing) (processors : Processors) (own : HasOwnReasons processors) (workers : ℕ) (task : Task) (list batches : Option (List ℕ))
     (before : Outside) (held : End Files) where
-  abbrev wish : Option Wish
+  abbrev wish : Option Assignment
   wish = Some (record { workers = workers; task = task; list = list; batches = batches })
 
   abbrev asked : Outside
@@ -335,7 +335,7 @@ never_wrong processors task ready before after came does is =
     subst (HasCause processors task (Ok ready) before after) is does.cause in cc cause.0
 
 -- a job that was done with some of them was done with all
-pub job_so : (given : Files → World) (wish : Wish) (before after : Outside) (olds news all_olds all_news : List ℕ) → (SomeRose olds news → SomeRose all_olds all_news)
+pub job_so : (given : Files → World) (wish : Assignment) (before after : Outside) (olds news all_olds all_news : List ℕ) → (SomeRose olds news → SomeRose all_olds all_news)
     → AreLater all_olds all_news → (came : Result ℕ RunFault)
     → DoesJob given (Some wish) (record before { remotes = olds }) (record after { remotes = news }) came
     → DoesJob given (Some wish) (record before { remotes = all_olds }) (record after { remotes = all_news }) came
@@ -350,7 +350,7 @@ job_so given wish before after olds news all_olds all_news rose later came done 
 }
 
 -- a job was done by processors that come to the same, and so many external processors that have failed as often
-pub same_job : (accepts : Accepts) (signing : Signing) (wish : Wish) (before after : Outside) (processors others : Processors) (olds all_olds news all_news : List ℕ)
+pub same_job : (accepts : Accepts) (signing : Signing) (wish : Assignment) (before after : Outside) (processors others : Processors) (olds all_olds news all_news : List ℕ)
     (came : Result ℕ RunFault) → processors ≡ others → olds ≡ all_olds → news ≡ all_news
     → DoesJob (world_with accepts signing processors) (Some wish) (record before { remotes = olds }) (record after { remotes = news }) came
     → DoesJob (world_with accepts signing others) (Some wish) (record before { remotes = all_olds }) (record after { remotes = all_news }) came
@@ -360,7 +360,7 @@ same_job accepts signing wish before after processors others olds all_olds news 
     (subst (λ (l : List ℕ). DoesJob (world_with accepts signing processors) (Some wish) (record before { remotes = l }) (record after { remotes = news }) came) same_olds
     done))
 
-module _ (given : Files → World) (wish : Wish) (before : Outside) (counts : List ℕ) (later : AreLater before.remotes counts) where
+module _ (given : Files → World) (wish : Assignment) (before : Outside) (counts : List ℕ) (later : AreLater before.remotes counts) where
   abbrev begun_at : Outside
   begun_at = record before { remotes = counts }
 

@@ -23,7 +23,7 @@ use Rattle.saw_report.specs.declared.run_fault.RunFault.TheVariants as runs
 use Rattle.saw_report.specs.declared.run_fault.RunFault.{RunFault}
 use Rattle.saw_top.specs.Answers.{Prepared, answer_for, ready_with}
 use Rattle.saw_top.specs.Clashing.{ClashIn, TellsAlike}
-use Rattle.saw_top.specs.Ends.{ClashesAt, Finishes, IsOfEnd, WritesBy, WritesEnd, end_at, plain_end, publication_in}
+use Rattle.saw_top.specs.Ends.{ClashesAt, Finishes, IsOfEnd, WritesBy, WritesEnd, end_at, publication_in}
 use Rattle.saw_top.specs.Publishing.{Publication, Waiting, candidate_status, candidate_text, losses_text, map_left, parent_at, publication_at, publication_of}
 use Rattle.saw_publish.specs.Building.{map_before}
 use Rattle.saw_publish.specs.Candidates.{Signing}
@@ -38,7 +38,7 @@ use Rattle.saw_top.specs.StreamJudging.{IsPrompt, IsUpToDate, Judges, JudgesAll,
 use Rattle.saw_top.specs.Listing.{batch_status, batch_text, events_status, events_text, listing, listing_status, proof_status, proof_text, receipts_status, receipts_text}
 use Rattle.saw_top.specs.Outside.{End, Outside, Sides, SomeRose, WritesFront, lines_side, other_side, sides_of}
 use Rattle.saw_top.specs.Reports.{report}
-use Rattle.saw_top.specs.Run.{Answer, AtEnd, end_by, ending_of, fault_of, history_of, noted_by, run_of, run_to, status_by, task_answer, written_by}
+use Rattle.saw_top.specs.Run.{Answer, AtEnd, end_by, ending_of, fault_of, history_of, noted_by, plain_end, run_of, run_to, status_by, task_answer, written_by}
 use Rattle.saw_top.specs.KeptBlocks.{IsAfter, IsKeptBlock}
 use Rattle.saw_top.specs.World.{Accepts, AreWays, Judging, Ways, judging_by, rules_with, serially}
 use Rattle.saw_top.specs.declared.task.Ending.{Ending}

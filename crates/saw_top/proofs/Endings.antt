@@ -12,7 +12,7 @@ use Rattle.saw_report.specs.declared.run_fault.RunFault.TheVariants.{Truncated, 
 use Rattle.saw_generate.specs.Streams.{stream}
 use Rattle.saw_top.specs.Answers.{IsAnswerBy, IsAnswerTo, Prepared, answer_to, prepared, task_by}
 use Rattle.saw_top.specs.Claims.{ChecksBy, TellsProof, checked_line, checked_status, nodes_of}
-use Rattle.saw_top.specs.Command.{Asked, Check, Claim, Generate, Judge, Wish}
+use Rattle.saw_top.specs.Command.{Asked, Check, Claim, Generate, Judge, Assignment}
 use Rattle.saw_top.specs.EndingFaults.{is_told}
 use Rattle.saw_top.specs.Headline.{ChecksClaim, DoesAsked, DoesJob, EndsBy, IsWritten, HasCause, HasEnded, HasFault, IsAnswered, IsToldFor, IsWhole, WritesAnswerOf, TellsEnd, TellsFault, WhereRead, WritesBy}
 use Rattle.saw_node.specs.Contents.{Node}
@@ -124,7 +124,7 @@ module _ (given : Files → World) (before after : Outside) (notes : End (List �
     pub may : AreWays (given files).processors ways
     pub comes : WhereRead asked before.input.tells (AnsweredBy ways (given files) asked)
 
-  module _ (wish : Option Wish) (came : Result ℕ RunFault) (done : DoesJob given wish before noted came) (told : TellsEnd came notes after.notes status) where
+  module _ (wish : Option Assignment) (came : Result ℕ RunFault) (done : DoesJob given wish before noted came) (told : TellsEnd came notes after.notes status) where
     abbrev world : World
     world = given done.files
 

@@ -11,7 +11,7 @@ use Rattle.saw_publish.specs.Candidates.{Signing}
 use Rattle.saw_report.specs.declared.run_fault.RunFault.{RunFault}
 use Rattle.saw_report.specs.declared.run_fault.RunFault.TheVariants as runs
 use Rattle.saw_top.specs.Answers.{Prepared, prepared, task_by}
-use Rattle.saw_top.specs.Command.{Judge, Wish}
+use Rattle.saw_top.specs.Command.{Judge, Assignment}
 use Rattle.saw_top.specs.Following.{Follows, HearsAll, HearsBy, HearsJob, HearsUpTo, IsHeard, MayCut, cuts, heads_for, heads_said}
 use Rattle.saw_top.specs.Headline.{DoesAsked, DoesJob, HasCause, TellsEnd, TellsFault}
 use Rattle.saw_top.specs.History.{History}
@@ -113,7 +113,7 @@ some_map : (first : Option (List ℕ)) (P Q : List ℕ → Type 0) → ((bytes :
 some_map None P Q step so = tt
 some_map (Some bytes) P Q step so = step bytes so
 
-module _ (accepts : Accepts) (signing : Signing) (wish : Option Wish) (before after : Outside) (notes : End (List ℕ)) (status : ℕ) where
+module _ (accepts : Accepts) (signing : Signing) (wish : Option Assignment) (before after : Outside) (notes : End (List ℕ)) (status : ℕ) where
   abbrev given : Files → World
   given = world_with accepts signing processors_alone
 
@@ -143,39 +143,39 @@ module _ (accepts : Accepts) (signing : Signing) (before : Outside) where
   world = world_with accepts signing processors_alone
 
   -- the words ask for nothing
-  pub not_asked : (wish : Option Wish) → wish ≡ None → DoesJob world wish before before (Err runs.Words)
+  pub not_asked : (wish : Option Assignment) → wish ≡ None → DoesJob world wish before before (Err runs.Words)
   not_asked wish none =
-      subst (λ (w : Option Wish). DoesJob world w before before (Err runs.Words)) (sym none) (unasked accepts signing processors_alone own_alone None before refl)
+      subst (λ (w : Option Assignment). DoesJob world w before before (Err runs.Words)) (sym none) (unasked accepts signing processors_alone own_alone None before refl)
 
-  pub not_heard : (wish : Option Wish) (follows : Bool) (begin : List Head) → wish ≡ None
+  pub not_heard : (wish : Option Assignment) (follows : Bool) (begin : List Head) → wish ≡ None
       → HearsJob world wish before.shelf.tells (Follows follows begin begin) before.input.tells (Err runs.Words)
   not_heard wish follows begin none =
-      subst (λ (w : Option Wish). HearsJob world w before.shelf.tells (Follows follows begin begin) before.input.tells (Err runs.Words)) (sym none)
+      subst (λ (w : Option Assignment). HearsJob world w before.shelf.tells (Follows follows begin begin) before.input.tells (Err runs.Words)) (sym none)
       (unasked_heard world before.shelf.tells before.input.tells (λ files. own_alone) follows begin)
 
   -- memory was refused
-  pub not_begun : (asked : Option Wish) (wish : Wish) → Some wish ≡ asked → DoesJob world asked before before (Err runs.Memory)
+  pub not_begun : (asked : Option Assignment) (wish : Assignment) → Some wish ≡ asked → DoesJob world asked before before (Err runs.Memory)
   not_begun asked wish is =
-      subst (λ (w : Option Wish). DoesJob world w before before (Err runs.Memory)) is
+      subst (λ (w : Option Assignment). DoesJob world w before before (Err runs.Memory)) is
       (unbegun world wish before before.remotes (later_same before.remotes) (λ files. own_alone) runs.Memory (inr refl) (λ is. absurd cc))
 
-  pub not_read : (asked : Option Wish) → IsSome asked → DoesJob world asked before before (Err runs.Memory)
+  pub not_read : (asked : Option Assignment) → IsSome asked → DoesJob world asked before before (Err runs.Memory)
   not_read None some = absurd cc
   not_read (Some wish) some = not_begun (Some wish) wish refl
 
-  pub none_heard : (wish : Option Wish) (follows : Bool) (begin : List Head)
+  pub none_heard : (wish : Option Assignment) (follows : Bool) (begin : List Head)
       → HearsJob world wish before.shelf.tells (Follows follows begin begin) before.input.tells (Err runs.Memory)
   none_heard wish follows begin = cut_job world wish before.shelf.tells before.input.tells follows begin (λ files. own_alone) runs.Memory refl
 
 -- a job is what was asked for
-pub asked_done : (given : Files → World) (wish : Option Wish) (before after : Outside) (came : Result ℕ RunFault) → DoesJob given wish before after came
+pub asked_done : (given : Files → World) (wish : Option Assignment) (before after : Outside) (came : Result ℕ RunFault) → DoesJob given wish before after came
     → DoesAsked given (option_map Judge wish) before after came
 asked_done given None before after came done = done
 asked_done given (Some wish) before after came done = done
 
 -- ---- beside readers
 
-module _ (accepts : Accepts) (signing : Signing) (wish : Option Wish) (before after : Outside) (notes : End (List ℕ)) (status : ℕ)
+module _ (accepts : Accepts) (signing : Signing) (wish : Option Assignment) (before after : Outside) (notes : End (List ℕ)) (status : ℕ)
     (came : Result ℕ RunFault) (done : DoesJob (world_with accepts signing processors_alone) wish before (record after { notes = notes }) came)
     (ended : TellsEnd came notes after.notes status) where
   -- nobody was served only for invalid arguments or want of memory

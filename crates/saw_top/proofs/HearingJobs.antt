@@ -11,7 +11,7 @@ use Rattle.saw_receipts.specs.Running.{Runs}
 use Rattle.saw_report.specs.declared.run_fault.RunFault.{RunFault}
 use Rattle.saw_report.specs.declared.run_fault.RunFault.TheVariants as runs
 use Rattle.saw_top.specs.Answers.{Prepared, prepared}
-use Rattle.saw_top.specs.Command.{Wish}
+use Rattle.saw_top.specs.Command.{Assignment}
 use Rattle.saw_top.specs.Fetching.{ComesBy}
 use Rattle.saw_top.specs.Following.{Follows, HearsBy, HearsJob, HearsStream, HearsUpTo, cuts, heads_for}
 use Rattle.saw_top.specs.Outside.{End}
@@ -34,7 +34,7 @@ for_all : (first : Option (List ℕ)) (P : List ℕ → Type 0) → ((bytes : Li
 for_all None P all = tt
 for_all (Some bytes) P all = all bytes
 
-module _ (given : Files → World) (wish : Option Wish) (held : Option Files) (first : Option (List ℕ)) (follows : Bool) (begin : List Head) where
+module _ (given : Files → World) (wish : Option Assignment) (held : Option Files) (first : Option (List ℕ)) (follows : Bool) (begin : List Head) where
   pub cut_job : ((files : Files) → HasOwnReasons (given files).processors) → (fault : RunFault) → cuts fault ≡ true
       → HearsJob given wish held (Follows follows begin begin) first (Err fault)
   cut_job own fault cut =
@@ -84,7 +84,7 @@ abbrev ways_with : Processors → (ℕ → Runs) → Ways
 ways_with processors blocks = record { blocks = blocks; candidate = (serially processors).candidate }
 
 -- by what words and files prepare
-module _ (accepts : Accepts) (signing : Signing) (processors : Processors) (own : HasOwnReasons processors) (wish : Wish) (from to : End Files)
+module _ (accepts : Accepts) (signing : Signing) (processors : Processors) (own : HasOwnReasons processors) (wish : Assignment) (from to : End Files)
     (first : Option (List ℕ)) where
   abbrev given : Files → World
   given = world_with accepts signing processors

@@ -23,13 +23,13 @@ use Rattle.saw_report.specs.Lines.{loss_line}
 use Rattle.saw_report.specs.declared.run_fault.RunFault.TheVariants as runs
 use Rattle.saw_report.specs.declared.run_fault.RunFault.{RunFault}
 use Rattle.saw_rules.specs.declared.policy.Placed.{Placed}
-use Rattle.saw_top.specs.Ends.{Finishes, IsOfEnd, Tells, WritesBy, WritesEnd, end_at, plain_end, publication_in}
+use Rattle.saw_top.specs.Ends.{Finishes, IsOfEnd, Tells, WritesBy, WritesEnd, end_at, publication_in}
 use Rattle.saw_top.specs.Headline.{IsDone}
 use Rattle.saw_top.specs.Listing.{entries_under, found_status, events_told, has_events, proof_status}
 use Rattle.saw_top.specs.Making.{Makes, block_in, code_with, text_with}
 use Rattle.saw_top.specs.Outside.{End, SomeRose, WritesFront}
 use Rattle.saw_top.specs.Publishing.{Publication, Waiting, has_no_block, parent_at, refusal_text}
-use Rattle.saw_top.specs.Run.{AtEnd, status_by}
+use Rattle.saw_top.specs.Run.{AtEnd, plain_end, status_by}
 use Rattle.saw_top.specs.World.{Accepts, rules_with, serially}
 use Rattle.saw_top.specs.declared.publishing.Made.{Made}
 use Rattle.saw_top.specs.declared.task.Ending.{Ending}

@@ -15,7 +15,7 @@ use Rattle.saw_verify.specs.Lists.{attests, first_bad_line}
 use Rattle.saw_wire.specs.declared.fault.MessageFault.{MessageFault}
 use Rattle.saw_generate.specs.Streams.{stream}
 use Rattle.saw_top.specs.Claims.{checked_line, checked_status, nodes_of}
-use Rattle.saw_top.specs.Command.{Asked, Check, Claim, Generate, Judge, Wish}
+use Rattle.saw_top.specs.Command.{Asked, Check, Claim, Generate, Judge, Assignment}
 use Rattle.saw_top.specs.Limits.{max_batches, max_list}
 use Rattle.saw_top.specs.Publishing.{Waiting}
 use Rattle.saw_top.specs.Run.{Answer, faulty, task_answer, written}
@@ -73,7 +73,7 @@ prepared_by signing batches (Ok accepts) = ready_by signing accepts batches
 prepared_by signing batches (Err fault) = Err fault
 
 -- what words and files prepare, or the fault that they have
-abbrev pub prepared : World → Option Wish → Result Prepared RunFault
+abbrev pub prepared : World → Option Assignment → Result Prepared RunFault
 prepared world None = Err Words
 prepared world (Some wish) =
     prepared_by world.signing (batches_with world.files wish.batches) (vouching_with world.accepts world.files wish.list)
@@ -86,7 +86,7 @@ IsAnswerTo claim (Ok nodes) answer =
 IsAnswerTo claim (Err fault) answer = answer ≡ faulty fault
 
 -- invalid arguments ask for nothing
-abbrev pub task_by : Option Wish → Task
+abbrev pub task_by : Option Assignment → Task
 task_by None = record { lines = All; ending = Head }
 task_by (Some wish) = wish.task
 
@@ -98,7 +98,7 @@ module _ (ways : Ways) where
       task_answer (judging_by ready.accepts ways) (rules_with first_half ready.accepts ways.candidate) ready.waiting task bytes
 
   -- the answer to files and a stream, by what is done with its blocks
-  abbrev pub answer_to : World → Option Wish → List ℕ → Answer
+  abbrev pub answer_to : World → Option Assignment → List ℕ → Answer
   answer_to world wish bytes = answer_for (task_by wish) (prepared world wish) bytes
 
   -- What is an answer to what was asked. A new stream is written whatever files and stream are, and a proof is checked

@@ -22,7 +22,7 @@ use Rattle.saw_top.specs.Headline.{IsDone}
 use Rattle.saw_top.specs.Listing.{batch_status, batch_text, events_status, events_text, listing, listing_status, proof_status, proof_text, receipts_status, receipts_text}
 use Rattle.saw_top.specs.Outside.{End, SomeRose, WritesFront}
 use Rattle.saw_top.specs.Publishing.{Publication, Waiting, candidate_status, candidate_text, losses_text, map_left, parent_at, publication_of}
-use Rattle.saw_top.specs.Run.{AtEnd, status_by}
+use Rattle.saw_top.specs.Run.{AtEnd, plain_end, status_by}
 use Rattle.saw_top.specs.World.{Accepts, rules_with}
 use Rattle.saw_top.specs.declared.task.Ending.{Ending}
 use Rattle.saw_top.specs.declared.task.Ending.TheVariants.{Batch, Candidate, Events, Head, Entries, Proof, Receipts}
@@ -34,10 +34,6 @@ state_of_head ledger = map_under ledger.states (head_of ledger.blocks)
 abbrev pub publication_in : Rules → Waiting → Ledger → Publication
 publication_in rules waiting ledger =
     publication_of rules waiting.signing.key (map_before ledger.states (parent_at ledger.blocks)) (ids_in (head_branch ledger.blocks)) waiting.batches
-
--- an end that tells nothing on the notes
-abbrev pub plain_end : List ℕ → ℕ → AtEnd
-plain_end output status = record { output = output; noted = []; status = status; made = None }
 
 -- that of a candidate
 abbrev pub end_of_candidate : Rules → Waiting → Ledger → Bool → Publication → AtEnd

@@ -12,7 +12,7 @@ use Rattle.saw_receipts.specs.declared.verdict.Verdict.TheVariants.{Committed, S
 use Rattle.saw_report.specs.declared.run_fault.RunFault.{RunFault}
 use Rattle.saw_report.specs.declared.run_fault.RunFault.TheVariants.{Read, Write, Peer, Collision, Memory, FileFailed}
 use Rattle.saw_top.specs.Answers.{Prepared, prepared}
-use Rattle.saw_top.specs.Command.{Wish}
+use Rattle.saw_top.specs.Command.{Assignment}
 use Rattle.saw_top.specs.History.{Said}
 use Rattle.saw_top.specs.Outside.{Outside}
 use Rattle.saw_top.specs.Run.{run_of}
@@ -75,7 +75,7 @@ module _ {A : Type 0} where
     pub so : IfSome first (λ bytes. HearsBy heard (heads_of (record { accepts = accepts; ways = ways }) bytes) result)
 
 -- the same behind words and files; files that are not told are some files
-pub record HearsJob (given : Files → World) (wish : Option Wish) (held : Option Files) (heard : List Head → Type 0)
+pub record HearsJob (given : Files → World) (wish : Option Assignment) (held : Option Files) (heard : List Head → Type 0)
     (first : Option (List ℕ)) (came : Result ℕ RunFault) : Type 0 where
   pub files : Files
   pub are : IfSome held (λ told. files ≡ told)
@@ -94,7 +94,7 @@ MayCut before after status =
 abbrev pub HearsAll : (List Head → Type 0) → List Head → Outside → Outside → ℕ → Type 0
 HearsAll heard heads before after status = ((n : ℕ) × heard (take n heads)) × (MayCut before after status ⊎ heard heads)
 
-pub record IsHeard (given : Files → World) (wish : Option Wish) (before after : Outside) (status : ℕ)
+pub record IsHeard (given : Files → World) (wish : Option Assignment) (before after : Outside) (status : ℕ)
     (heard : List Head → Type 0) : Type 0 where
   pub files : Files
   pub are : IfSome before.shelf.tells (λ told. files ≡ told)

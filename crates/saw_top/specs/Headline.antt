@@ -17,7 +17,7 @@ use Rattle.saw_generate.specs.declared.wish.GenerateWish.{GenerateWish}
 use Rattle.saw_top.specs.Answers.{IsAnswerBy, Prepared, answer_for, prepared, task_by}
 use Rattle.saw_top.specs.Claims.{Checks}
 use Rattle.saw_top.specs.Clashing.{AreAlike, ClashIn}
-use Rattle.saw_top.specs.Command.{Asked, Check, Claim, Generate, Judge, Wish}
+use Rattle.saw_top.specs.Command.{Asked, Check, Claim, Generate, Judge, Assignment}
 use Rattle.saw_top.specs.EndingFaults.{is_told}
 use Rattle.saw_top.specs.StreamJudging.{StopsAtLength, TakesNext}
 use Rattle.saw_top.specs.Limits.{max_frames}
@@ -135,12 +135,8 @@ TellsFirst Refused noted written = (written.new ≡ written.old) ⊎ Appends wri
 -- the statuses of a run that no fault ended
 abbrev pub IsDone : Ending → ℕ → Type 0
 IsDone Head status = (status ≡ 0) ⊎ (status ≡ 1)
-IsDone (Entries prefix) status = (status ≡ 0) ⊎ (status ≡ 8)
-IsDone Receipts status = (status ≡ 0) ⊎ (status ≡ 8)
-IsDone (Batch id) status = (status ≡ 0) ⊎ (status ≡ 8)
-IsDone (Proof at) status = (status ≡ 0) ⊎ (status ≡ 8)
-IsDone (Events known wish) status = (status ≡ 0) ⊎ (status ≡ 8)
 IsDone Candidate status = (status ≡ 0) ⊎ (status ≡ 1)
+IsDone listing status = (status ≡ 0) ⊎ (status ≡ 8)
 
 module _ (processors : Processors) (task : Task) (ready : Result Prepared RunFault) (before after : Outside) where
   abbrev pub IsReady : Type 0
@@ -198,12 +194,12 @@ module _ (processors : Processors) (task : Task) (ready : Result Prepared RunFau
         (λ bytes. IsTold processors ready bytes → WritesAnswerOf came (serially processors) bytes)
 
 -- whether a file is named
-abbrev pub names_file : Option Wish → Bool
+abbrev pub names_file : Option Assignment → Bool
 names_file None = false
 names_file (Some wish) = is_some wish.list || is_some wish.batches
 
 -- What was done of what was asked. Files that are not told are some files.
-pub record DoesJob (given : Files → World) (wish : Option Wish) (before after : Outside)
+pub record DoesJob (given : Files → World) (wish : Option Assignment) (before after : Outside)
     (came : Result ℕ RunFault) : Type 0 where
   pub files : Files
   pub held : IfSome before.shelf.tells (λ told. files ≡ told)
@@ -254,17 +250,13 @@ WhereRead (Some (Check claim)) told holds = (bytes : List ℕ) → holds bytes
 -- What was asked is told where each transaction that it names goes to a deterministic processor. A new stream, a
 -- claim and invalid arguments go to nobody.
 abbrev pub IsToldFor : World → Option Asked → List ℕ → Type 0
-IsToldFor world None bytes = Unit {0}
 IsToldFor world (Some (Judge wish)) bytes = IsTold world.processors (prepared world (Some wish)) bytes
-IsToldFor world (Some (Generate wish)) bytes = Unit {0}
-IsToldFor world (Some (Check claim)) bytes = Unit {0}
+IsToldFor world asked bytes = Unit {0}
 
 -- whether external processors are asked at all
 abbrev pub asks_external : Option Asked → Bool
-asks_external None = false
 asks_external (Some (Judge wish)) = true
-asks_external (Some (Generate wish)) = false
-asks_external (Some (Check claim)) = false
+asks_external asked = false
 
 -- ---- what is told of it
 

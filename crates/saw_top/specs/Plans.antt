@@ -2,7 +2,7 @@
 use Rattle.std.specs.Prelude.{◌≤◌, ℕ, false, List, [], ◌∷◌, Option, None, Some, option_map}
 use Rattle.std.specs.Borrow.{Bor}
 use Rattle.saw_events.specs.declared.filter.Filter.{Filter}
-use Rattle.saw_top.specs.Command.{Asked, Wish, claims, Judge as judges, Generate as generates, Check as checks}
+use Rattle.saw_top.specs.Command.{Asked, Assignment, claims, Judge as judges, Generate as generates, Check as checks}
 use Rattle.saw_top.specs.declared.said.Plan.{Plan}
 use Rattle.saw_top.specs.declared.said.Said.{Said}
 use Rattle.saw_top.specs.declared.said.Said.TheVariants.{Judge, Generate, Check}
@@ -43,7 +43,7 @@ abbrev pub batches_in : Wanted → Option (List ℕ)
 batches_in (wanted.Candidate list) = Some list.now
 batches_in other = None
 
-abbrev pub plan_wish : Plan → Wish
+abbrev pub plan_wish : Plan → Assignment
 plan_wish plan = record {
   workers = plan.workers;
   task = record { lines = lines_in plan.wanted; ending = ending_in plan.wanted };

@@ -35,27 +35,12 @@ pub record Answer : Type 0 where
   pub noted_for : ℕ → List ℕ
   pub maps_for : ℕ → List StateMap
 
--- nothing but a fault
-abbrev pub faulty : RunFault → Answer
-faulty fault = record {
-  output = [];
-  noted = [];
-  fault = Some fault;
-  status = fault_status fault;
-  tried = [];
-  made = None;
-  judged = 0;
-  output_for = λ count. [];
-  noted_for = λ count. [];
-  maps_for = λ count. [];
-}
-
--- nothing but what is written, and a status
-abbrev pub written : List ℕ → ℕ → Answer
-written text code = record {
+-- what is written, and a fault, without blocks
+abbrev pub nothing_but : List ℕ → Option RunFault → ℕ → Answer
+nothing_but text fault code = record {
   output = text;
   noted = [];
-  fault = None;
+  fault = fault;
   status = code;
   tried = [];
   made = None;
@@ -64,6 +49,14 @@ written text code = record {
   noted_for = λ count. [];
   maps_for = λ count. [];
 }
+
+-- nothing but a fault
+abbrev pub faulty : RunFault → Answer
+faulty fault = nothing_but [] (Some fault) (fault_status fault)
+
+-- nothing but what is written, and a status
+abbrev pub written : List ℕ → ℕ → Answer
+written text code = nothing_but text None code
 
 abbrev pub line_by : Option RunFault → List ℕ
 line_by None = []
@@ -101,8 +94,12 @@ pub record AtEnd : Type 0 where
 abbrev pub status_by : Bool → ℕ
 status_by refused = if refused then 1 else 0
 
+-- an end that tells nothing on the notes
+abbrev pub plain_end : List ℕ → ℕ → AtEnd
+plain_end output status = record { output = output; noted = []; status = status; made = None }
+
 abbrev pub nothing_more : RunFault → AtEnd
-nothing_more fault = record { output = []; noted = []; status = fault_status fault; made = None }
+nothing_more fault = plain_end [] (fault_status fault)
 
 -- the map behind the head
 abbrev pub head_map : History → StateMap
@@ -130,42 +127,14 @@ module _ (rules : Rules) (waiting : Waiting) where
   -- the head's line, the entries of its state, the receipts of its branch, where a batch is, a proof of its state, events
   -- of its branch, or a candidate behind it
   abbrev pub ending_of : Ending → History → AtEnd
-  ending_of Head run = record {
-    output = head_line (head_of (records_of run.accepted));
-    noted = [];
-    status = status_by (some_refused run.said);
-    made = None;
-  }
-  ending_of (Entries prefix) run = record {
-    output = listing prefix (head_map run);
-    noted = [];
-    status = listing_status prefix (head_map run);
-    made = None;
-  }
-  ending_of Receipts run = record {
-    output = receipts_text (records_of run.accepted);
-    noted = [];
-    status = receipts_status (records_of run.accepted);
-    made = None;
-  }
-  ending_of (Batch id) run = record {
-    output = batch_text id (records_of run.accepted);
-    noted = [];
-    status = batch_status id (records_of run.accepted);
-    made = None;
-  }
-  ending_of (Proof at) run = record {
-    output = proof_text rules.hash at (head_of (records_of run.accepted)) (head_map run);
-    noted = [];
-    status = proof_status (head_of (records_of run.accepted));
-    made = None;
-  }
-  ending_of (Events known wish) run = record {
-    output = events_text known wish (records_of run.accepted);
-    noted = [];
-    status = events_status known wish (records_of run.accepted);
-    made = None;
-  }
+  ending_of Head run = plain_end (head_line (head_of (records_of run.accepted))) (status_by (some_refused run.said))
+  ending_of (Entries prefix) run = plain_end (listing prefix (head_map run)) (listing_status prefix (head_map run))
+  ending_of Receipts run = plain_end (receipts_text (records_of run.accepted)) (receipts_status (records_of run.accepted))
+  ending_of (Batch id) run = plain_end (batch_text id (records_of run.accepted)) (batch_status id (records_of run.accepted))
+  ending_of (Proof at) run =
+      plain_end (proof_text rules.hash at (head_of (records_of run.accepted)) (head_map run)) (proof_status (head_of (records_of run.accepted)))
+  ending_of (Events known wish) run =
+      plain_end (events_text known wish (records_of run.accepted)) (events_status known wish (records_of run.accepted))
   ending_of Candidate run = let made = publication_at rules waiting run.accepted in record {
     output = candidate_text rules.hash waiting.signing (parent_at (records_of run.accepted)) made;
     noted = losses_text made;

@@ -137,7 +137,7 @@ fn said(alloc: Global, words: &[String]) -> Result<(), Error> {
 }
 
 /// Writes the help, or the version.
-pub(crate) fn tell(rt: &HostRuntime, words: &[String]) -> ExitCode {
+pub(crate) fn print(rt: &HostRuntime, words: &[String]) -> ExitCode {
     match said(rt.alloc(), words) {
         Ok(()) => ExitCode::SUCCESS,
         Err(text) if text.kind() == ErrorKind::OutOfMemory => ExitCode::from(MEMORY),

@@ -184,7 +184,7 @@ fn main(rt: HostRuntime) -> ExitCode {
         Err(_) => Vec::new(alloc),
     };
     if help::asks_about(&words) {
-        return help::tell(&rt, &words);
+        return help::print(&rt, &words);
     }
     match listen_wish(&words) {
         Wish::Listen { port, remotes } => answer_with_links(&rt, &rt, &words, port, remotes),

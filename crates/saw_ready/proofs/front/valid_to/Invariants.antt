@@ -1,6 +1,6 @@
 use Rattle.std.proofs.Common.{◌≡◌, ◌<◌, ◌≤◌, ℕ, true, get_or}
 use Rattle.saw_ready.specs.Marks.{is_valid}
-use Rattle.saw_ready.specs.declared.mark.Mark.TheVariants.{Waiting}
+use Rattle.saw_ready.specs.declared.slot_state.SlotState.TheVariants.{Waiting}
 use Rattle.saw_ready.proofs.front.valid_to.Given as goal
 
 abbrev pub invariant-loop-at : goal.invariant-loop-at

@@ -1,7 +1,7 @@
 use Rattle.std.proofs.Common.{◌≡◌, ◌<◌, ℕ, false, get_or}
 use Rattle.saw_ready.specs.Marks.{is_invalid}
 use Rattle.saw_ready.specs.Resets.{AreMatesFlagged}
-use Rattle.saw_ready.specs.declared.mark.Mark.TheVariants.{Waiting}
+use Rattle.saw_ready.specs.declared.slot_state.SlotState.TheVariants.{Waiting}
 use Rattle.saw_ready.proofs.reset.next_invalid.Given as goal
 
 abbrev pub invariant-loop-mate : goal.invariant-loop-mate

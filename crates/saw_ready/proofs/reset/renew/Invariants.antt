@@ -1,7 +1,7 @@
 use Rattle.std.proofs.Common.{◌≡◌, ◌<◌, ◌≤◌, ◌-◌, ℕ, length, get_or}
 use Rattle.saw_ready.specs.Hits.{IsIn}
 use Rattle.saw_ready.specs.Resets.{AreRenewed, IsOut}
-use Rattle.saw_ready.specs.declared.mark.Mark.TheVariants.{Waiting}
+use Rattle.saw_ready.specs.declared.slot_state.SlotState.TheVariants.{Waiting}
 use Rattle.saw_ready.proofs.reset.renew.Given as goal
 
 abbrev pub invariant-loop-k : goal.invariant-loop-k

@@ -1,7 +1,7 @@
 use Rattle.std.proofs.Common.{set}
 use Rattle.saw_ready.specs.Cursors.{IsCursor, IsDue, IsRefreshed}
 use Rattle.saw_ready.specs.Resets.{IsReopened}
-use Rattle.saw_ready.specs.declared.mark.Mark.TheVariants.{Waiting}
+use Rattle.saw_ready.specs.declared.slot_state.SlotState.TheVariants.{Waiting}
 use Rattle.saw_ready.proofs.Resetting.{reset-is}
 use Rattle.saw_ready.proofs.reset.reset_one.Goals as goal
 

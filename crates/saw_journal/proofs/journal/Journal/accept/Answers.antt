@@ -20,7 +20,7 @@ join-requires-clause-may g c = λ κs alive.
     let content = c.args.bytes.now in
     let policy = policy_by g.P.BlockPolicy.fault g.P.BlockPolicy.end_fault in
     let processors = processors_at g.R.Station.next g.R.Station.tells (offers_at c.args.desks.now) in
-    let seen = subst (λ (j : Ledger). JudgedAs processors hash accepts policy j.blocks j.states content c.judge.result) c.self.view_is c.judge.ensures.judged in
+    let seen = subst (λ (j : Ledger). JudgedAs processors hash accepts policy j.blocks j.states content c.judge_block.result) c.self.view_is c.judge_block.ensures.judged in
     let judged = subst (λ (result : Result New Stop). JudgedAs processors hash accepts policy old.blocks old.states content result) c.in-Ok.is seen in
     let rules = rules_by hash accepts policy judged.1.runs in
     may_join rules old content judged.0 judged.1.judged_as c.in-Ok.new judged.2
@@ -33,7 +33,7 @@ returns-in-Ok-clause-says g c =
     let content = c.args.bytes.now in
     let policy = policy_by g.P.BlockPolicy.fault g.P.BlockPolicy.end_fault in
     let processors = processors_at g.R.Station.next g.R.Station.tells (offers_at c.args.desks.now) in
-    let seen = subst (λ (j : Ledger). JudgedAs processors hash accepts policy j.blocks j.states content c.judge.result) c.self.view_is c.judge.ensures.judged in
+    let seen = subst (λ (j : Ledger). JudgedAs processors hash accepts policy j.blocks j.states content c.judge_block.result) c.self.view_is c.judge_block.ensures.judged in
     let judged = subst (λ (result : Result New Stop). JudgedAs processors hash accepts policy old.blocks old.states content result) c.in-Ok.is seen in
     let rules = rules_by hash accepts policy judged.1.runs in
     IfOk-weaker c.join.result _ _
@@ -51,7 +51,7 @@ returns-in-Ok-clause-full g c = λ is.
     let content = c.args.bytes.now in
     let policy = policy_by g.P.BlockPolicy.fault g.P.BlockPolicy.end_fault in
     let processors = processors_at g.R.Station.next g.R.Station.tells (offers_at c.args.desks.now) in
-    let seen = subst (λ (j : Ledger). JudgedAs processors hash accepts policy j.blocks j.states content c.judge.result) c.self.view_is c.judge.ensures.judged in
+    let seen = subst (λ (j : Ledger). JudgedAs processors hash accepts policy j.blocks j.states content c.judge_block.result) c.self.view_is c.judge_block.ensures.judged in
     let judged = subst (λ (result : Result New Stop). JudgedAs processors hash accepts policy old.blocks old.states content result) c.in-Ok.is seen in
     let rules = rules_by hash accepts policy judged.1.runs in
     (judged.1.runs, judged.1.by, says_full rules old content judged.0 judged.1.judged_as c.in-Ok.new judged.2 (c.join.ensures.full is))
@@ -64,7 +64,7 @@ returns-in-Err-Refused-clause-says g c =
     let content = c.args.bytes.now in
     let policy = policy_by g.P.BlockPolicy.fault g.P.BlockPolicy.end_fault in
     let processors = processors_at g.R.Station.next g.R.Station.tells (offers_at c.args.desks.now) in
-    let seen = subst (λ (j : Ledger). JudgedAs processors hash accepts policy j.blocks j.states content c.judge.result) c.self.view_is c.judge.ensures.judged in
+    let seen = subst (λ (j : Ledger). JudgedAs processors hash accepts policy j.blocks j.states content c.judge_block.result) c.self.view_is c.judge_block.ensures.judged in
     let told = subst (λ (result : Result New Stop). JudgedAs processors hash accepts policy old.blocks old.states content result) c.in-Err-Refused.is seen in
     let came = subst (λ (stop : Stop). JudgedAs processors hash accepts policy old.blocks old.states content (Err stop)) c.in-Err-Refused.field-0-is told in
     (came.runs, came.by, (came.judged_as, refl))
@@ -85,7 +85,7 @@ returns-in-Err-Failed-clause-clash g c =
     let content = c.args.bytes.now in
     let policy = policy_by g.P.BlockPolicy.fault g.P.BlockPolicy.end_fault in
     let processors = processors_at g.R.Station.next g.R.Station.tells (offers_at c.args.desks.now) in
-    let seen = subst (λ (j : Ledger). JudgedAs processors hash accepts policy j.blocks j.states content c.judge.result) c.self.view_is c.judge.ensures.judged in
+    let seen = subst (λ (j : Ledger). JudgedAs processors hash accepts policy j.blocks j.states content c.judge_block.result) c.self.view_is c.judge_block.ensures.judged in
     let told = subst (λ (result : Result New Stop). JudgedAs processors hash accepts policy old.blocks old.states content result) c.in-Err-Failed.is seen in
     let met = subst (λ (stop : Stop). JudgedAs processors hash accepts policy old.blocks old.states content (Err stop)) c.in-Err-Failed.field-0-is told in
     clashes_judged processors hash accepts policy old content c.in-Err-Failed.fault met

@@ -1,7 +1,7 @@
 use Rattle.std.proofs.Common.{◌<◌, length, set, refl, ap}
 use Rattle.saw_ready.specs.Cursors.{IsDue, IsRefreshed}
 use Rattle.saw_ready.specs.Marks.{is_invalid, is_valid}
-use Rattle.saw_ready.specs.declared.mark.Mark.TheVariants.{Waiting}
+use Rattle.saw_ready.specs.declared.slot_state.SlotState.TheVariants.{Waiting}
 use Rattle.saw_ready.proofs.Keeping.{kept-mark}
 use Rattle.saw_ready.proofs.Lowering.{lowest-same}
 use Rattle.saw_ready.proofs.queue.Queue.back.Goals as goal

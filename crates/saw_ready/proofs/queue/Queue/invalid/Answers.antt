@@ -1,7 +1,7 @@
 use Rattle.std.proofs.Common.{◌≡◌, ◌<◌, length, get_or, set, min, refl, ap, arith, length-set}
 use Rattle.std.proofs.lemmas.List.{get_or_read}
 use Rattle.saw_ready.specs.Marks.{is_invalid, is_valid}
-use Rattle.saw_ready.specs.declared.mark.Mark.TheVariants.{Invalid}
+use Rattle.saw_ready.specs.declared.slot_state.SlotState.TheVariants.{Invalid}
 use Rattle.saw_ready.proofs.Keeping.{kept-mark, never-due}
 use Rattle.saw_ready.proofs.Lowering.{lowest-set}
 use Rattle.saw_ready.proofs.queue.Queue.invalid.Goals as goal

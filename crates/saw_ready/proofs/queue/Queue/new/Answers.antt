@@ -1,7 +1,7 @@
 use Rattle.std.proofs.Common.{◌≡◌, ◌<◌, ℕ, length, get_or, rules, ◌∙◌, sym}
 use Rattle.std.proofs.lemmas.List.{get_or-replicate}
 use Rattle.saw_ready.specs.Layouts.{IsLayout}
-use Rattle.saw_ready.specs.declared.mark.Mark.TheVariants.{Waiting}
+use Rattle.saw_ready.specs.declared.slot_state.SlotState.TheVariants.{Waiting}
 use Rattle.saw_ready.proofs.Keeping.{all-waiting, kept-new}
 use Rattle.saw_ready.proofs.queue.Queue.new.Goals as goal
 

@@ -1,7 +1,7 @@
 use Rattle.std.proofs.Common.{◌∙◌, false, get_or, set, refl, get_or-set_other, length-set}
 use Rattle.saw_ready.specs.Kept.{IsQueue, waits_of}
 use Rattle.saw_ready.specs.Queues.{MayTake}
-use Rattle.saw_ready.specs.declared.mark.Mark.TheVariants.{Running, Waiting}
+use Rattle.saw_ready.specs.declared.slot_state.SlotState.TheVariants.{Running, Waiting}
 use Rattle.saw_ready.proofs.Keeping.{kept-mark, never-due}
 use Rattle.saw_ready.proofs.Lowering.{lowest-same}
 use Rattle.saw_ready.proofs.MarkFacts.{waiting-invalid, waiting-valid}

@@ -2,8 +2,8 @@ use Rattle.std.proofs.Common.{◌<◌, List, length, sym, ap, ◌∙◌, refl, s
 use Rattle.saw_ready.specs.Cursors.{AreFlagged, AreHalfCursors}
 use Rattle.saw_ready.specs.Edges.{begin}
 use Rattle.saw_ready.specs.Marks.{is_invalid, is_valid}
-use Rattle.saw_ready.specs.declared.mark.Mark.{Mark}
-use Rattle.saw_ready.specs.declared.mark.Mark.TheVariants.{Valid}
+use Rattle.saw_ready.specs.declared.slot_state.SlotState.{SlotState}
+use Rattle.saw_ready.specs.declared.slot_state.SlotState.TheVariants.{Valid}
 use Rattle.saw_ready.proofs.Keeping.{flagged-set, kept-valid, never-due}
 use Rattle.saw_ready.proofs.Releasing.{half-start}
 use Rattle.saw_ready.proofs.queue.Queue.valid.Goals as goal
@@ -14,7 +14,7 @@ release-requires-clause-half c =
     let k = c.args.k in
     let p = c.self.invariant.queue.placed in
     let inside : k < length s.marks.items = rw (← c.self.view_is) at c.requires.inside in
-    subst (λ (ms : List Mark). AreHalfCursors s.layout.preds s.layout.succs ms s.first k (begin s.layout.succs k) s.cursors.items)
+    subst (λ (ms : List SlotState). AreHalfCursors s.layout.preds s.layout.succs ms s.first k (begin s.layout.succs k) s.cursors.items)
     (sym c.deref.ensures.value)
     (half-start s.layout.preds s.layout.succs s.marks.items s.first s.cursors.items k inside p.is_layout.both.turned p.cursors_are)
 
@@ -24,7 +24,7 @@ release-requires-clause-flagged c =
     let k = c.args.k in
     let runs = rw (← c.self.view_is) at c.requires.runs in
     let inside : k < length s.marks.items = rw (← c.self.view_is) at c.requires.inside in
-    subst (λ (ms : List Mark). AreFlagged s.layout.preds s.layout.starts.items ms s.first s.cursors.items s.ready)
+    subst (λ (ms : List SlotState). AreFlagged s.layout.preds s.layout.starts.items ms s.first s.cursors.items s.ready)
     (sym c.deref.ensures.value)
     (flagged-set s.layout s.marks.items s.first k Valid inside s.cursors.items s.ready s.ready (ap is_invalid runs)
     (λ due. absurd (never-due s.layout s.marks.items s.first k Valid inside s.cursors.items refl due))

@@ -4,10 +4,10 @@ use Rattle.std.specs.Global.{Global}
 use Rattle.std.specs.declared.sync.Arc.{Arc}
 use Rattle.saw_messages.specs.declared.tx.Tx.{Tx}
 use Rattle.saw_machine.specs.Machine.{IsReady}
-use Rattle.saw_schedule.proofs.Replays.{histories-are-kept}
+use Rattle.saw_schedule.proofs.Replays.{histories-are-lawful}
 use Rattle.saw_ready.specs.Edges.{AreEdges, begin, finish}
 use Rattle.saw_ready.specs.Queues.{Waits, with_mark}
-use Rattle.saw_ready.specs.declared.mark.Mark.TheVariants as marks
+use Rattle.saw_ready.specs.declared.slot_state.SlotState.TheVariants as marks
 use Rattle.saw_schedule.specs.Histories.{History, IsTake, order_in, state_of, with_step}
 use Rattle.saw_schedule.specs.Jobs.{IsJobAt}
 use Rattle.saw_schedule.specs.Layering.{AreLastsOf}
@@ -34,7 +34,7 @@ returns-in_default-clause-ok c = record {
   same = ap (λ (steps : List Step). record { batches = (arc_value c.self.inside.plan).batches; steps = steps }) c.reserve.ensures.items ∙ c.self.view_is;
   none = λ i ready. c.in_default.ensures.taken.1 i
       (ready-taken (order_in (record { batches = (arc_value c.self.inside.plan).batches; steps = c.self.inside.steps.items })) (state_of (record { batches = (arc_value c.self.inside.plan).batches; steps = c.self.inside.steps.items })) c.self.inside.slots.queue i
-      c.self.invariant.slots_are.shows (histories-are-kept (record { batches = (arc_value c.self.inside.plan).batches; steps = c.self.inside.steps.items }) c.self.invariant.replay)
+      c.self.invariant.slots_are.shows (histories-are-lawful (record { batches = (arc_value c.self.inside.plan).batches; steps = c.self.inside.steps.items }) c.self.invariant.replay)
       (subst (λ (h : History). IsReady (order_in h) (state_of h) i) (sym c.self.view_is) ready));
 }
 

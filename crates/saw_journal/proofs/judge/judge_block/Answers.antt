@@ -7,7 +7,7 @@ use Rattle.saw_station.proofs.Finished.{processors_own}
 use Rattle.saw_station.specs.Serving.{processors_at}
 use Rattle.saw_journal.proofs.Counted.{few_batches, few_transactions}
 use Rattle.saw_journal.proofs.Judgements.{by_structure}
-use Rattle.saw_journal.proofs.judge.judge.Goals as goal
+use Rattle.saw_journal.proofs.judge.judge_block.Goals as goal
 
 pub returns-in_err-read-clause-desks : goal.returns-in_err-read-clause-desks
 returns-in_err-read-clause-desks g c = keep_all g.R.Station.faults g.R.Station.offered c.args.desks.now

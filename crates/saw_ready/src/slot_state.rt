@@ -5,7 +5,7 @@ ghost use Rattle.saw_ready.specs.Marks.{is_invalid, is_valid, is_waiting};
 
 /// What a transaction's slot holds.
 #[derive(Clone, Copy, Debug, PartialEq, Eq)]
-pub enum Mark {
+pub enum SlotState {
     /// Nothing yet: it may be taken once what it stands on is met.
     Waiting,
     /// Nothing yet: it was taken.
@@ -18,12 +18,12 @@ pub enum Mark {
     Closed,
 }
 
-impl Mark {
+impl SlotState {
     pub(crate) fn is_waiting(self) -> bool
         ensures { result ≡ is_waiting self }
     {
         match self {
-            Mark::Waiting => true,
+            SlotState::Waiting => true,
             _ => false,
         }
     }
@@ -32,7 +32,7 @@ impl Mark {
         ensures { result ≡ is_valid self }
     {
         match self {
-            Mark::Valid => true,
+            SlotState::Valid => true,
             _ => false,
         }
     }
@@ -41,7 +41,7 @@ impl Mark {
         ensures { result ≡ is_invalid self }
     {
         match self {
-            Mark::Invalid => true,
+            SlotState::Invalid => true,
             _ => false,
         }
     }
