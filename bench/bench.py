@@ -13,6 +13,7 @@ import time
 sys.path.insert(0, os.path.join(os.path.dirname(__file__), "..", "tools"))
 
 import counters
+import usage
 
 # So many transactions stand in a batch.
 BATCH = 10
@@ -44,6 +45,7 @@ def measure(program, transactions):
 
 
 def main():
+    usage.words(__doc__, 1, 2)
     program = sys.argv[1]
     once = int(sys.argv[2]) if len(sys.argv) > 2 else 1000
     results = [measure(program, once * times) for times in (1, 10)]

@@ -15,6 +15,7 @@ import time
 sys.path.insert(0, os.path.join(os.path.dirname(__file__), "..", "tools"))
 
 import counters
+import usage
 from generator import EMPTY, grown
 
 # A block has at most so many transactions.
@@ -68,6 +69,7 @@ def measure(program, frames, first):
 
 
 def main():
+    usage.words(__doc__, 5, float("inf"))
     names, blocks, size, turns = (int(word) for word in sys.argv[1:5])
     frames, count = stream(names, blocks, size, turns)
     for program in sys.argv[5:]:

@@ -12,6 +12,10 @@ import sys
 import tempfile
 import time
 
+sys.path.insert(0, os.path.join(os.path.dirname(__file__), "..", "tools"))
+
+import usage
+
 START, CONFLICTS, WORKERS = 7, (0, 10, 100), (1, 2, 4)
 
 
@@ -45,6 +49,7 @@ def compared(programs, file, workers, runs):
 
 
 def main():
+    usage.words(__doc__, 2, 5)
     programs = sys.argv[1:3]
     blocks, batches, runs = (int(word) for word in sys.argv[3:6] or ("4", "2500", "5"))
     count = blocks * batches * 2

@@ -13,6 +13,7 @@ import sys
 import tempfile
 
 from chain import stream
+import usage
 
 CALLS = {
     "receipts": ["receipts"],
@@ -33,6 +34,7 @@ def seconds(program, words, file):
 
 
 def main():
+    usage.words(__doc__, 1, 4)
     program = sys.argv[1]
     blocks, size, turns = (int(word) for word in [*sys.argv[2:], *["4000", "10", "5"][len(sys.argv) - 2 :]])
     frames, _ = stream(0, blocks, size, 1)

@@ -18,6 +18,7 @@ sys.path.insert(0, os.path.join(os.path.dirname(__file__), "..", "tools"))
 
 import batches
 import counters
+import usage
 from applied import values
 from families import number
 
@@ -121,6 +122,7 @@ def compare(program, turns, firsts, transactions):
 
 
 def main():
+    usage.words(__doc__, 1, 3)
     program, turns = sys.argv[1], int(sys.argv[2]) if len(sys.argv) > 2 else 7
     mixed = sys.argv[3:] == ["mixed"]
     firsts = {name: first_batch(*keys, mixed) for name, keys in SETTINGS.items()}

@@ -11,6 +11,7 @@ bench/onchain.py, which has the turns, the times and what is printed.
 import sys
 
 import onchain
+import usage
 from batches import ALLOWED, KEY
 from families import KEYS
 
@@ -31,6 +32,7 @@ def policy(name):
 
 
 def main():
+    usage.words(__doc__, 1, 2)
     program, turns = sys.argv[1], int(sys.argv[2]) if len(sys.argv) > 2 else 7
     keys = [f"settings propose {key} {KEY}" for key in (KEYS, ALLOWED)]
     policies = [policy(name) for name in (*ROLES.values(), "default")]

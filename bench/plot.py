@@ -11,6 +11,10 @@ import math
 import os
 import sys
 
+sys.path.insert(0, os.path.join(os.path.dirname(__file__), "..", "tools"))
+
+import usage
+
 HERE = os.path.dirname(os.path.abspath(__file__))
 
 # The picture, and where the panels lie in it: left edges, top, width and height of the drawn part.
@@ -112,6 +116,7 @@ def picture(table):
 
 
 def main():
+    usage.words(__doc__, 0, 2)
     table = sys.argv[1] if len(sys.argv) > 1 else os.path.join(HERE, "figures.csv")
     into = sys.argv[2] if len(sys.argv) > 2 else os.path.join(HERE, "figures.svg")
     with open(table, newline="", encoding="utf-8") as file:

@@ -15,7 +15,9 @@ import tempfile
 import time
 
 ROOT = os.path.join(os.path.dirname(os.path.abspath(__file__)), "..")
-sys.path.insert(0, os.path.join(ROOT, "demo"))
+sys.path[:0] = [os.path.join(ROOT, "demo"), os.path.join(ROOT, "tools")]
+
+import usage
 
 COUNTS = (1, 2, 4)
 
@@ -76,6 +78,7 @@ def measure(program, made, count, milliseconds):
 def main():
     if sys.argv[1:2] == ["--serve"]:
         return serve(sys.argv[2], float(sys.argv[3]))
+    usage.words(__doc__, 1, 4)
     program = os.path.abspath(sys.argv[1])
     transactions, milliseconds, runs = (int(word) for word in sys.argv[2:5] or ("400", "5", "3"))
     with tempfile.TemporaryDirectory() as folder:

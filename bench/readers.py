@@ -23,6 +23,7 @@ HERE = os.path.dirname(os.path.abspath(__file__))
 sys.path[:0] = [os.path.join(HERE, "..", "demo"), os.path.join(HERE, "..", "tools"), HERE]
 
 import counters
+import usage
 from ask import Asked
 from chain import stream
 from compare import made
@@ -123,6 +124,7 @@ def published(program, names, runs):
 
 
 def main():
+    usage.words(__doc__, 1, 2)
     program, runs = sys.argv[1], int((sys.argv[2:3] or ["5"])[0])
     beside_three(program, runs)
     few, many = (published(program, names, runs) for names in (1000, 100000))

@@ -16,6 +16,7 @@ import tempfile
 ROOT = os.path.join(os.path.dirname(os.path.abspath(__file__)), "..")
 sys.path.insert(0, os.path.join(ROOT, "tools"))
 
+import usage  # noqa: E402
 from counters import address, operation  # noqa: E402
 
 FAMILY = "1cf126"
@@ -87,6 +88,7 @@ def table(program, counts, names_of, read):
 
 
 def main():
+    usage.words(__doc__, 0, 1)
     program = os.path.abspath(sys.argv[1] if len(sys.argv) > 1 else f"{ROOT}/crates/saw_plan_steps/out/saw_plan_steps")
     print("schedule - plan and drain - schedule are given for each transaction")
     table(program, (2000, 20000), lambda count: (count, 100, 1), None)

@@ -15,6 +15,7 @@ import tempfile
 sys.path.insert(0, os.path.join(os.path.dirname(__file__), "..", "tools"))
 
 import counters
+import usage
 from generator import EMPTY, grown
 
 RUNS = 5
@@ -71,6 +72,7 @@ def measure(program, frames):
 
 
 def main():
+    usage.words(__doc__, 1, float("inf"))
     programs = sys.argv[1:]
     for told, frames in (("220 of 1,000 declared", many_declared(220)), ("4,000 that read all", all_read(4000))):
         runs = [[measure(program, frames) for program in programs] for _ in range(RUNS)]

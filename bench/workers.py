@@ -11,11 +11,13 @@ import os
 import sys
 
 from compare import made, run
+import usage
 
 WORKERS = (1, 2, 4)
 
 
 def main():
+    usage.words(__doc__, 1, 4)
     program = sys.argv[1]
     blocks, batches, runs = (int(word) for word in sys.argv[2:5] or ("4", "2500", "5"))
     print(f"{blocks} blocks of {batches} batches, {os.cpu_count()} cores, load {os.getloadavg()[0]:.1f}")

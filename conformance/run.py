@@ -5,7 +5,8 @@ Usage, from the top of the repository: python3 -B conformance/run.py PROGRAM [--
 Each case is run as its words say, and, where they do not say how many workers there are, by 1, 3 and 64 of them, too.
 What differs is told with the first byte that does. --only takes the cases whose names have the text, --jobs runs so many
 side by side (without it as many as there are processors), and --seconds ends a run that takes longer (without it 120).
-The last lines have the counts: what was left out, and why; the status is 0 only if nothing differs.
+The last lines have the counts: what was left out, and why. The status is 0 only if nothing differs, and 2 where PROGRAM
+is no program or no case has the text in its name.
 """
 
 import argparse
@@ -136,6 +137,10 @@ def play(child, port, frames, sent):
             pass
 
 
+class Unusable(Exception):
+    """Why nothing can be run."""
+
+
 class Said:
     """Output, notes and status of a run, and what was sent to a processor; `how` are further words of Popen."""
 
@@ -149,14 +154,17 @@ class Said:
                 os.makedirs(os.path.dirname(os.path.join(folder, name)) or folder, exist_ok=True)
                 with open(os.path.join(folder, name), "wb") as file:
                     file.write(data)
-            child = subprocess.Popen(
-                [program, *words, *listen],
-                stdin=subprocess.PIPE,
-                stdout=subprocess.PIPE,
-                stderr=subprocess.PIPE,
-                cwd=folder,
-                **how,
-            )
+            try:
+                child = subprocess.Popen(
+                    [program, *words, *listen],
+                    stdin=subprocess.PIPE,
+                    stdout=subprocess.PIPE,
+                    stderr=subprocess.PIPE,
+                    cwd=folder,
+                    **how,
+                )
+            except OSError as error:
+                raise Unusable(f"{program} is no program: {error.strerror}") from None
             processor = None
             if frames is not None:
                 processor = threading.Thread(target=play, args=(child, port, frames, sent))
@@ -267,23 +275,32 @@ def jobs_of(given):
     return jobs, left
 
 
+def positive(text):
+    """A number from 1 on."""
+    if not text.isdecimal() or not int(text):
+        raise argparse.ArgumentTypeError(f"{text!r} is no number from 1 on")
+    return int(text)
+
+
 def arguments():
     shape = argparse.RawDescriptionHelpFormatter
     parser = argparse.ArgumentParser(description=__doc__, formatter_class=shape, usage=argparse.SUPPRESS)
     parser.add_argument("program", metavar="PROGRAM", type=os.path.abspath)
     parser.add_argument("--only", default="", metavar="TEXT")
-    parser.add_argument("--jobs", type=int, default=os.cpu_count(), metavar="N")
-    parser.add_argument("--seconds", type=int, default=120, metavar="N")
+    parser.add_argument("--jobs", type=positive, default=os.cpu_count(), metavar="N")
+    parser.add_argument("--seconds", type=positive, default=120, metavar="N")
     return parser.parse_args()
 
 
-def main():
-    given = arguments()
-    if not os.access(given.program, os.X_OK):
-        sys.exit(f"{given.program} is no program")
+def run(given):
+    """Runs the cases, and gives the status."""
+    if not os.path.isfile(given.program) or not os.access(given.program, os.X_OK):
+        raise Unusable(f"{given.program} is no program")
     jobs, left = jobs_of(given)
+    if not jobs and not left:
+        raise Unusable(f"no case has {given.only!r} in its name")
     failed = 0
-    with ThreadPoolExecutor(max(1, given.jobs)) as pool:
+    with ThreadPoolExecutor(given.jobs) as pool:
         for (name, _), found in zip(jobs, pool.map(lambda job: job[1](), jobs)):
             failed += bool(found)
             for line in found:
@@ -292,6 +309,15 @@ def main():
         print(f"left out {count}: {why}")
     print(f"{len(jobs) - failed} passed, {failed} failed, {sum(left.values())} left out")
     return 1 if failed else 0
+
+
+def main():
+    given = arguments()
+    try:
+        return run(given)
+    except Unusable as why:
+        print(why, file=sys.stderr)
+        return 2
 
 
 if __name__ == "__main__":

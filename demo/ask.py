@@ -19,7 +19,8 @@ It prints a line for each answer:
     ADDRESS N ID ROOT -        its state has no entry there
     ADDRESS refused            this is no address
 
-The status is 0, 1 where the connection is lost or cannot be had, or 2 for invalid arguments.
+The status is 0, 1 where the connection is lost or cannot be had or a line cannot be written, or 2 for invalid
+arguments.
 
 In a program of your own take `Asked`: `connected(port)` and `ask(address)`.
 """
@@ -236,9 +237,12 @@ def run(words):
     except Lost as lost:
         print(f"ask.py: {lost}", file=sys.stderr)
         return 1
-    except BrokenPipeError:
-        # Whoever reads the lines has gone; what is still to be written goes nowhere.
+    except OSError as error:
+        # What is still to be written goes nowhere. It is no failure where whoever reads the lines has gone.
         os.dup2(os.open(os.devnull, os.O_WRONLY), sys.stdout.fileno())
+        if not isinstance(error, BrokenPipeError):
+            print(f"ask.py: cannot write: {error.strerror}", file=sys.stderr)
+            return 1
     except KeyboardInterrupt:
         pass
     return 0

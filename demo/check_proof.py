@@ -160,14 +160,22 @@ def answer(words):
     return "ABSENT" if value is None else f"PRESENT {value.hex()}", 0
 
 
+def write(line):
+    """Writes the line at once to standard output, whose number is 1."""
+    try:
+        with open(1, "w", encoding="ascii", closefd=False) as file:
+            print(line, file=file)
+    except OSError:
+        raise Fault(5, "write") from None
+
+
 def main():
     try:
         line, status = answer(sys.argv[1:])
+        write(line)
     except Fault as fault:
         status, word = fault.args
         print(f"fault {status} {word}", file=sys.stderr)
-    else:
-        print(line)
     return status
 
 

@@ -3,6 +3,7 @@
 Usage: python3 -B demo/follow.py [OPTION ..] FILE [COMMON]
 
 FILE has the blocks, as `sawval` reads them; COMMON are options of `sawval events` (`--attest NAME`, `--workers N`, ..).
+The options of this program stand before FILE: all that stands behind it is given to `sawval`.
 
 --type T           events of this type; `sawtooth/state-delta` without it
 --key K --value V  only those with an attribute of this key and this value
@@ -19,7 +20,8 @@ It prints
     withdrawn block NUMBER ID                  what came of its events is to be undone; the last block is told first
 
 Each event comes at least once: the state is kept when all of a look is printed, so after a stop in between some come again.
-A program's status besides 0 and 8 is the status of this one, with the program's notes; 1 is for what fails here.
+A program's status besides 0 and 8 is the status of this one, with the program's notes; 1 is for what fails here (a file
+that cannot be read, a line that cannot be written), 2 for invalid arguments and for a file NAME that is no such state.
 
 In a program of your own take `Validator` and `look`.
 """
@@ -60,6 +62,10 @@ class Ended(Exception):
 
 class Lost(Exception):
     """The stream has none of the followed blocks: it is cut, or of another ledger."""
+
+
+class NoState(Exception):
+    """The file of this name has something else than the ids of followed blocks."""
 
 
 # --- messages (Protocol Buffers, "Encoding") ---
@@ -204,8 +210,14 @@ def read_state(name):
     """The ids of the followed blocks."""
     if not name or not os.path.exists(name):
         return []
-    with open(name, encoding="ascii") as file:
-        return json.load(file)
+    try:
+        with open(name, encoding="ascii") as file:
+            followed = json.load(file)
+    except ValueError:
+        raise NoState(name) from None
+    if not isinstance(followed, list) or not all(re.fullmatch("[0-9a-f]{128}", str(one)) for one in followed):
+        raise NoState(name)
+    return followed
 
 
 def write_state(name, followed):
@@ -246,15 +258,22 @@ def lines(followed, seen):
         yield from event_lines(numbers[one.block], one)
 
 
+def write(made):
+    """Writes the lines at once to standard output, whose number is 1."""
+    try:
+        with open(1, "w", encoding="ascii", closefd=False) as file:
+            file.writelines(f"{line}\n" for line in made)
+    except OSError as error:
+        raise OSError(f"cannot write: {error.strerror}") from None
+
+
 def follow(words):
     validator = Validator(shlex.split(words.command), words.common)
     filters = [(words.key, words.value)] if words.key is not None else []
     followed = read_state(words.state)
     for stream in streams(words.file, words.once):
         seen = look(validator, stream, followed, words.type, filters)
-        for line in lines(followed, seen):
-            print(line)
-        sys.stdout.flush()
+        write(lines(followed, seen))
         now = followed[: seen.kept] + seen.new
         if words.state and now != followed:
             write_state(words.state, now)
@@ -270,7 +289,9 @@ def arguments():
         parser.add_argument(name, help=argparse.SUPPRESS)
     parser.add_argument("--once", action="store_true", help=argparse.SUPPRESS)
     parser.add_argument("file", metavar="FILE", help=argparse.SUPPRESS)
-    parser.add_argument("common", metavar="COMMON", nargs=argparse.REMAINDER, help=argparse.SUPPRESS)
+    common = parser.add_argument("common", metavar="COMMON", nargs=argparse.REMAINDER, help=argparse.SUPPRESS)
+    # There may be none; this says so where FILE is missing, too.
+    common.required = False
     words = parser.parse_args()
     if (words.key is None) != (words.value is None):
         parser.error("--key and --value come together")
@@ -287,6 +308,9 @@ def main():
     except Lost:
         print("follow.py: none of the followed blocks is in the stream", file=sys.stderr)
         return 1
+    except NoState as named:
+        print(f"follow.py: {named} is no state of followed blocks", file=sys.stderr)
+        return 2
     except OSError as error:
         print(f"follow.py: {error}", file=sys.stderr)
         return 1

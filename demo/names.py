@@ -3,7 +3,8 @@
 Usage: python3 -B demo/names.py PORT
 
 PORT is that of `sawval apply --listen PORT --remotes N`, which waits for N such processors. This one tries to connect for
-ten seconds, serves transactions until the validator ends the link, and then says how many there were.
+ten seconds, serves transactions until the validator ends the link, and then says how many there were. The status is 0,
+130 after Ctrl-C, without a line, or 1 with a line on standard error.
 
 A payload is one of the texts `claim NAME`, `give NAME KEY` and `drop NAME`. A name belongs to the key that signed its
 claim, which alone may give it to another key, or drop it.

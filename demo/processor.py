@@ -337,13 +337,25 @@ def serve(port, *families):
 
 def main(*families):
     """A program that serves the families on the port that its one argument names, and says how many transactions were
-    answered. Its status is 0 where the validator ended the link, and 1 otherwise."""
-    words = sys.argv[1:]
+    answered. Its status is 0 where the validator ended the link, 130 after Ctrl-C, and 1 otherwise."""
+    words, name = sys.argv[1:], os.path.basename(sys.argv[0])
+    usage = f"usage: python3 -B {sys.argv[0]} PORT"
+    if words == ["--help"]:
+        print(usage)
+        return
     if len(words) != 1 or not re.fullmatch("[0-9]{1,5}", words[0]) or not 0 < int(words[0]) < 65536:
-        sys.exit(f"usage: python3 -B {sys.argv[0]} PORT")
+        sys.exit(usage)
     try:
-        print(f"{serve(int(words[0]), *families)} transactions answered")
+        line = f"{serve(int(words[0]), *families)} transactions answered"
     except Ended as error:
-        print(error)
+        line = error
     except OSError as error:
-        sys.exit(f"{os.path.basename(sys.argv[0])}: {error}")
+        sys.exit(f"{name}: {error}")
+    except KeyboardInterrupt:
+        sys.exit(130)
+    try:
+        print(line, flush=True)
+    except OSError as error:
+        # What is still to be written goes nowhere.
+        os.dup2(os.open(os.devnull, os.O_WRONLY), sys.stdout.fileno())
+        sys.exit(f"{name}: cannot write: {error.strerror}")

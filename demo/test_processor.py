@@ -236,6 +236,9 @@ class Broken(unittest.TestCase):
 
 
 if __name__ == "__main__":
+    if sys.argv[1:] == ["--help"]:
+        print(__doc__.strip())
+        sys.exit()
     if len(sys.argv) < 2:
         sys.exit(__doc__)
     PROGRAM.append(os.path.abspath(sys.argv.pop(1)))

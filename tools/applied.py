@@ -8,6 +8,8 @@ import os
 import struct
 import sys
 
+import usage
+
 
 def varint(data, at):
     number = shift = 0
@@ -47,7 +49,7 @@ def line(frame):
 
 
 def main():
-    case, source, folder = sys.argv[1:]
+    case, source, folder = usage.words(__doc__, 3)
     with open(source, "rb") as file:
         stream = file.read()
     (length,) = struct.unpack(">I", stream[:4])

@@ -9,8 +9,9 @@ standard error with its place, counted from 0:
 
     STREAM block 2 batch 0 transaction 4: the signature is not the key's over these bytes
 
-The last line on standard error has the counts. The status is 0 where all are good, 1 where some are not, and 2 where a
-file cannot be read or is no stream or list. A line that stands already is not written again.
+The last line on standard error has the counts, and says how many are development marks, which no real key made. The
+status is 0 where all are good, 1 where some are not, and 2 where a file cannot be read or is no stream or list, or a
+line cannot be written. A line that stands already is not written again.
 """
 
 import argparse
@@ -78,10 +79,10 @@ def list_parts(data):
 
 
 class Attested:
-    """The lines that were written, and how many messages were good and not good."""
+    """The lines that were written, how many messages were good and not good, and how many of these have marks."""
 
-    def __init__(self):
-        self.lines, self.good, self.bad = set(), 0, 0
+    def __init__(self, out):
+        self.out, self.lines, self.good, self.bad, self.marks = out, set(), 0, 0, 0
 
     def test(self, name, place, message, field):
         header = (values(message, 1) or [b""])[-1]
@@ -89,13 +90,14 @@ class Attested:
         wrong = fault(key, signature, header)
         if wrong:
             self.bad += 1
+            self.marks += signature == hashlib.sha512(key.encode() + header).hexdigest()
             print(f"{name} {place}: {wrong}", file=sys.stderr)
             return
         self.good += 1
         line = f"{key} {signature} {hashlib.sha512(header).hexdigest()}"
         if line not in self.lines:
             self.lines.add(line)
-            print(line)
+            print(line, file=self.out)
 
     def read(self, name, parts):
         data, before = content(name), self.good + self.bad
@@ -107,12 +109,18 @@ class Attested:
         if data and self.good + self.bad == before:
             raise Unread("nothing in it is signed")
 
+    def counts(self):
+        marks = f"; {self.marks} of these are development marks, which no real key made" if self.marks else ""
+        return f"{self.good} signatures are good, {self.bad} are not{marks}"
+
 
 def arguments():
-    usage = __doc__.split("\n\n")[1].removeprefix("Usage: ")
-    parser = argparse.ArgumentParser(usage=usage, allow_abbrev=False)
-    parser.add_argument("--batches", action="append", default=[], metavar="LIST", help="a batch list")
-    parser.add_argument("streams", nargs="*", metavar="STREAM", help="blocks in frames")
+    shape = argparse.RawDescriptionHelpFormatter
+    parser = argparse.ArgumentParser(
+        description=__doc__, usage=argparse.SUPPRESS, formatter_class=shape, allow_abbrev=False
+    )
+    parser.add_argument("--batches", action="append", default=[], metavar="LIST", help=argparse.SUPPRESS)
+    parser.add_argument("streams", nargs="*", metavar="STREAM", help=argparse.SUPPRESS)
     given = parser.parse_args()
     if not given.batches and not given.streams:
         parser.error("no STREAM and no LIST is named")
@@ -120,15 +128,21 @@ def arguments():
 
 
 def main():
-    given, attested = arguments(), Attested()
+    given = arguments()
     named = [(name, list_parts) for name in given.batches] + [(name, stream_parts) for name in given.streams]
-    for name, parts in named:
-        try:
-            attested.read(name, parts)
-        except Unread as why:
-            print(f"{name}: {why}", file=sys.stderr)
-            return 2
-    print(f"{attested.good} signatures are good, {attested.bad} are not", file=sys.stderr)
+    try:
+        # Standard output, whose number is 1.
+        with open(1, "w", encoding="ascii", closefd=False) as out:
+            attested = Attested(out)
+            for name, parts in named:
+                attested.read(name, parts)
+    except Unread as why:
+        print(f"{name}: {why}", file=sys.stderr)
+        return 2
+    except OSError as error:
+        print(f"cannot write: {error.strerror}", file=sys.stderr)
+        return 2
+    print(attested.counts(), file=sys.stderr)
     return 1 if attested.bad else 0
 
 

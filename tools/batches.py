@@ -38,8 +38,8 @@ A value with spaces or `;` in it, within the quotes of the shell:
     python3 -B tools/batches.py list "settings propose some.setting 'one; two'"
 
 Lists of several keys or nonces are joined with `cat`. Words that a family refuses whatever the state end the tool with
-status 2 and one line, which counts batches and transactions from 0 as `sawval` does; then nothing is written. Status 1
-says that FILE cannot be written.
+status 2 and one line, which counts batches and transactions from 0 as `sawval` does; then nothing is written. So does a
+KEYFILE that cannot be read or has no key. Status 1 says that FILE cannot be written.
 """
 
 import argparse

@@ -9,6 +9,8 @@ import os
 import struct
 import sys
 
+import usage
+
 KEY = "02" + "1" * 64
 LIMIT = 4294967295
 FOLDER = sys.argv[1] if len(sys.argv) > 1 else "."
@@ -151,6 +153,7 @@ def refused(case, batches, values, fault):
 
 
 def main():
+    usage.words(__doc__, 1)
     # The program makes a case from outside as it is.
     with open(f"{FOLDER}/intkey-set/stdin", "rb") as file:
         assert block([[("set", "a", 5)]], root({"a": 5}))[1] == file.read()

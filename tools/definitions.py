@@ -10,6 +10,8 @@ import os
 import re
 import sys
 
+import usage
+
 
 def content(*parts):
     with open(os.path.join(*parts), encoding="utf-8") as file:
@@ -39,7 +41,7 @@ def tell(crate):
 
 
 def main():
-    named = sys.argv[1:] or crates()
+    named = usage.words(__doc__, 0, float("inf")) or crates()
     unknown = [name for name in named if not os.path.isdir(os.path.join("crates", name))]
     if unknown:
         sys.exit(f"no crate: {' '.join(unknown)}")

@@ -164,6 +164,9 @@ def prove(crates, room):
 
 
 def main(words):
+    if words == ["--help"]:
+        print(__doc__, end="")
+        return 0
     flags = [word for word in words if word.startswith("-")]
     sides = sorted(os.listdir(SIDE)) if os.path.isdir(SIDE) else []
     named = [word for word in words if word not in flags]

@@ -20,6 +20,7 @@ HERE = os.path.dirname(os.path.abspath(__file__))
 sys.path[:0] = [os.path.join(HERE, "..", "bench"), os.path.join(HERE, "..", "demo"), HERE]
 
 import batches
+import usage
 from readers import ask, free_port
 
 FIRST, SECOND = batches.KEY, "03" + "2" * 64
@@ -115,7 +116,8 @@ def beside_readers(program, stream, workers):
 
 
 def main():
-    program, blocks = os.path.abspath(sys.argv[1]), int(sys.argv[2]) if len(sys.argv) > 2 else 1000
+    words = usage.words(__doc__, 1, 2)
+    program, blocks = os.path.abspath(words[0]), int(words[1]) if len(words) > 1 else 1000
     stream, dropped = chain(program, blocks)
     apart = 0
     print(f"{blocks} blocks, {len(stream)} bytes, {dropped} batches dropped by publish")

@@ -6,12 +6,12 @@ Usage: python3 tools/failing.py crates/saw_cases/data/cases
 """
 
 import os
-import sys
 
 import generator
+import usage
 from counters import half, head, record, text
 
-FOLDER = sys.argv[1]
+(FOLDER,) = usage.words(__doc__, 1)
 # A frame without content: a block without a signature, whose id is no text of 128 digits.
 EMPTY = bytes(4)
 REFUSED = "block 0 refused 2 IdText\n"

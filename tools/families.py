@@ -14,6 +14,7 @@ import struct
 from dataclasses import dataclass
 
 import counters
+import usage
 from applied import records, values
 from counters import head, node, record, sha512, text, varint
 
@@ -676,6 +677,7 @@ def agree():
 
 
 def main():
+    usage.words(__doc__, 1)
     agree()
     game_cases()
     settings_refused()

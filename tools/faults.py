@@ -11,6 +11,8 @@ only one page has; it ends with 1 where there is any.
 import re
 import sys
 
+import usage
+
 SOURCE, PAGE = "docs/OPERATING.md", "docs/RULES.md"
 HEAD = re.compile(r"\| (?:(Cause|Reason) )?(\d+)(?: `(\w+)`)?: ")
 COUNT = re.compile(r"\| (?:\[(.*)\]\(#.*\)|all) \| (\d+) \|")
@@ -109,10 +111,11 @@ def differences(old, new, told, named):
 
 
 def main():
+    given = usage.words(__doc__, 0, 1, ["--fill"])
     told, old = meanings(), content(PAGE).split("\n")
     made, named = filled(old, told)
     new = counted(made)
-    if sys.argv[1:] == ["--fill"]:
+    if given == ["--fill"]:
         with open(PAGE, "w", encoding="utf-8") as file:
             file.write("\n".join(new))
         old = new

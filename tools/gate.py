@@ -18,6 +18,8 @@ import re
 import sys
 import time
 
+import usage
+
 TICKS = os.sysconf("SC_CLK_TCK")
 
 
@@ -85,6 +87,7 @@ def modules(folder):
 
 if __name__ == "__main__":
     calls = {"watch": watch, "sum": total, "modules": modules}
-    if len(sys.argv) != 3 or sys.argv[1] not in calls:
+    call, place = usage.words(__doc__, 2)
+    if call not in calls:
         sys.exit(__doc__)
-    calls[sys.argv[1]](sys.argv[2])
+    calls[call](place)

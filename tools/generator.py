@@ -11,6 +11,7 @@ import sys
 sys.path.insert(0, os.path.dirname(os.path.abspath(__file__)))
 
 import counters
+import usage
 from counters import address, head, record, sha512, text, varint
 
 KEY = "02" + "0" * 64
@@ -122,7 +123,7 @@ def frames(start, blocks, batches, conflicts):
 
 
 def main():
-    for frame in frames(*(int(word) for word in sys.argv[1:5])):
+    for frame in frames(*(int(word) for word in usage.words(__doc__, 4))):
         sys.stdout.buffer.write(frame)
 
 

@@ -6,14 +6,15 @@ Usage: python3 tools/large.py crates/saw_cases/data/cases
 
 import hashlib
 import os
-import sys
 
 import generator
+import usage
 
 START, BLOCKS, BATCHES = 7, 4, 2500
 
 
 def main():
+    (cases,) = usage.words(__doc__, 1)
     digest, lines, last = hashlib.sha512(), [], ""
     for number, (name, root, frame) in enumerate(generator.blocks_of(START, BLOCKS, BATCHES, 10)):
         digest.update(frame)
@@ -28,7 +29,7 @@ def main():
         "status": "0\n",
         "applied": "".join(lines) + f"head {last}\n",
     }
-    folder = f"{sys.argv[1]}/large_run"
+    folder = f"{cases}/large_run"
     os.makedirs(folder, exist_ok=True)
     for name, text in stored.items():
         with open(f"{folder}/{name}", "w", encoding="ascii") as out:

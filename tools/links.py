@@ -7,8 +7,8 @@ Usage: python3 -B tools/links.py crates/saw_cases/data/cases
 
 import os
 import struct
-import sys
 
+import usage
 from counters import KEY, half, node, record, sha512
 from families import Transaction, frame, number, signed, written_batch, written_transaction
 
@@ -93,7 +93,7 @@ def block(at, previous, batches, state):
     return name, frame(content), f"{at} {name} {root(state)} {len(batches)} {count}"
 
 
-FOLDER = sys.argv[1]
+(FOLDER,) = usage.words(__doc__, 1)
 
 
 def put(case, stream, peer, sent, output, notes="", status=0, words="apply\n"):

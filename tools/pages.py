@@ -13,6 +13,9 @@ import os
 import re
 import sys
 
+import usage
+
+usage.words(__doc__)
 PAGES = ["README.md", *sorted(glob.glob("*/*.md")), *sorted(glob.glob("crates/*/README.md"))]
 LINK = re.compile(r"!?\[[^\]]*\]\(([^)\s]+)\)")
 NAME = re.compile(r"`([A-Za-z0-9_.*/-]+/[A-Za-z0-9_.*/-]*)`")

@@ -8,9 +8,9 @@ Usage: python3 tools/rooms.py crates/saw_cases/data/cases
 
 import os
 import re
-import sys
 
 import generator
+import usage
 from counters import address, head, record, sha512, text
 from generator import KEY, batch_of, block_of, grown, mark
 
@@ -104,7 +104,7 @@ def first_block(batches, values):
 
 
 def main():
-    folder = sys.argv[1]
+    (folder,) = usage.words(__doc__, 1)
     small = batch(set_to(5), "small")
     early = "batch 0 dropped invalid 0 101\n"
     # A batch that finds no room takes none: the smaller one behind it finds some.

@@ -9,6 +9,8 @@ import os
 import re
 import sys
 
+import usage
+
 PAGE = "docs/RULES.md"
 CRATES = "crates"
 NAME = r"`([^`]+)`"
@@ -67,6 +69,7 @@ def missing_cases(cell, cases):
 
 
 def main():
+    usage.words(__doc__)
     data = os.path.join(CRATES, "saw_cases", "data")
     cases = {"words.txt", *os.listdir(os.path.join(data, "cases"))}
     rules = names = bad = 0

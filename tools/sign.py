@@ -11,6 +11,9 @@ BLOCK is one frame. Its header gets the key as the block's signer and is signed 
 Sawtooth 1.x signs), so the block has another id; all else stays. --public prints the public key, 66 hex digits.
 
 A block is signed where it stands last: one that was put behind it before names the old id.
+
+The status is 0, 1 where standard input is no such frame or standard output cannot be written, or 2 for other words and
+for a KEYFILE that cannot be read or has no key.
 """
 
 import sys
@@ -41,11 +44,23 @@ def signed(block, private):
     return record(1, header) + record(2, sign(private, header)) + parts
 
 
+def write(content):
+    """Writes to standard output, whose number is 1, and gives the status."""
+    try:
+        with open(1, "wb", closefd=False) as file:
+            file.write(content)
+    except OSError as error:
+        print(f"sign.py: cannot write: {error.strerror}", file=sys.stderr)
+        return 1
+    return 0
+
+
 def main():
     words = sys.argv[1:]
+    if words == ["--help"]:
+        return write(__doc__.encode())
     if len(words) == 2 and words[0] == "--public":
-        print(digits_of(private_key(words[1])))
-        return 0
+        return write(f"{digits_of(private_key(words[1]))}\n".encode())
     if len(words) != 1 or words[0].startswith("-"):
         print(__doc__.split("\n\n")[1], file=sys.stderr)
         return 2
@@ -53,8 +68,7 @@ def main():
     if len(data) < 4 or len(data) != 4 + int.from_bytes(data[:4], "big"):
         print("sign.py: standard input is not one block in a frame", file=sys.stderr)
         return 1
-    sys.stdout.buffer.write(frame(signed(data[4:], private)))
-    return 0
+    return write(frame(signed(data[4:], private)))
 
 
 if __name__ == "__main__":

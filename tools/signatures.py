@@ -7,6 +7,15 @@ A module of attest.py, batches.py and sign.py. It needs the distribution's `pyth
 import re
 import sys
 
+import usage
+
+
+def stop(why):
+    """Ends the tool with 2 and one line."""
+    print(f"{sys.argv[0]}: {why}", file=sys.stderr)
+    sys.exit(2)
+
+
 try:
     from cryptography.exceptions import InvalidSignature, UnsupportedAlgorithm
     from cryptography.hazmat.primitives.asymmetric import ec
@@ -14,7 +23,7 @@ try:
     from cryptography.hazmat.primitives.hashes import SHA256
     from cryptography.hazmat.primitives.serialization import Encoding, PublicFormat
 except ImportError:
-    sys.exit(f"{sys.argv[0]}: the Python package cryptography is missing; on Debian: apt-get install python3-cryptography")
+    stop("the Python package cryptography is missing; on Debian: apt-get install python3-cryptography")
 
 # The order of the curve's group (SEC 2, section 2.4.1).
 ORDER = 0xFFFFFFFFFFFFFFFFFFFFFFFFFFFFFFFEBAAEDCE6AF48A03BBFD25E8CD0364141
@@ -58,9 +67,9 @@ def private_key(name):
         with open(name, encoding="ascii") as file:
             digits = file.read().strip()
     except (OSError, UnicodeDecodeError) as error:
-        sys.exit(f"{sys.argv[0]}: the key file {name!r} cannot be read: {error}")
+        stop(f"the key file {name!r} cannot be read: {error}")
     if not re.fullmatch("[0-9a-fA-F]{64}", digits) or not 0 < int(digits, 16) < ORDER:
-        sys.exit(f"{sys.argv[0]}: {name!r} is not 64 hex digits of a private key")
+        stop(f"{name!r} is not 64 hex digits of a private key")
     return ec.derive_private_key(int(digits, 16), CURVE)
 
 
@@ -88,6 +97,7 @@ def sign(private, message):
 
 def main():
     """The key, message and signature stand in the tests of Sawtooth's Python SDK."""
+    usage.words(__doc__)
     private = ec.derive_private_key(0x2F1E7B7A130D7BA9DA0068B3BB0BA1D79E7E77110302C9F746C3C2A63FE40088, CURVE)
     key = "026a2c795a9776f75464aa3bda3534c3154a6e91b357b1181d3f515110f84b67c5"
     signed = (

@@ -9,6 +9,7 @@ Usage: python3 -B tools/stations.py crates/saw_cases/data/cases
 import os
 import sys
 
+import usage
 from counters import half, node, record, sha512
 from families import frame, number, signed
 
@@ -193,6 +194,7 @@ def published():
 
 
 def main():
+    usage.words(__doc__, 1)
     applied()
     refused()
     published()

@@ -9,16 +9,14 @@ import hashlib
 import json
 import os
 import re
-import sys
 
-FOLDER = sys.argv[1]
-sys.argv[1:] = []
-sys.path.insert(0, os.path.dirname(os.path.abspath(__file__)))
-from counters import address, head, node, record, sha512, text, varint  # noqa: E402
-from families import policy_address, role_address, setting_address  # noqa: E402
-from schedules import schedules  # noqa: E402
-from trees import trees  # noqa: E402
+import usage
+from counters import address, head, node, record, sha512, text, varint
+from families import policy_address, role_address, setting_address
+from schedules import schedules
+from trees import trees
 
+(FOLDER,) = usage.words(__doc__, 1)
 KEY = "02" + "1" * 64
 OTHER_KEY = "02" + "2" * 64
 NO_BLOCK = "0" * 16

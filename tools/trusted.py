@@ -15,6 +15,8 @@ import os
 import re
 import sys
 
+import usage
+
 ROOT = os.path.join(os.path.dirname(os.path.abspath(__file__)), "..", "crates")
 ITEM = re.compile(r"(?:(abbrev|unfoldable) )?(?:(pub) )?(?:(record|data) )?(\S+)(?= |$)")
 WORD = re.compile(r"[^\s(){}\[\],;.]+|[.]")
@@ -617,13 +619,14 @@ def unreached(srcs, books):
 
 
 def main():
+    given = usage.words(__doc__, 0, 1, ["--names", "--laws", "--unreached"])
     books, srcs = specs(), sources()
-    if "--unreached" in sys.argv:
+    if "--unreached" in given:
         unreached(srcs, books)
-    elif "--laws" in sys.argv:
+    elif "--laws" in given:
         further(srcs, books)
     else:
-        table(srcs, books, "--names" in sys.argv)
+        table(srcs, books, "--names" in given)
 
 
 if __name__ == "__main__":
