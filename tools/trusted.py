@@ -1,6 +1,7 @@
 """Lists the definitions that the clauses of saw_top::run rest on, with the lines to be read. See docs/TRUSTED.md.
 
-Usage: trusted.py              by file: the lines, those for `apply`, and those for `apply` without the built-in families
+Usage: trusted.py              by file: the lines, those for `apply`, and those for `apply` without the built-in families;
+                               at the end also without rules and permissions
        trusted.py --names      the same, with the names of the definitions
        trusted.py --laws       the further lines of the laws of saw_top, and of its calls beside `run`
        trusted.py --unreached  the spec files that no clause of a public function, trait or type reaches
@@ -502,6 +503,8 @@ FAMILIES = {
     "Settings": ["saw_settings/Actions:next"],
     "Identity": ["saw_identity/Actions:next"],
 }
+# What rules and permissions of the ledger demand of a block.
+POLICIES = {"saw_top/World:governed"}
 LAWS = [("BranchLaws", "MapBehindIsBranch"), ("BranchLaws", "EventsLeaveState"), ("BuiltInLaws", "BuiltInTell"),
         ("TellingLaws", "AllIsTold"), ("CandidateLaws", "CandidateIsAccepted"), ("GeneratedLaws", "GeneratedStreamIsCommitted"),
         ("Laws", "FramesAreRead"), ("OptionLaws", "OrderOfOptionsDoesNotShow")]
@@ -540,7 +543,7 @@ def table(srcs, books, names):
     cut = {f: set(ds) for f, ds in {**OTHERS, **FAMILIES}.items()}
     every = set().union(*cut.values())
     known = {i.file.key + ":" + i.name for spec in books.values() for i in spec.all}
-    for name in sorted(every - known):
+    for name in sorted((every | POLICIES) - known):
         print(f"no such definition: {name}", file=sys.stderr)
     others = set().union(*(cut[f] for f in OTHERS))
     reached, declared = reach(start, types, srcs, books)
@@ -548,6 +551,7 @@ def table(srcs, books, names):
     for_apply, apply_types = reach(start, types, srcs, books, others)
     plain, plain_types = reach(start, types, srcs, books, every)
     apply_lines, plain_lines = counted(for_apply), counted(plain)
+    bare_lines = counted(reach(start, types, srcs, books, every | POLICIES)[0])
     print(f"{'file':32} {'lines':>6} {'apply':>6} {'plain':>6}  of the whole file")
     for key in sorted(lines):
         spec = books[tuple(key.split("/"))]
@@ -555,7 +559,8 @@ def table(srcs, books, names):
         if names:
             print("      " + " ".join(i.name for i in spec.all if i in reached))
     print(f"{len(lines)} files, {len(reached)} definitions: {total(lines)} lines; apply {total(apply_lines)} of {len(apply_lines)}"
-          f" files; plain {total(plain_lines)} of {len(plain_lines)} files")
+          f" files; plain {total(plain_lines)} of {len(plain_lines)} files; without rules and permissions, too,"
+          f" {total(bare_lines)} of {len(bare_lines)}")
     for f in OTHERS:
         more = total(counted(reach(start, types, srcs, books, others - cut[f])[0])) - total(apply_lines)
         print(f"  {f}: {more} lines besides those for apply")

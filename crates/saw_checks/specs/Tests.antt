@@ -16,6 +16,5 @@ None <|> others = others
 -- the first index at which two lists of ids differ, or at which one of them has ended
 abbrev pub first_difference : List (List ℕ) → List (List ℕ) → Option ℕ
 first_difference [] [] = None
-first_difference [] (id ∷ ids) = Some 0
-first_difference (id ∷ ids) [] = Some 0
 first_difference (id ∷ ids) (other ∷ others) = if bytes_eq id other then option_map suc (first_difference ids others) else Some 0
+first_difference _ _ = Some 0

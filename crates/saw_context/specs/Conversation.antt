@@ -87,27 +87,18 @@ abbrev pub reply_to : TransactionHeader → StateMap → Overlay → Action → 
 reply_to header m own (actions.Get places) = unless_refused (first_refused header.inputs places) Unauthorized (Entries (map (seen_place m own) places))
 reply_to header m own (actions.Set entries) = unless_refused (first_refused header.outputs (places_of entries)) Unauthorized Done
 reply_to header m own (actions.Delete places) = unless_refused (first_refused header.outputs places) Unauthorized Done
-reply_to header m own (actions.AddEvent event) = Done
-reply_to header m own actions.Ok = Done
-reply_to header m own (actions.Invalid reason) = Done
+reply_to header m own _ = Done
 
 -- what is changed after a request
 abbrev pub own_after : TransactionHeader → Overlay → Action → Overlay
-own_after header own (actions.Get places) = own
 own_after header own (actions.Set entries) = unless_refused (first_refused header.outputs (places_of entries)) (λ index. own) (set_all own entries)
 own_after header own (actions.Delete places) = unless_refused (first_refused header.outputs places) (λ index. own) (delete_all own places)
-own_after header own (actions.AddEvent event) = own
-own_after header own actions.Ok = own
-own_after header own (actions.Invalid reason) = own
+own_after header own _ = own
 
 -- the events after a request
 abbrev pub events_after : List Event → Action → List Event
-events_after events (actions.Get places) = events
-events_after events (actions.Set entries) = events
-events_after events (actions.Delete places) = events
 events_after events (actions.AddEvent event) = events ++ event ∷ []
-events_after events actions.Ok = events
-events_after events (actions.Invalid reason) = events
+events_after events _ = events
 
 -- ---- what was read
 
@@ -126,8 +117,4 @@ asked_at own place = record { address = address_in place; own = is_some (finite.
 -- what a request reads: each place of a request that is answered with entries
 abbrev pub asked_by : TransactionHeader → Overlay → Action → List Asked
 asked_by header own (actions.Get places) = unless_refused (first_refused header.inputs places) (λ index. []) (map (asked_at own) places)
-asked_by header own (actions.Set entries) = []
-asked_by header own (actions.Delete places) = []
-asked_by header own (actions.AddEvent event) = []
-asked_by header own actions.Ok = []
-asked_by header own (actions.Invalid reason) = []
+asked_by header own _ = []

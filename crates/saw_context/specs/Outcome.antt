@@ -38,12 +38,9 @@ no_talk = record { turns = []; own = finite.empty; events = []; asked = [] }
 
 -- an action that asks for something; the others end the conversation
 abbrev pub is_request : Action → Bool
-is_request (actions.Get places) = true
-is_request (actions.Set entries) = true
-is_request (actions.Delete places) = true
-is_request (actions.AddEvent event) = true
 is_request actions.Ok = false
 is_request (actions.Invalid reason) = false
+is_request _ = true
 
 -- how many requests of a transaction are answered
 abbrev pub max_requests : ℕ
@@ -74,12 +71,9 @@ changes_of own = map (λ entry. record { address = entry.0; value = entry.1 }) (
 
 -- the outcome by the action after the last answered request; one more request is one too many
 abbrev pub outcome_at : Action → List Change → List Event → Outcome
-outcome_at (actions.Get places) changes events = outcomes.Invalid TooManyRequests
-outcome_at (actions.Set entries) changes events = outcomes.Invalid TooManyRequests
-outcome_at (actions.Delete places) changes events = outcomes.Invalid TooManyRequests
-outcome_at (actions.AddEvent event) changes events = outcomes.Invalid TooManyRequests
 outcome_at actions.Ok changes events = outcomes.Ok changes events
 outcome_at (actions.Invalid reason) changes events = outcomes.Invalid reason
+outcome_at _ changes events = outcomes.Invalid TooManyRequests
 
 abbrev pub decided : Talk → Action → Outcome
 decided talk action = outcome_at action (changes_of talk.own) talk.events

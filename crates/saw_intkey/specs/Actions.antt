@@ -6,7 +6,7 @@ use Rattle.saw_messages.specs.declared.talk.Action.{Action}
 use Rattle.saw_messages.specs.declared.talk.Action.TheVariants as actions
 use Rattle.saw_messages.specs.declared.talk.Place.TheVariants.{At}
 use Rattle.saw_messages.specs.declared.talk.Reply.{Reply}
-use Rattle.saw_messages.specs.declared.talk.Reply.TheVariants.{Entries, Done, Unauthorized}
+use Rattle.saw_messages.specs.declared.talk.Reply.TheVariants.{Entries, Done}
 use Rattle.saw_messages.specs.declared.talk.Turn.{Turn}
 use Rattle.saw_intkey.specs.Payloads.{payload_of}
 use Rattle.saw_intkey.specs.States.{Names, names_of, changed, kept_bytes}
@@ -38,11 +38,8 @@ changed_in payload (Some names) = set_to payload (changed payload names)
 
 -- after the reply to the request of the address; a reply that gives no single entry is a refusal, 105
 abbrev pub after_get : Payload → Reply → Action
-after_get payload (Entries []) = invalid 105
 after_get payload (Entries (body ∷ [])) = changed_in payload (names_of body)
-after_get payload (Entries (body ∷ second ∷ others)) = invalid 105
-after_get payload Done = invalid 105
-after_get payload (Unauthorized index) = invalid 105
+after_get payload _ = invalid 105
 
 abbrev pub changing : Result Payload ℕ → Reply → Action
 changing (Err number) reply = invalid number
@@ -50,9 +47,8 @@ changing (Ok payload) reply = after_get payload reply
 
 -- after the reply to the change
 abbrev pub after_set : Reply → Action
-after_set (Entries bodies) = invalid 105
 after_set Done = actions.Ok
-after_set (Unauthorized index) = invalid 105
+after_set _ = invalid 105
 
 -- the next action, for any payload and any replies
 abbrev pub next_after : List ℕ → List Reply → Action

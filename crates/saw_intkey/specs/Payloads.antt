@@ -1,7 +1,7 @@
 -- The payload of an IntegerKey transaction: a CBOR map with a verb, a name and a value. How it is read and written.
 use Rattle.std.specs.Prelude.{ℕ, Bool, false, ◌&&◌, List, [], ◌∷◌, length, Option, Some, None, Result, Ok, Err, nat_le, if◌then◌else◌, codes}
 use Rattle.std.specs.Str.{bytes_eq, chars}
-use Rattle.saw_cbor.specs.Data.{Cbor, unsigned, negative, bytes, text, list, pairs, null, boolean, Pairs, no_pairs, pair}
+use Rattle.saw_cbor.specs.Data.{Cbor, unsigned, text, pairs, Pairs, no_pairs, pair}
 use Rattle.saw_cbor.specs.Reading.{reading}
 use Rattle.saw_cbor.specs.Writing.{written}
 use Rattle.saw_cbor.specs.declared.fault.CborFault.{CborFault}
@@ -20,13 +20,7 @@ max_depth = 8
 -- whether an item is this text
 abbrev pub is_text : List ℕ → Cbor → Bool
 is_text key (text t) = bytes_eq t key
-is_text key (unsigned n) = false
-is_text key (negative n) = false
-is_text key (bytes b) = false
-is_text key (list items) = false
-is_text key (pairs ps) = false
-is_text key null = false
-is_text key (boolean b) = false
+is_text key _ = false
 
 -- the values of a key, in order; a key that is no text is none
 abbrev pub values_of : List ℕ → Pairs → List Cbor
@@ -35,9 +29,8 @@ values_of key (pair k value rest) = if is_text key k then value ∷ values_of ke
 
 -- what is there exactly once
 abbrev pub only_of : List Cbor → Option Cbor
-only_of [] = None
 only_of (value ∷ []) = Some value
-only_of (value ∷ second ∷ others) = None
+only_of _ = None
 
 abbrev pub verb_in : List ℕ → Option Verb
 verb_in t = if bytes_eq t (codes "set") then Some Set else if bytes_eq t (codes "inc") then Some Inc else if bytes_eq t (codes "dec") then Some Dec else None
@@ -51,25 +44,11 @@ number_in n = if nat_le n max_value then Some n else None
 
 abbrev pub text_in : {A : Type 0} → (List ℕ → Option A) → Option Cbor → Option A
 text_in form (Some (text t)) = form t
-text_in form (Some (unsigned n)) = None
-text_in form (Some (negative n)) = None
-text_in form (Some (bytes b)) = None
-text_in form (Some (list items)) = None
-text_in form (Some (pairs ps)) = None
-text_in form (Some null) = None
-text_in form (Some (boolean b)) = None
-text_in form None = None
+text_in form _ = None
 
 abbrev pub unsigned_in : Option Cbor → Option ℕ
 unsigned_in (Some (unsigned n)) = number_in n
-unsigned_in (Some (text t)) = None
-unsigned_in (Some (negative n)) = None
-unsigned_in (Some (bytes b)) = None
-unsigned_in (Some (list items)) = None
-unsigned_in (Some (pairs ps)) = None
-unsigned_in (Some null) = None
-unsigned_in (Some (boolean b)) = None
-unsigned_in None = None
+unsigned_in _ = None
 
 abbrev pub verb_of : Pairs → Option Verb
 verb_of ps = text_in verb_in (only_of (values_of (codes "Verb") ps))
@@ -100,14 +79,7 @@ payload_in ps = with_verb (verb_of ps) ps
 -- the pairs of a map that is the whole input
 abbrev pub pairs_in : Result Cbor CborFault → Option Pairs
 pairs_in (Ok (pairs ps)) = Some ps
-pairs_in (Ok (unsigned n)) = None
-pairs_in (Ok (negative n)) = None
-pairs_in (Ok (bytes b)) = None
-pairs_in (Ok (text t)) = None
-pairs_in (Ok (list items)) = None
-pairs_in (Ok null) = None
-pairs_in (Ok (boolean b)) = None
-pairs_in (Err e) = None
+pairs_in _ = None
 
 abbrev pub payload_by : Option Pairs → Result Payload ℕ
 payload_by None = Err 101

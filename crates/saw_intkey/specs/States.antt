@@ -19,9 +19,7 @@ has_name name names = list_any (λ entry. bytes_eq entry.0 name) names
 
 abbrev pub with_entry : Option (List ℕ) → Option ℕ → Option Names → Option Names
 with_entry (Some name) (Some value) (Some names) = if has_name name names then None else Some ((name, value) ∷ names)
-with_entry (Some name) (Some value) None = None
-with_entry (Some name) None names = None
-with_entry None value names = None
+with_entry _ _ _ = None
 
 -- distinct texts with values that are not too great
 abbrev pub names_in : Pairs → Option Names

@@ -57,14 +57,10 @@ batch_fault_text batches.OutOfMemory = []
 
 -- what a fault of a block's structure says behind its number and name
 abbrev pub structure_text : StructureFault → List ℕ
-structure_text (blocks.Undecodable e) = []
-structure_text blocks.IdText = []
-structure_text blocks.KeyText = []
 structure_text (blocks.TooManyTransactions count) = spaced count
 structure_text (blocks.BatchIds index) = spaced index
 structure_text (blocks.Batch k fault) = spaced k ++ codes " " ++ batch_fault_text fault
-structure_text blocks.Signature = []
-structure_text blocks.OutOfMemory = []
+structure_text _ = []
 
 -- the number of a cause, and the transaction that it has
 abbrev pub cause_text : DropCause → List ℕ
@@ -96,15 +92,12 @@ policy_text (policies.Denied t role entry) = spaced 3 ++ spaced_or (codes "batch
 -- what a fault of a block says behind its number and name
 abbrev pub said_text : BlockFault → List ℕ
 said_text (faults.Structure fault) = structure_text fault
-said_text faults.Known = []
-said_text faults.GenesisAgain = []
-said_text faults.PreviousUnknown = []
 said_text (faults.BlockNumber stated due) = spaced stated ++ spaced due
-said_text faults.Consensus = []
 said_text (faults.Static k cause) = spaced k ++ codes " " ++ cause_text cause
 said_text (faults.Policy k fault) = spaced k ++ policy_text fault
 said_text (faults.BatchInvalid k t reason) = spaced k ++ spaced t ++ spaced (reason_number reason)
 said_text (faults.Root stated computed) = codes " " ++ encode_lower computed
+said_text _ = []
 
 abbrev pub fault_text : BlockFault → List ℕ
 fault_text fault = decimal (fault_number fault) ++ codes " " ++ fault_name fault ++ said_text fault

@@ -59,11 +59,7 @@ fault_status runs.Write = 5
 fault_status runs.Peer = 6
 fault_status (runs.Collision kept given) = 9
 fault_status runs.Memory = 7
-fault_status runs.FileMissing = 11
-fault_status runs.FileTooLong = 11
-fault_status runs.FileFailed = 11
-fault_status (runs.BadLine line) = 11
-fault_status runs.BadList = 11
+fault_status _ = 11
 
 -- a node as it is told: the lower-case digits of its encoding
 abbrev pub node_digits : Node → List ℕ

@@ -50,10 +50,10 @@ is_allowed families tx = list_any (λ family. bytes_eq family.name tx.header.fam
 abbrev pub how_many : List ℕ → List TxShape → ℕ
 how_many family txs = length (filter (is_of family) txs)
 
--- whether there is a transaction of which something does not hold
-abbrev pub is_one_without : (TxShape → Bool) → Option TxShape → Bool
-is_one_without holds None = false
-is_one_without holds (Some tx) = not (holds tx)
+-- whether there is a transaction of which something holds
+abbrev pub is_one_with : (TxShape → Bool) → Option TxShape → Bool
+is_one_with holds None = false
+is_one_with holds (Some tx) = holds tx
 
 -- the transaction of a number, where it is in a batch behind so many earlier ones
 abbrev pub at_number : ℕ → List TxShape → ℕ → Option TxShape
@@ -63,12 +63,12 @@ at_number earlier txs number = if nat_lt number earlier then None else slice_get
 
 -- whether the transaction at a place from the front is in the batch, and of another family
 abbrev pub is_other_at : List ℕ → ℕ → List TxShape → ℤ → Bool
-is_other_at family earlier txs (pos place) = is_one_without (is_of family) (at_number earlier txs place)
+is_other_at family earlier txs (pos place) = is_one_with (λ tx. not (is_of family tx)) (at_number earlier txs place)
 is_other_at family earlier txs (negsuc from_end) = false
 
 -- whether the transaction at an index is in the batch, and signed by another
 abbrev pub is_of_other : List ℕ → ℕ → List TxShape → ℕ → Bool
-is_of_other signer earlier txs index = is_one_without (λ tx. bytes_eq tx.header.signer_public_key signer) (at_number earlier txs index)
+is_of_other signer earlier txs index = is_one_with (λ tx. not (bytes_eq tx.header.signer_public_key signer)) (at_number earlier txs index)
 
 abbrev pub is_broken : List ℕ → List TxShape → List TxShape → Rule → Bool
 is_broken signer earlier txs (NofX most family) = nat_lt most (how_many family (earlier ++ txs))
@@ -95,14 +95,9 @@ abbrev pub at_place : List TxShape → ℤ → Option TxShape
 at_place txs (pos place) = slice_get txs place
 at_place txs (negsuc from_end) = if nat_le (suc from_end) (length txs) then slice_get txs (length txs - suc from_end) else None
 
-abbrev pub is_one_with : (TxShape → Bool) → Option TxShape → Bool
-is_one_with holds None = false
-is_one_with holds (Some tx) = holds tx
-
 abbrev pub is_missed : List TxShape → Rule → Bool
-is_missed txs (NofX most family) = false
 is_missed txs (XatY family place) = not (is_one_with (is_of family) (at_place txs place))
-is_missed txs (Local indices) = false
+is_missed txs _ = false
 
 -- the first rule on a place that is not there, or has another family
 abbrev pub missed_fault : List Rule → List TxShape → Option PolicyFault

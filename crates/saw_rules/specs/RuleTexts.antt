@@ -30,10 +30,8 @@ each_of f (a ∷ others) = option_and_then (λ b. option_map (λ bs. b ∷ bs) (
 
 -- the two of a list of two
 abbrev pub two_in : {A : Type 0} → List A → Option (A × A)
-two_in [] = None
-two_in (a ∷ []) = None
 two_in (a ∷ b ∷ []) = Some (a, b)
-two_in (a ∷ b ∷ more ∷ others) = None
+two_in _ = None
 
 -- `NofX:n,family`
 abbrev pub n_of_x : List (List ℕ) → Option Rule

@@ -8,7 +8,7 @@ use Rattle.saw_messages.specs.declared.talk.Action.{Action}
 use Rattle.saw_messages.specs.declared.talk.Action.TheVariants as actions
 use Rattle.saw_messages.specs.declared.talk.Place.TheVariants.{At}
 use Rattle.saw_messages.specs.declared.talk.Reply.{Reply}
-use Rattle.saw_messages.specs.declared.talk.Reply.TheVariants.{Entries, Done, Unauthorized}
+use Rattle.saw_messages.specs.declared.talk.Reply.TheVariants.{Entries, Done}
 
 -- an action that is due, or what was told with the replies behind it
 pub data Told (A : Type 0) : Type 0 where
@@ -28,11 +28,8 @@ and_then (Goes told rest) others = others told rest
 
 -- a reply of one body
 abbrev pub body_by : ℕ → List Reply → Reply → Told (List ℕ)
-body_by refused rest (Entries []) = Due (invalid refused)
 body_by refused rest (Entries (body ∷ [])) = Goes body rest
-body_by refused rest (Entries (body ∷ second ∷ others)) = Due (invalid refused)
-body_by refused rest Done = Due (invalid refused)
-body_by refused rest (Unauthorized index) = Due (invalid refused)
+body_by refused rest _ = Due (invalid refused)
 
 abbrev pub body_at : ℕ → List ℕ → List Reply → Told (List ℕ)
 body_at refused address [] = Due (actions.Get (At address ∷ []))
@@ -48,9 +45,8 @@ message_at refused unreadable message address replies = and_then (body_at refuse
 -- ---- a change is made, and an event tells of it
 
 abbrev pub done_by : ℕ → List Reply → Reply → Told (Unit {0})
-done_by refused rest (Entries bodies) = Due (invalid refused)
 done_by refused rest Done = Goes tt rest
-done_by refused rest (Unauthorized index) = Due (invalid refused)
+done_by refused rest _ = Due (invalid refused)
 
 -- an action that is answered `Done`
 abbrev pub done : ℕ → Action → List Reply → Told (Unit {0})

@@ -27,7 +27,7 @@ use Rattle.saw_top.specs.Stream.{Reads}
 use Rattle.saw_top.specs.Telling.{IsTold}
 use Rattle.saw_top.specs.World.{AreWays, Ways, World, serially}
 use Rattle.saw_top.specs.declared.task.Ending.{Ending}
-use Rattle.saw_top.specs.declared.task.Ending.TheVariants.{Batch, Candidate, Events, Head, Entries, Proof, Receipts}
+use Rattle.saw_top.specs.declared.task.Ending.TheVariants.{Candidate, Head}
 use Rattle.saw_top.specs.declared.task.Lines.{Lines}
 use Rattle.saw_top.specs.declared.task.Lines.TheVariants.{All, Refused}
 use Rattle.saw_top.specs.declared.task.Task.{Task}
@@ -242,10 +242,9 @@ DoesAsked given (Some (Check claim)) before after came = ChecksClaim claim befor
 -- What holds for the bytes that are unread, where they are told. For a new stream and a claim it holds whatever they
 -- are.
 abbrev pub WhereRead : Option Asked → Option (List ℕ) → (List ℕ → Type 0) → Type 0
-WhereRead None told holds = IfSome told holds
-WhereRead (Some (Judge wish)) told holds = IfSome told holds
 WhereRead (Some (Generate wish)) told holds = (bytes : List ℕ) → holds bytes
 WhereRead (Some (Check claim)) told holds = (bytes : List ℕ) → holds bytes
+WhereRead _ told holds = IfSome told holds
 
 -- What was asked is told where each transaction that it names goes to a deterministic processor. A new stream, a
 -- claim and invalid arguments go to nobody.

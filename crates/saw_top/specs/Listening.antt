@@ -10,7 +10,6 @@ at_port port remotes = record { port = port; remotes = remotes }
 -- a port from 1 to 65,535, and 1 to 64 processors that connect to it: both are given, or neither
 abbrev pub listening_in : Option (List ℕ) → Option (List ℕ) → Option (Option Listening)
 listening_in None None = Some None
-listening_in None (Some count) = None
-listening_in (Some port) None = None
 listening_in (Some port) (Some count) =
     option_and_then (λ p. option_map (λ n. Some (at_port p n)) (number_in 1 64 count)) (number_in 1 65535 port)
+listening_in _ _ = None

@@ -37,14 +37,10 @@ pub record Outside : Type 0 where
   pub shelf : End Files
   pub remotes : List ℕ
 
-abbrev pub at_ends : End (List ℕ) → End (List ℕ) → End (List ℕ) → End Files → List ℕ → Outside
-at_ends input output notes held remotes =
-    record { input = input; output = output; notes = notes; shelf = held; remotes = remotes }
-
 module _ {S O N : Type 0} (s : source.Ghosts S) (o : sink.Ghosts O) (n : sink.Ghosts N) where
   abbrev pub outside_with : S → O → N → End Files → List ℕ → Outside
   outside_with input output notes held remotes =
-      at_ends (source_end s input) (sink_end o output) (sink_end n notes) held remotes
+      record { input = source_end s input; output = sink_end o output; notes = sink_end n notes; shelf = held; remotes = remotes }
 
   -- with these external processors
   abbrev pub outside : {F R : Type 0} → shelf.Ghosts F → (R → ℕ) → S → O → N → F → List R → Outside
@@ -52,16 +48,14 @@ module _ {S O N : Type 0} (s : source.Ghosts S) (o : sink.Ghosts O) (n : sink.Gh
 
 -- the count of one of them rose
 abbrev pub SomeRose : List ℕ → List ℕ → Type 0
-SomeRose [] news = ⊥
-SomeRose (old ∷ olds) [] = ⊥
 SomeRose (old ∷ olds) (new ∷ news) = Rose old new ⊎ SomeRose olds news
+SomeRose _ _ = ⊥
 
 -- there are as many, and the count of none fell
 abbrev pub AreLater : List ℕ → List ℕ → Type 0
 AreLater [] [] = Unit {0}
-AreLater [] (new ∷ news) = ⊥
-AreLater (old ∷ olds) [] = ⊥
 AreLater (old ∷ olds) (new ∷ news) = (old ≤ new) × AreLater olds news
+AreLater _ _ = ⊥
 
 -- a call failed
 abbrev pub SomeFailed : Outside → Outside → Type 0

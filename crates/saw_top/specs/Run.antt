@@ -98,9 +98,6 @@ status_by refused = if refused then 1 else 0
 abbrev pub plain_end : List ℕ → ℕ → AtEnd
 plain_end output status = record { output = output; noted = []; status = status; made = None }
 
-abbrev pub nothing_more : RunFault → AtEnd
-nothing_more fault = plain_end [] (fault_status fault)
-
 -- the map behind the head
 abbrev pub head_map : History → StateMap
 head_map run = map_behind run.accepted (head_of (records_of run.accepted))
@@ -145,7 +142,7 @@ module _ (rules : Rules) (waiting : Waiting) where
   -- unless there is a fault
   abbrev pub end_by : Ending → History → Option RunFault → AtEnd
   end_by ending run None = ending_of ending run
-  end_by ending run (Some fault) = nothing_more fault
+  end_by ending run (Some fault) = plain_end [] (fault_status fault)
 
 -- the answer to a stream, by what is done with it; a candidate is made by rules of its own
 abbrev pub task_answer : Judging → Rules → Waiting → Task → List ℕ → Answer

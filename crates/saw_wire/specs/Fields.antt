@@ -2,22 +2,18 @@
 use Rattle.std.specs.Prelude.{◌%◌, ◌^◌, map, ℕ, Bool, true, false, not, List, [], ◌∷◌, Option, Some, None, ◌==◌}
 use Rattle.std.specs.List.{filter_map, flat_map}
 use Rattle.std.specs.Str.{is_utf8}
-use Rattle.saw_wire.specs.Pieces.{Content, Number, Fixed, Chunk, Piece}
+use Rattle.saw_wire.specs.Pieces.{Content, Number, Chunk, Piece}
 use Rattle.saw_wire.specs.MessageReading.{pieces_of, fault_of}
 use Rattle.saw_wire.specs.declared.fault.MessageFault.{MessageFault}
 use Rattle.saw_wire.specs.declared.fault.MessageFault.TheVariants.{NotUtf8}
 
 abbrev pub number_of : Bool → Content → Option ℕ
-number_of false content = None
 number_of true (Number n) = Some n
-number_of true (Fixed bytes) = None
-number_of true (Chunk bytes) = None
+number_of _ _ = None
 
 abbrev pub chunk_of : Bool → Content → Option (List ℕ)
-chunk_of false content = None
-chunk_of true (Number n) = None
-chunk_of true (Fixed bytes) = None
 chunk_of true (Chunk bytes) = Some bytes
+chunk_of _ _ = None
 
 -- the number that a record gives the field
 unfoldable pub number_in : ℕ → Piece → Option ℕ

@@ -7,7 +7,7 @@ use Rattle.saw_messages.specs.declared.talk.Action.{Action}
 use Rattle.saw_messages.specs.declared.talk.Action.TheVariants as actions
 use Rattle.saw_messages.specs.declared.talk.Place.TheVariants.{At}
 use Rattle.saw_messages.specs.declared.talk.Reply.{Reply}
-use Rattle.saw_messages.specs.declared.talk.Reply.TheVariants.{Entries, Done, Unauthorized}
+use Rattle.saw_messages.specs.declared.talk.Reply.TheVariants.{Entries, Done}
 use Rattle.saw_messages.specs.declared.talk.Turn.{Turn}
 use Rattle.saw_xo.specs.Payloads.{payload_of}
 use Rattle.saw_xo.specs.Games.{Games, games_of, kept_bytes}
@@ -43,11 +43,8 @@ changed_in signer payload (Some games) = set_to payload (changed signer payload 
 
 -- after the reply to the request of the address; a reply that gives no single entry is a refusal, 205
 abbrev pub after_get : List ℕ → Payload → Reply → Action
-after_get signer payload (Entries []) = invalid 205
 after_get signer payload (Entries (body ∷ [])) = changed_in signer payload (games_of body)
-after_get signer payload (Entries (body ∷ second ∷ others)) = invalid 205
-after_get signer payload Done = invalid 205
-after_get signer payload (Unauthorized index) = invalid 205
+after_get signer payload _ = invalid 205
 
 abbrev pub changing : List ℕ → Result Payload ℕ → Reply → Action
 changing signer (Err number) reply = invalid number
@@ -55,9 +52,8 @@ changing signer (Ok payload) reply = after_get signer payload reply
 
 -- after the reply to the change
 abbrev pub after_change : Reply → Action
-after_change (Entries bodies) = invalid 205
 after_change Done = actions.Ok
-after_change (Unauthorized index) = invalid 205
+after_change _ = invalid 205
 
 -- the next action, for any signer, any payload and any replies
 abbrev pub next_after : List ℕ → List ℕ → List Reply → Action

@@ -44,8 +44,7 @@ standing_in text =
 
 abbrev pub before_all : {A : Type 0} → Option A → Option (List A) → Option (List A)
 before_all (Some x) (Some xs) = Some (x ∷ xs)
-before_all (Some x) None = None
-before_all None xs = None
+before_all _ _ = None
 
 -- all of them, where none is missing
 abbrev pub all_of : {A : Type 0} → List (Option A) → Option (List A)
@@ -58,8 +57,7 @@ board_in text = if length text == 9 then all_of (map mark_in text) else None
 
 abbrev pub game_by : Option (List Mark) → Option Standing → List ℕ → List ℕ → Option Game
 game_by (Some board) (Some standing) first_key second_key = Some (record { board = board; standing = standing; first_key = first_key; second_key = second_key })
-game_by (Some board) None first_key second_key = None
-game_by None standing first_key second_key = None
+game_by _ _ first_key second_key = None
 
 abbrev pub named : List ℕ → Option Game → Option (List ℕ × Game)
 named name None = None
@@ -67,13 +65,8 @@ named name (Some game) = if length name == 0 then None else Some (name, game)
 
 -- five parts: a name that is not empty, a board, a standing and two keys
 abbrev pub entry_by : List (List ℕ) → Option (List ℕ × Game)
-entry_by [] = None
-entry_by (a ∷ []) = None
-entry_by (a ∷ b ∷ []) = None
-entry_by (a ∷ b ∷ c ∷ []) = None
-entry_by (a ∷ b ∷ c ∷ d ∷ []) = None
 entry_by (name ∷ board ∷ standing ∷ first_key ∷ second_key ∷ []) = named name (game_by (board_in board) (standing_in standing) first_key second_key)
-entry_by (a ∷ b ∷ c ∷ d ∷ e ∷ f ∷ rest) = None
+entry_by _ = None
 
 -- the parts of an entry stand between commas
 abbrev pub entry_in : List ℕ → Option (List ℕ × Game)

@@ -17,14 +17,9 @@ use Rattle.saw_xo.specs.declared.payload.Act.TheVariants.{Create, Take, Delete}
 
 abbrev pub is_mark : Mark → Mark → Bool
 is_mark Empty Empty = true
-is_mark Empty X = false
-is_mark Empty O = false
-is_mark X Empty = false
 is_mark X X = true
-is_mark X O = false
-is_mark O Empty = false
-is_mark O X = false
 is_mark O O = true
+is_mark _ _ = false
 
 abbrev pub mark_at : List Mark → ℕ → Mark
 mark_at board place = slice_index_or board place Empty
@@ -44,9 +39,7 @@ has_line mark board = list_any (λ line. list_all (λ place. is_mark mark (mark_
 abbrev pub mover : Standing → Option Player
 mover FirstNext = Some First
 mover SecondNext = Some Second
-mover FirstWon = None
-mover SecondWon = None
-mover Tie = None
+mover _ = None
 
 abbrev pub mark_of : Player → Mark
 mark_of First = X

@@ -12,9 +12,8 @@ parts_of separator text = slice_split (λ b. b == separator) text
 
 -- one character from `1` to `9`, as a place of the board, counted from 0
 abbrev pub place_in : List ℕ → Option ℕ
-place_in [] = None
 place_in (c ∷ []) = if nat_le 49 c && nat_le c 57 then Some (c - 49) else None
-place_in (c ∷ d ∷ rest) = None
+place_in _ = None
 
 -- not empty, and without `|`
 abbrev pub is_name : List ℕ → Bool
@@ -41,11 +40,8 @@ abbrev pub payload_in : List ℕ → List ℕ → List ℕ → Result Payload �
 payload_in name action space = if not (is_name name) then Err 202 else with_act name (act_in action space)
 
 abbrev pub payload_by : List (List ℕ) → Result Payload ℕ
-payload_by [] = Err 201
-payload_by (name ∷ []) = Err 201
-payload_by (name ∷ action ∷ []) = Err 201
 payload_by (name ∷ action ∷ space ∷ []) = payload_in name action space
-payload_by (name ∷ action ∷ space ∷ fourth ∷ rest) = Err 201
+payload_by _ = Err 201
 
 -- the payload that bytes say, or the number of the first check that fails
 unfoldable pub payload_of : List ℕ → Result Payload ℕ
