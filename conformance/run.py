@@ -10,6 +10,7 @@ is no program or no case has the text in its name.
 """
 
 import argparse
+import contextlib
 import hashlib
 import os
 import re
@@ -122,19 +123,25 @@ def connected(child, port, until):
             time.sleep(0.02)
 
 
+def received(link, sent):
+    """Keeps what comes, until the other end closes."""
+    with contextlib.suppress(OSError):
+        while part := link.recv(1 << 16):
+            sent.append(part)
+
+
 def play(child, port, frames, sent):
-    """A processor that sends these frames at once, and keeps what it is sent."""
+    """A processor that sends these frames at once, and keeps what it is sent, also where its frames are not all read."""
     link = connected(child, port, time.monotonic() + 10)
     if link is None:
         return
     with link:
-        try:
+        reader = threading.Thread(target=received, args=(link, sent))
+        reader.start()
+        with contextlib.suppress(OSError):
             link.sendall(frames)
             link.shutdown(socket.SHUT_WR)
-            while part := link.recv(1 << 16):
-                sent.append(part)
-        except OSError:
-            pass
+        reader.join()
 
 
 class Unusable(Exception):

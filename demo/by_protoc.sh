@@ -2,6 +2,7 @@
 # Makes a block stream with protoc and sha512sum: a first block of one batch that sets the IntegerKey name `a` to 5.
 # Usage: demo/by_protoc.sh ROOT > FILE, with the 64 hex digits of the state root that the block claims.
 set -eu
+: "${1?usage: demo/by_protoc.sh ROOT > FILE}"
 cd "$(dirname "$0")/../proto"
 made=$(mktemp -d)
 trap 'rm -r "$made"' EXIT

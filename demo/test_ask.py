@@ -19,6 +19,7 @@ DEMO = os.path.dirname(os.path.abspath(__file__))
 sys.path[:0] = [DEMO, os.path.join(DEMO, "..", "tools")]
 
 import counters
+import usage
 from ask import Asked, frame, names_in
 from generator import EMPTY, grown
 
@@ -195,10 +196,5 @@ class Beside(unittest.TestCase):
 
 
 if __name__ == "__main__":
-    if sys.argv[1:] == ["--help"]:
-        print(__doc__.strip())
-        sys.exit()
-    if len(sys.argv) < 2:
-        sys.exit(__doc__)
-    PROGRAM.append(os.path.abspath(sys.argv.pop(1)))
+    PROGRAM.append(usage.program(__doc__))
     unittest.main()

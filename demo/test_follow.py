@@ -14,9 +14,10 @@ import unittest
 
 DEMO = os.path.dirname(os.path.abspath(__file__))
 CASES = os.path.join(DEMO, "..", "crates", "saw_cases", "data", "cases")
-sys.path.insert(0, DEMO)
+sys.path[:0] = [DEMO, os.path.join(DEMO, "..", "tools")]
 
 import follow
+import usage
 from processor import number, record
 
 PROGRAM = []
@@ -114,10 +115,5 @@ class Followed(unittest.TestCase):
 
 
 if __name__ == "__main__":
-    if sys.argv[1:] == ["--help"]:
-        print(__doc__.strip())
-        sys.exit()
-    if len(sys.argv) < 2:
-        sys.exit(__doc__)
-    PROGRAM.append(os.path.abspath(sys.argv.pop(1)))
+    PROGRAM.append(usage.program(__doc__))
     unittest.main()

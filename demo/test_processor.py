@@ -20,6 +20,7 @@ sys.path[:0] = [DEMO, os.path.join(DEMO, "..", "tools")]
 
 import names
 import processor
+import usage
 from families import Transaction, written_batch
 from processor import last, number, record
 
@@ -236,10 +237,5 @@ class Broken(unittest.TestCase):
 
 
 if __name__ == "__main__":
-    if sys.argv[1:] == ["--help"]:
-        print(__doc__.strip())
-        sys.exit()
-    if len(sys.argv) < 2:
-        sys.exit(__doc__)
-    PROGRAM.append(os.path.abspath(sys.argv.pop(1)))
+    PROGRAM.append(usage.program(__doc__))
     unittest.main()

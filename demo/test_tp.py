@@ -20,6 +20,7 @@ DEMO = os.path.dirname(os.path.abspath(__file__))
 sys.path[:0] = [DEMO, os.path.join(DEMO, "..", "tools")]
 
 import processor
+import usage
 from counters import address, head, operation
 from counters import text as cbor_text
 from families import ACCEPT, ALGORITHM, FIRST, SECOND, THIRD, Transaction
@@ -289,10 +290,5 @@ class Played(unittest.TestCase):
 
 
 if __name__ == "__main__":
-    if sys.argv[1:] == ["--help"]:
-        print(__doc__.strip())
-        sys.exit()
-    if len(sys.argv) < 2:
-        sys.exit(__doc__)
-    PROGRAM.append(os.path.abspath(sys.argv.pop(1)))
+    PROGRAM.append(usage.program(__doc__))
     unittest.main()

@@ -1,5 +1,7 @@
 """What the scripts here take on their command lines, as a module of theirs."""
 
+import os
+import shutil
 import sys
 
 
@@ -17,3 +19,17 @@ def words(text, least=0, most=None, flags=()):
         print(text.strip(), file=sys.stderr)
         sys.exit(2)
     return given
+
+
+def program(text):
+    """The program that the first word names, which is taken off the command line. `--help` does as above.
+
+    Where it is no program, that is told, and the script ends with 2.
+    """
+    if sys.argv[1:] == ["--help"] or len(sys.argv) < 2:
+        words(text, 1)
+    name = os.path.abspath(sys.argv.pop(1))
+    if shutil.which(name) is None:
+        print(f"{name} is no program", file=sys.stderr)
+        sys.exit(2)
+    return name
